@@ -1,0 +1,146 @@
+-- The tables of a valid state break no rule, and are read again.
+use Rattle.std.proofs.Common.{◌≡◌, ◌∙◌, ℕ, ◌≤◌, nat_le, true, List, map, Some, None, is_some, refl, sym, ap, subst, arith}
+use Rattle.std.specs.List.{AllByRecursion}
+use Rattle.sqlite.specs.Effect.{Database}
+use Rattle.plant_base.specs.State.{State}
+use Rattle.plant_base.specs.Values.{greatest_amount}
+use Rattle.plant_base.specs.declared.rows.Batch.{Batch}
+use Rattle.plant_base.specs.declared.rows.BatchRow.{BatchRow}
+use Rattle.plant_base.specs.declared.rows.Header.{Header}
+use Rattle.plant_base.specs.declared.rows.Movement.{Movement}
+use Rattle.plant_base.specs.declared.rows.Place.{Place}
+use Rattle.plant_base.specs.declared.rows.Recall.{Recall}
+use Rattle.plant_base.specs.declared.rows.Sublot.{Sublot}
+use Rattle.plant_base.proofs.PutKeepsOrder.{all_weaker, map_back}
+use Rattle.plant_recipe.specs.WellFormed.{is_well_formed}
+use Rattle.plant_view.specs.DecisionInvariant.{DecisionInvariant}
+use Rattle.plant_view.specs.Production.{headers_of, lines_among, IsWholeRecipe, IsConsistentRun}
+use Rattle.plant_view.specs.Genealogy.{edges_among}
+use Rattle.plant_view.specs.Recalls.{recalls_in}
+use Rattle.plant_view.specs.Tables.{tables_of, edges_in, batch_row, batch_of_row, sublot_row, place_of_row}
+use Rattle.plant_view.proofs.CommandsPreserveInvariant.{all_two}
+use Rattle.plant_view.proofs.RowsInTurn.{all_of, all_mapped}
+use Rattle.plant_invariant.specs.StateInvariant.{StateInvariant}
+use Rattle.plant_tables.specs.Keyed.{HoldsTablesOf, LacksLater}
+use Rattle.plant_tables_read.specs.Loading.{AreLoaded}
+use Rattle.plant_tables_read.specs.Version.{IsKnown}
+use Rattle.plant_tables_read.specs.declared.loaded.Loaded.{Loaded}
+use Rattle.plant_tables_read.specs.Collecting.{Rows, rows_from, rows_in}
+use Rattle.plant_tables_columns.specs.Booked.{movement_from, booked_of}
+use Rattle.plant_tables_columns.specs.StatedRecalls.{recall_from, stated_of}
+use Rattle.plant_tables_columns.proofs.MovementColumns.{movement_again}
+use Rattle.plant_tables_columns.proofs.RecallColumns.{recall_again}
+use Rattle.plant_tables_read.proofs.RowsReadBack.{read_again}
+use Rattle.plant_tables_read.proofs.RowsRepresentTables.{rows_back}
+use Rattle.plant_check_stock.specs.Marks.{are_marks}
+use Rattle.plant_check.specs.Broken.{movements_in, recalls_read, first_broken_of, broken_rows, first_broken}
+use Rattle.plant_check.specs.Ends.{are_stocks}
+use Rattle.plant_check.specs.Lots.{are_lots}
+use Rattle.plant_check.proofs.BookedRowsMove.{amount_entered}
+use Rattle.plant_invariant_tables.proofs.TablesHaveValidValues.{in_order, valid_values}
+use Rattle.plant_check_laws.specs.Soundness.{state_in}
+use Rattle.plant_check_laws.proofs.BatchesExact.{right_batches}
+use Rattle.plant_check_laws.proofs.ExactTests.{all_joined, all_mapped_exact, passing}
+use Rattle.plant_check_laws.proofs.DescentExact.{movements_again, acyclic_exact, edges_exact}
+use Rattle.plant_check_laws.proofs.EventsExact.{HasRun, events_exact}
+use Rattle.plant_check_laws.proofs.LotsExact.{IsSmall, lots_exact}
+use Rattle.plant_check_laws.proofs.MomentsExact.{moments_exact}
+use Rattle.plant_check_laws.proofs.MovementsExact.{IsRight, movements_exact}
+use Rattle.plant_check_laws.proofs.NumbersExact.{right_merges, right_numbers}
+use Rattle.plant_check_laws.proofs.OrdersExact.{Closes, right_orders}
+use Rattle.plant_check_laws.proofs.RecallsExact.{recalls_pass, marks_pass}
+use Rattle.plant_check_laws.proofs.ReceiptsExact.{receipts_pass}
+use Rattle.plant_check_laws.proofs.RecipesExact.{classes_exact, listed_recipes}
+use Rattle.plant_check_laws.proofs.RulesExact.{PassesAll, rules_passed, tables_passed}
+use Rattle.plant_check_laws.proofs.StocksExact.{IsStocked, stocks_exact}
+
+module _ (schema : ℕ) (s : State) (valid : StateInvariant s) where
+  abbrev rows : Rows
+  rows = rows_in (tables_of schema s)
+
+  abbrev ms : List Movement
+  ms = movements_in rows.movements
+
+  -- ---- the state of the rows is that state again
+
+  -- with the receipts and the recalls that the schema may lack
+  abbrev state_again : State
+  state_again = record (state_in rows) { receipts = s.receipts; recalls = s.recalls }
+
+  again : state_again ≡ s
+  again = λ i. record s {
+    batches = map_back batch_of_row (batch_row s.control_lines s.events) (λ b. refl) s.batches i;
+    places = map_back place_of_row (sublot_row s.movements) (λ p. refl) s.places i;
+    movements = movements_again s i;
+  }
+
+  valid_again : StateInvariant state_again
+  valid_again = subst StateInvariant (sym again) valid
+
+  sound : DecisionInvariant state_again
+  sound = valid_again.sound
+
+  booked_again : rows.movements ≡ map booked_of ms
+  booked_again = ap (map booked_of) (sym (movements_again s))
+
+  -- ---- what the rules say
+
+  formed : AllByRecursion (λ (h : Header). is_well_formed h (lines_among s.master_lines h.recipe h.version) ≡ true) (headers_of s.recipes)
+  formed = all_weaker (IsWholeRecipe s.definitions s.master_lines) _ (λ h w. w.formed) (headers_of s.recipes) valid.sound.recipes.whole
+
+  -- of each batch
+  of_batches : (P : BatchRow → Type 0) → ((b : Batch) → IsConsistentRun s.jobs s.control_lines s.events b → P (batch_row s.control_lines s.events b)) → AllByRecursion P rows.batches
+  of_batches P f = all_mapped P (batch_row s.control_lines s.events) s.batches (all_weaker (IsConsistentRun s.jobs s.control_lines s.events) _ f s.batches valid.sound.runs)
+
+  stocked : AllByRecursion (IsStocked ms) rows.sublots
+  stocked = subst (λ xs. AllByRecursion (IsStocked xs) rows.sublots) (sym (movements_again s))
+      (all_mapped (IsStocked s.movements) (sublot_row s.movements) s.places (all_of _ (λ (p : Place). omega (arith, valid.sound.covered p.lot p.number)) s.places))
+
+  small : AllByRecursion (IsSmall ms) rows.sublots
+  small = all_of (IsSmall ms) (λ (r : Sublot) zero. subst (λ n. n ≤ greatest_amount) (sym (amount_entered ms r.lot r.number)) (sound.small r.lot r.number)) rows.sublots
+
+  moved : AllByRecursion (IsRight state_again) ms
+  moved =
+      let named = all_joined _ _ ms sound.named sound.genealogy.batched in
+      let defined = all_joined _ _ ms sound.one_material valid_again.kept in
+      all_two _ _ (IsRight state_again) (λ (m : Movement) known other. record { named = known.0; batched = known.1; defined = other.0; merge = other.1 }) ms named
+      (all_joined _ _ ms defined (right_merges ms valid_again.numbers.bookings))
+
+  lots : are_lots s.definitions s.lots rows.sublots s.holds (map booked_of ms) ≡ true
+  lots = (lots_exact s.definitions s.lots rows.sublots s.holds ms).1 (record { defined = sound.defined; housed = sound.housed; placed = sound.placed; births = valid_again.births; small = small })
+
+  passes : PassesAll rows
+  passes = record {
+    classes = (classes_exact s.classes s.definitions).1 sound.classified;
+    recipes = listed_recipes s.definitions s.recipes s.master_lines sound.recipes;
+    orders = right_orders s.recipes rows.batches s.jobs sound.orders (of_batches (Closes s.jobs) (λ b run. run.finished));
+    batches = right_batches s.recipes s.master_lines s.jobs formed sound.orders.sized rows.batches s.control_lines s.events sound.batches;
+    stocks = subst (λ xs. are_stocks xs rows.sublots ≡ true) (sym booked_again) ((stocks_exact ms rows.sublots).1 stocked);
+    lots = subst (λ xs. are_lots s.definitions s.lots rows.sublots s.holds xs ≡ true) (sym booked_again) lots;
+    whole = (all_mapped_exact (λ r. is_some (movement_from r)) booked_of _ (λ m. passing _) s.movements).1 (all_of _ (λ (m : Movement). ap is_some (movement_again m)) s.movements);
+    movements = (movements_exact state_again rows.sublots rows.batches sound.housed).1 moved;
+    events = (events_exact s.control_lines s.events rows.batches).1 (of_batches (HasRun s.control_lines s.events) (λ b run. record { allowed = run.allowed; kept = refl }), sound.batches.witnessed);
+    numbers = right_numbers s.seq s.events ms valid_again.numbers;
+    times = (moments_exact s.at ms s.events rows.batches s.holds).1 valid_again.moments;
+    descent = (acyclic_exact (edges_among ms)).1 sound.genealogy.acyclic;
+    edges = (edges_exact schema rows.edges ms).1 (ap (edges_in schema) (sym (movements_again s)));
+    receipts = receipts_pass (nat_le 3 schema) s.seq s.receipts valid.receipts;
+    fitting = (all_mapped_exact (λ r. is_some (recall_from r)) stated_of _ (λ r. passing _) (recalls_in schema s.recalls)).1 (all_of _ (λ (r : Recall). ap is_some (recall_again r)) (recalls_in schema s.recalls));
+    recalls = recalls_pass schema s valid.recalls;
+    marks = subst (λ xs. are_marks (recalls_read rows.recalls) xs rows.marks ≡ true) (sym (movements_again s)) (marks_pass schema s);
+  }
+
+  pub valid_unbroken : first_broken_of rows ≡ None
+  valid_unbroken = (rules_passed rows).1 passes
+
+pub read_valid : (schema : ℕ) (db : Database) (s : State) (x : Loaded) → IsKnown schema → StateInvariant s → HoldsTablesOf schema db (tables_of schema s) → AreLoaded schema db x
+    → (rows_from x ≡ Some (rows_in (tables_of schema s))) × (first_broken x ≡ None)
+read_valid schema db s x known valid holds loaded =
+    let lacks : LacksLater schema (tables_of schema s) = record {
+      edges = λ none. rw none refl;
+      receipts = λ none. rw none refl;
+      recalls = λ none. rw none refl;
+      marks = λ none. rw none refl;
+    } in
+    let read = read_again schema db (tables_of schema s) holds lacks (in_order schema s valid) (valid_values s valid schema known) x loaded in
+    (read, (tables_passed x).1 (ap is_some (rows_back x (rows_in (tables_of schema s)) read).meta, ap broken_rows read ∙ valid_unbroken schema s valid))

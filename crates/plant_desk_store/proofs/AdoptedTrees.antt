@@ -25,7 +25,7 @@ opened old trees free sound are =
       finds = subst (λ (d : Trees). FindsTables old d opening_tables) (sym are.2) (record { schema = are.0.schema; holds = made.0; others = made.1 });
     }
 
--- good tables were raised from rows that are those of whatever good state stood there
+-- valid tables were raised from rows that are those of whatever valid state was there
 pub raised_from : (schema : ℕ) (old : store.State) (trees : Trees) (rows : DeskRows) → IsSettled old → (s : State) × HoldsValidState schema old.now s → ((s : State) → HoldsValidState schema old.now s → rows_listed rows ≡ rows_in (tables_of schema s))
     → IsRaisedBy schema (newest_schema - schema) rows.meta.position (edges_from schema rows.movements.items) old trees → IsRaised old.now trees
 raised_from schema old trees rows settled represented reported made =

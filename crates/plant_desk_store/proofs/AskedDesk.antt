@@ -1,4 +1,4 @@
--- Where a desk stands once it was asked, or a command was checked.
+-- What a desk represents once it was asked, or a command was checked.
 use Rattle.std.proofs.Common.{◌≡◌, Bool, Result, Ok, Err, refl}
 use Rattle.sqlite.specs.Effect.{Database}
 use Rattle.sqlite.specs.State as store
@@ -17,7 +17,7 @@ use Rattle.plant_desk_store.specs.DeskStates.{Represents, HasForeignTables}
 use Rattle.plant_desk_store.proofs.ForeignTablesKept.{others_kept}
 use Rattle.plant_desk_store.proofs.ReadingKeepsState.{still_represents, still_crash_states}
 
--- a desk whose store was only read stands where it stood
+-- a desk whose store was only read represents what it represented
 pub read_represents : (old new : store.State) (shut : Bool) (s : State) → OnlyReads old new → IsStore new → HasCleanDisk new → Represents old shut s → Represents new shut s
 read_represents old new shut s reads laws clean represented =
     (still_represents old new s represented.0 (reads.kept clean) laws, λ unchanged. still_crash_states old new (λ u. u ≡ s) (represented.1 unchanged) clean reads.crash laws)

@@ -46,7 +46,7 @@ check_error_by x schema rows (check_error.Broken r) e f h = same_broken x (rows_
 check_error_by x schema rows check_error.Schema e f h = (same_broken x (rows_listed rows) e f ∙ h.0, other_schema x schema rows f h.1)
 check_error_by x schema rows check_error.Memory e f h = tt
 
--- ---- the version that rows tell
+-- ---- the version in rows
 
 meta_numbered : (rows : List Row) (m : Meta) → only_meta rows ≡ Some m → 1 ≤ m.schema
 unfolding only_meta

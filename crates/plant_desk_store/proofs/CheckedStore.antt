@@ -32,13 +32,13 @@ use Rattle.plant_migrate.proofs.RaisingEnds.{raised_to_is}
 use Rattle.plant_migrate.proofs.NothingWritten.{at_still, keeps_itself}
 use Rattle.plant_desk_store.specs.Adopting.{IsNewlyOpened, HoldsValidState, ValidStateSurvives, IsRisingAt, ShowsUnchanged, NamesFirst, BrokenBy, IsRefusedBy}
 use Rattle.plant_desk_store.specs.Faults.{adopt_fault}
-use Rattle.plant_check_sound.specs.Soundness.{state_in, AreUnbroken}
+use Rattle.plant_check_laws.specs.Soundness.{state_in, AreUnbroken}
 use Rattle.plant_desk_store.specs.DeskStates.{IsDurablyAt, KeepsForeignTables}
 use Rattle.plant_desk_store.specs.Checks.{PassesChecks}
 use Rattle.plant_desk_store.specs.declared.adopting.AdoptFault.{AdoptFault}
 use Rattle.plant_desk_store.specs.declared.adopting.AdoptFault.TheVariants as fault
-use Rattle.plant_check_sound.proofs.ChecksPassImpliesInvariant.{unbroken_valid, unbroken_holds}
-use Rattle.plant_check_complete.proofs.InvariantImpliesChecksPass.{read_valid}
+use Rattle.plant_check_laws.proofs.ChecksPassImpliesInvariant.{unbroken_valid, unbroken_holds}
+use Rattle.plant_check_laws.proofs.InvariantImpliesChecksPass.{read_valid}
 use Rattle.plant_desk_store.proofs.ForeignTablesKept.{others_settled}
 use Rattle.plant_desk_store.proofs.ReadingKeepsState.{open_at, left_still}
 use Rattle.plant_migrate.proofs.ChangesOfState.{whole_on}
@@ -72,11 +72,11 @@ none_newer db v found low n above other =
 -- ---- what is adopted
 
 module _ (version : ℕ) (db : Database) (x : Loaded) (known : IsKnown version) (loaded : AreLoaded version db x) where
-  -- the rows of a good state's tables are read as they are
+  -- the rows of a valid state's tables are read as they are
   pub rows_of_valid : (s : State) (rows : DeskRows) → HoldsValidState version db s → PassesChecks x version rows → rows_listed rows ≡ rows_in (tables_of version s)
   rows_of_valid s rows held fit = let again = (read_valid version db s x known held.valid held.holds loaded).0 in let both = sym fit.read ∙ again in cc
 
-  -- rows that break no rule are those of a good state, whose tables the store holds
+  -- rows that break no rule are those of a valid state, whose tables the store holds
   pub valid_rows : (checked : Result DeskRows AdoptFault) → AreRising version x → HaveStoredRows (table_defs_of version) db (contents_loaded x) → IfOk checked (PassesChecks x version)
       → IfOk checked (λ rows. (s : State) × HoldsValidState version db s × (rows_listed rows ≡ rows_in (tables_of version s)))
   unfolding rows_listed
@@ -108,7 +108,7 @@ pub opens_new : (old new : store.State) → IsNewlyOpened old → HasCleanDisk n
 opens_new old new newly clean same kept laws s valid holds =
     open_at new s valid (at_still newest_schema old new (tables_of newest_schema s) (record { settled = newly.settled; holds = holds }) kept laws same.0.is_open) clean laws
 
--- a store over the tables of a good state, after calls that only read
+-- a store over the tables of a valid state, after calls that only read
 pub stays_valid : (old new : store.State) → (HasCleanDisk new → Keeps old new) → Survives old new (λ _. ⊥) → IsStore new → ValidStateSurvives old new
 stays_valid old new kept survives laws = λ clean newly version s held. record {
   valid = held.valid;
@@ -165,7 +165,7 @@ cut_shows version old new s below.Memory settled held cut write_error = λ is_li
 pub reported_shows : (version : ℕ) (old new : store.State) (s : State) (f : Fault) (reported : AdoptFault) → IsSettled old → HoldsValidState version old.now s → FailureLeavesAmid version newest_schema old new s → (f ≡ below.Memory → new ≡ old) → reported ≡ adopt_fault f → ShowsUnchanged reported old new
 reported_shows version old new s f reported settled held cut write_error is = subst (λ x. ShowsUnchanged x old new) (sym is) (cut_shows version old new s f settled held cut write_error)
 
--- it is told as a fault of the store or as want of memory
+-- it is reported as a fault of the store or as want of memory
 pub reported_known : (f : Fault) (reported : AdoptFault) → reported ≡ adopt_fault f → (reported ≡ fault.Store) ⊎ (reported ≡ fault.Memory)
 reported_known below.Store reported is = inl is
 reported_known below.Memory reported is = inr is
@@ -175,6 +175,6 @@ pub reported_unmade : (old new : store.State) (f : Fault) (reported : AdoptFault
 reported_unmade old new below.Store reported is write_error other = absurd (other is)
 reported_unmade old new below.Memory reported is write_error other = subst (λ (c : store.State). Survives old c (λ _. ⊥)) (sym (write_error refl)) (survives_none old)
 
--- tables of other names stand in a store that is unchanged
+-- the foreign tables of a store that is unchanged are unchanged
 pub others_unchanged : (old new : store.State) → IsNewlyOpened new → new.now ≡ old.now → IsDatabase old.now → KeepsForeignTables old.now new
 others_unchanged old new newly same sound = others_settled old.now new newly.settled (subst IsDatabase (sym same) sound) (subst (KeepsOtherTables desk_table_defs old.now) (sym same) (keeps_all desk_table_defs old.now))

@@ -45,7 +45,7 @@ none_later later schema newest = subst (λ k. All (IsFree schema) (later_table_d
 -- ---- adopted, stopped, opened again
 
 module _ (old db : Database) (sound : IsDatabase db) where
-  -- what is to be found in the trees stands in the database that is opened over them
+  -- the database that is opened over the trees has what is to be found in them
   found_here : (version : ℕ) (t : Tables) → FindsOf version old db.trees t → HoldsTablesOf version db t × KeepsOtherTables desk_table_defs old db
   found_here version t finds =
       let is : db ≡ database_of finds.schema db.trees = same_database _ db finds.holds.sound sound refl in

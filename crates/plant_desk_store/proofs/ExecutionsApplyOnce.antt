@@ -1,4 +1,4 @@
--- The commands of a life are a sending, and act once.
+-- The commands of an execution are a sending, and act once.
 use Rattle.std.proofs.Common.{◌≡◌, ◌∙◌, List, [], ◌∷◌, refl, sym, ap, subst, inl, inr}
 use Rattle.sqlite_trees.specs.declared.store.Store.{Ghosts}
 use Rattle.plant_base.specs.State.{State}

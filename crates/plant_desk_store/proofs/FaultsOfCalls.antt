@@ -1,4 +1,4 @@
--- What is so of what a call below came to, once the desk or an adoption tells it.
+-- What is so of what a call below came to, once the desk or an adoption reports it.
 use Rattle.std.proofs.Common.{◌≡◌, ◌≢◌, ◌≤◌, ◌<◌, ℕ, ℤ, pos, nat_lt, Option, None, Some, Result, Ok, Err, IfOk, IfErr, IfSome, sym, subst, refl, inl, inr, arith}
 use Rattle.std.specs.Prelude.{◌↔◌}
 use Rattle.std.proofs.lemmas.Bool.{cases_Bool}
@@ -23,7 +23,7 @@ use Rattle.plant_desk_store.specs.Faults.{desk_fault, looked_up, rows_to_test, r
 use Rattle.plant_desk_store.specs.declared.adopting.AdoptFault.{AdoptFault}
 use Rattle.plant_desk_store.specs.declared.adopting.AdoptFault.TheVariants as fault
 
--- no fault of a store tells that a desk is shut
+-- no fault of a store is reported as that of a shut desk
 pub unshut : (f : Fault) → desk_fault f ≢ Shut
 unshut below.Store same = absurd (cc)
 unshut below.Memory same = absurd (cc)
@@ -64,7 +64,7 @@ untested_unshut (Ok (Some y)) f is = absurd (cc)
 untested_unshut (Ok None) f is = λ shut. (let same : f ≡ Store = cc in let both : Store ≡ Shut = cc in absurd (cc))
 untested_unshut (Err g) f is = let same : desk_fault g ≡ f = cc in subst (λ x. x ≢ Shut) same (unshut g)
 
--- a fault of the reading names the first rule, where a table doesn't stand, or is none that names one
+-- a fault of the reading names the first rule, where a table isn't declared as its definition says, or is none that names one
 pub unread_rows : (P : AdoptFault → Type 0) (r : Result (Option Loaded) Fault) (f : AdoptFault) → Err f ≡ rows_to_adopt r → (r ≡ Ok None → P (fault.Damaged rule.Tables)) → P fault.Store → P fault.Memory → P f
 unread_rows P (Ok (Some y)) f is lacking store memory = absurd (cc)
 unread_rows P (Ok None) f is lacking store memory = let same : fault.Damaged rule.Tables ≡ f = cc in subst P same (lacking refl)
@@ -95,7 +95,7 @@ pub nothing_found : (r : Result FoundTables Fault) → Ok None ≡ schema_found 
 nothing_found =
     by_found (λ r found. Ok None ≡ found → r ≡ Ok tables.Nothing) (λ _. refl) (λ e. absurd cc) (λ n low e. absurd cc) (λ n above e. absurd cc) (λ n e. absurd cc) (λ e. absurd cc) (λ e. absurd cc)
 
--- the tables of a known schema were found, as table meta tells it, and nothing was changed
+-- the tables of a known schema were found, as table meta says, and nothing was changed
 pub record IsFoundKnown (old mid : store.State) (n : ℕ) : Type 0 where
   pub same : IsUnchanged old mid
   pub reported : IsVersion old.now (pos n)

@@ -1,4 +1,4 @@
--- Tables of other names, as a store shows them and as a stop leaves them.
+-- Foreign tables, as a store shows them and as a stop leaves them.
 use Rattle.std.proofs.Common.{◌≡◌, ◌∙◌, Bool, false, Result, Ok, Err, inl, inr, sym, ap, subst, IsTrue}
 use Rattle.sqlite.specs.Tree.{Trees}
 use Rattle.sqlite.specs.Schema.{Schema}

@@ -1,4 +1,4 @@
--- Where a store stands after what it has been through.
+-- What a store represents after what it has been through.
 use Rattle.std.proofs.Common.{◌≡◌, ◌∙◌, ℕ, pos, Bool, true, false, List, [], ◌∷◌, ◌++◌, length, map, take, Option, Some, None, Result, Ok, Err, refl, sym, ap, subst, inl, inr, arith}
 use Rattle.std.specs.Prelude.{◌⊎◌, slice_get, zip}
 use Rattle.std.proofs.Math.Logic.{∥∥₁_map}
@@ -74,7 +74,7 @@ CrashStatesAreReady s attempts c = (trees : Trees) → c.may_leave trees → (db
 abbrev MayRepresent : State → List Attempt → Type 0
 MayRepresent s attempts = (u : State) × PossibleOutcome s attempts u
 
--- ---- what is so at each place
+-- ---- what is so in each phase
 
 abbrev Reached : State → List Attempt → store.State → StorePhase → Type 0
 Reached s attempts c opened = IsOpened c × IsReady s attempts c.now
@@ -225,7 +225,7 @@ asked_at s u attempts new q (Err Store) lead did = (u, lead, open_at new u did)
 asked_at s u attempts new q (Err Memory) lead did = (u, lead, open_at new u did)
 asked_at s u attempts new q (Err Shut) lead did = absurd did
 
--- ---- all of a life
+-- ---- all of an execution
 
 clean_before : (old new : store.State) (P : Trees → Type 0) → Survives old new P → HasCleanDisk new → HasCleanDisk old
 clean_before old new P survives clean = omega (arith, survives.clean, clean)

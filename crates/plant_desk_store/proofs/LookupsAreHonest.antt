@@ -1,29 +1,32 @@
--- Look-ups over a store that stands at a state are honest, and show that state.
-use Rattle.std.proofs.Common.{◌≡◌, ◌∙◌, Bool, false, IsTrue, sym, subst, arith}
+-- Look-ups over a store that represents a state are honest, and show that state.
+use Rattle.std.proofs.Common.{◌≡◌, ◌∙◌, Bool, false, Option, None, IfSome, IsTrue, sym, subst, arith}
+use Rattle.std.proofs.lemmas.Bool.{false≢true}
 use Rattle.sqlite.specs.Effect.{Database}
 use Rattle.sqlite.specs.State as store
 use Rattle.sqlite.specs.State.{HasCleanDisk}
 use Rattle.plant_base.specs.State.{State, newest_schema}
-use Rattle.plant_view.specs.Tables.{tables_of}
+use Rattle.plant_base.specs.declared.rows.Position.{Position}
+use Rattle.plant_view.specs.Tables.{tables_of, position_of}
 use Rattle.plant_invariant.specs.StateInvariant.{StateInvariant}
 use Rattle.plant_tables.specs.Keyed.{HoldsTables}
 use Rattle.plant_keyed.specs.LookupOutcomes.{IsHonest, PreservesFrame}
-use Rattle.plant_keyed.specs.EdgeCaching.{AreEdgesOf, CacheStaysValid}
-use Rattle.plant_keyed.specs.declared.edge_cache.EdgeCache.{EdgeCache}
+use Rattle.plant_keyed.specs.Caching.{IsCacheOf, CacheStaysValid}
+use Rattle.plant_keyed.specs.declared.lookup_cache.LookupCache.{LookupCache}
+use Rattle.plant_keyed.specs.Frames.{honest_before}
 use Rattle.plant_keyed.specs.Abstraction.{abstraction}
 use Rattle.plant_keyed.proofs.AbstractionIsState.{abstraction_is_state}
 use Rattle.plant_desk_store.specs.DeskStates.{ShowsState}
 
 -- after a first look-up over an open store, which left it open, and further ones, none of which failed
-pub record AreHonest (old mid new : store.State) (failed : Bool) (is : EdgeCache) (s : State) : Type 0 where
+pub record AreHonest (old mid new : store.State) (failed : Bool) (is : LookupCache) (s : State) : Type 0 where
   pub ends : IsHonest new failed
-  pub true_of : AreEdgesOf (abstraction new.now) is
+  pub true_of : IsCacheOf (abstraction new.now) is
   pub showed : abstraction old.now ≡ s
   pub shows : abstraction mid.now ≡ s
 
-pub honest_at : (old mid new : store.State) (f g h : Bool) (x y z : EdgeCache) (s : State) → PreservesFrame old mid f g → PreservesFrame mid new g h → y ≡ x → CacheStaysValid mid.now new h y z → HasCleanDisk new → h ≡ false
-    → (HasCleanDisk mid → IsTrue mid.is_open) → ShowsState old s → AreEdgesOf s x → AreHonest old mid new h z s
-honest_at old mid new f g h x y z s first second same stays clean unfailed is_live at known =
+pub honest_at : (old mid new : store.State) (f g h : Bool) (x y z : LookupCache) (s : State) → PreservesFrame old mid f g → PreservesFrame mid new g h → CacheStaysValid old.now mid g x y → CacheStaysValid mid.now new h y z → HasCleanDisk new → h ≡ false
+    → (HasCleanDisk mid → IsTrue mid.is_open) → ShowsState old s → IsCacheOf s x → AreHonest old mid new h z s
+honest_at old mid new f g h x y z s first second recalls stays clean unfailed is_live at known =
     let was : HasCleanDisk mid = omega (arith, second.survives.clean, clean) in
     let g_false : g ≡ false = second.unfailed unfailed in
     let open_before = (first.kept was).was_open (is_live was) in
@@ -41,7 +44,14 @@ honest_at old mid new f g h x y z s first second same stays clean unfailed is_li
     } in
     record {
       ends = ends;
-      true_of = (stays ends).0 (subst (λ (u : State). AreEdgesOf u y) (sym shown_mid) (subst (AreEdgesOf s) (sym same) known));
+      true_of = (stays ends).0 ((recalls (honest_before mid new g h second ends)).0 (subst (λ (u : State). IsCacheOf u x) (sym here) known));
       showed = here;
       shows = shown_mid;
     }
+
+-- a cache of nothing is true of every state
+pub unread_is : (s : State) (c : LookupCache) → c.position ≡ None → c.edges.are_read ≡ false → IsCacheOf s c
+unread_is s c none unread = record {
+  position = subst (λ (o : Option Position). IfSome o (λ p. p ≡ position_of s)) (sym none) tt;
+  edges = λ read. absurd (false≢true (sym unread ∙ read));
+}

@@ -1,4 +1,4 @@
--- What comes of the tables of a schema that are judged, and of good ones that are raised.
+-- What comes of the tables of a schema that are judged, and of valid ones that are raised.
 use Rattle.std.proofs.Common.{◌≡◌, ◌∙◌, ℕ, ◌≤◌, pos, sym, subst, inl, inr}
 use Rattle.std.specs.Prelude.{◌⊎◌}
 use Rattle.std.proofs.Math.Nat.{eq-or-lt_of_le}

@@ -1,4 +1,4 @@
--- What a call that only reads leaves of where a store stands, and what a commit makes of it.
+-- What a call that only reads leaves of the state that a store represents, and what a commit makes of it.
 use Rattle.std.proofs.Common.{◌≡◌, ◌∙◌, inl, inr, sym, ap, refl}
 use Rattle.std.specs.Prelude.{◌⊎◌}
 use Rattle.sqlite.specs.Tree.{Trees}
@@ -43,7 +43,7 @@ still_open old new s at clean kept survives laws = record {
 found_in : (old : Database) (db : Trees) (s : State) → StateInvariant s → FindsTables old db (tables_of newest_schema s) → FindsState db s
 found_in old db s valid finds = record { valid = valid; schema = finds.schema; holds = finds.holds; whole = (refl, refl) }
 
--- what stands is what a stop leaves
+-- the state that is represented is what a stop leaves
 crash_states_at : (new : store.State) (s : State) → StateInvariant s → IsAt new (tables_of newest_schema s) → HasCleanDisk new → IsStore new → HasCrashStates new (λ u. u ≡ s)
 crash_states_at new s valid at clean laws = record {
   something = laws.something clean;

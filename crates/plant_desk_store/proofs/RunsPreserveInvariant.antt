@@ -1,4 +1,4 @@
--- A run ends at a good state.
+-- A run ends at a valid state.
 use Rattle.std.proofs.Common.{Bool, List, length, take, Option, None, Some}
 use Rattle.sqlite.specs.State as store
 use Rattle.plant_base.specs.State.{State}

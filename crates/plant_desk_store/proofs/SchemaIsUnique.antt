@@ -1,4 +1,4 @@
--- Trees list one schema: each row of the list tells its table, its index or its view.
+-- Trees list one schema: each row of the list determines its table, its index or its view.
 use Rattle.std.proofs.Common.{◌≡◌, ℕ, ◌+◌, ◌<◌, pos, List, [], ◌∷◌, codes, filter, Bool, true, false, Option, Some, None, inl, inr, refl, sym, ap, ap₂, subst, ◌∙◌, arith, get_or, ◌==◌, eq-eqb}
 use Rattle.std.specs.List.{AllZip}
 use Rattle.std.specs.Prelude.{MatchBool}
@@ -28,7 +28,7 @@ one_zip R one (a ∷ rows) [] cs p q = absurd p
 one_zip R one (a ∷ rows) (b ∷ bs) [] p q = absurd q
 one_zip R one (a ∷ rows) (b ∷ bs) (c ∷ cs) p q = ap₂ (λ x xs. x ∷ xs) (one a b c p.0 q.0) (one_zip R one rows bs cs p.1 q.1)
 
--- ---- what a row tells
+-- ---- what a row determines
 
 one_text : {v : Value} {a b : List ℕ} → v ≡ Text a → v ≡ Text b → a ≡ b
 one_text p q = cc

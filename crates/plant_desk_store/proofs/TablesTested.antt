@@ -29,7 +29,7 @@ unread version old new f laws rest read = record {
   crash = survives_weaker _ _ _ _ (λ clean db none. absurd none) read.reads.crash;
 }
 
--- they are good, of an older version, and were raised
+-- they are valid, of an older version, and were raised
 module _ (version : ℕ) (older : version < newest_schema) (rows : DeskRows) (old mid new : store.State) (first : IsStore mid) (read : HasChecked version old mid (Ok rows)) where
   here : IsUnchanged old mid → (s : State) → HoldsValidState version old.now s → HoldsValidState version mid.now s
   here same s held = subst (λ (db : Database). HoldsValidState version db s) (sym same.0.now_is) held

@@ -1,4 +1,4 @@
--- The tables of a good state are adopted again.
+-- The tables of a valid state are adopted again.
 use Rattle.std.proofs.Common.{◌≡◌, ◌∙◌, ◌<◌, ◌≤◌, ℕ, ◌^◌, pos, List, [], ◌∷◌, inl, inr, refl, sym, subst, arith}
 use Rattle.std.specs.Prelude.{◌⊎◌, All}
 use Rattle.std.specs.Int.Signed.{◌≤ℤ◌, le_z_yes}
@@ -26,7 +26,7 @@ use Rattle.plant_invariant.specs.StateInvariant.{StateInvariant}
 use Rattle.plant_tables_read.specs.Version.{IsVersion, IsKnown, HasTablesOf}
 use Rattle.plant_tables_read.specs.Loading.{AreLoaded}
 use Rattle.plant_tables_read.proofs.OneVersion.{one_version, each_free, free_reports_nothing}
-use Rattle.plant_check_complete.proofs.InvariantImpliesChecksPass.{read_valid}
+use Rattle.plant_check_laws.proofs.InvariantImpliesChecksPass.{read_valid}
 use Rattle.plant_desk_store.specs.Adopting.{HoldsValidState, IsRefusedBy, IsFirstBroken}
 use Rattle.plant_desk_store.specs.DeskLaws.{IsAdoptable}
 use Rattle.plant_check.specs.declared.rule.Rule.{Rule}
@@ -86,7 +86,7 @@ module _ (version : ℕ) (db : Database) (s : State) (held : HoldsValidState ver
   pub not_free : AreFree desk_table_defs db.schema → ⊥
   not_free free = free_reports_nothing db (pos version) (each_free db.schema free) version_held
 
-  -- whatever version meta tells is this one
+  -- whatever version is in meta is this one
   pub one_reported : (other : ℕ) → IsVersion db (pos other) → other ≡ version
   one_reported other reported = pos_same other version (one_version db (pos other) (pos version) reported version_held)
 

@@ -25,19 +25,19 @@ use Rattle.plant_desk_store.specs.DeskStates.{IsDurablyAt, FindsStateOf}
 use Rattle.plant_desk_store.specs.declared.adopting.AdoptFault.{AdoptFault}
 use Rattle.plant_desk_store.specs.declared.adopting.AdoptFault.TheVariants as fault
 
--- The database holds the tables of a good state, of a version that can be read and that lacks no row of the state.
+-- The database holds the tables of a valid state, of a version that can be read and that lacks no row of the state.
 pub record HoldsValidState (version : ℕ) (db : Database) (s : State) : Type 0 where
   pub known : IsKnown version
   pub valid : StateInvariant s
   pub holds : HoldsTablesOf version db (tables_of version s)
   pub whole : IsWholeIn version s
 
--- the store had none of the desk's tables, and the desk stands at the opening state; or it had those of a good state, of
--- some version, and the desk stands there
+-- the store had none of the desk's tables, and the desk represents the opening state; or it had those of a valid state, of
+-- some version, and the desk represents that
 abbrev pub AdoptedFrom : store.State → States → Type 0
 AdoptedFrom c represents = (AreFree desk_table_defs c.now.schema × represents opening) ⊎ ((version : ℕ) × ((s : State) × HoldsValidState version c.now s × represents s))
 
--- Whatever good state's tables were there, the store stands at that state, and a stop leaves that alone.
+-- Whatever valid state's tables were there, the store represents that state, and a stop leaves that alone.
 abbrev pub KeepsValidState : store.State → store.State → Type 0
 KeepsValidState old new = HasCleanDisk new → IsNewlyOpened old → (version : ℕ) (s : State) → HoldsValidState version old.now s → IsDurablyAt new s
 
@@ -53,12 +53,12 @@ pub record IsRisingAt (version : ℕ) (c : store.State) (s : State) : Type 0 whe
   pub something : ∥ ((db : Trees) × c.may_leave db) ∥₁
   pub nothing_else : (db : Trees) → c.may_leave db → (later : ℕ) × (version ≤ later) × (later ≤ newest_schema) × FindsStateOf later db s
 
--- Whatever good state's tables were there, they still are, or a stop may leave those of a later version.
+-- Whatever valid state's tables were there, they still are, or a stop may leave those of a later version.
 abbrev pub ValidStateSurvives : store.State → store.State → Type 0
 ValidStateSurvives old new = HasCleanDisk new → IsNewlyOpened old → (version : ℕ) (s : State) → HoldsValidState version old.now s → IsRisingAt version new s
 
--- The tables of a good state stood there in an older version, and the store is at those of the same state in one between
--- that and the newest, beside the same tables of other names.
+-- The tables of a valid state were there in an older version, and the store is at those of the same state in one between
+-- that and the newest, with the same foreign tables.
 pub record HasRisen (old new : store.State) : Type 0 where
   pub version : ℕ
   pub state : State
@@ -69,7 +69,7 @@ pub record HasRisen (old new : store.State) : Type 0 where
 abbrev pub ShowsUnchanged : AdoptFault → store.State → store.State → Type 0
 ShowsUnchanged f old new = IsTrue new.is_open → Keeps old new ⊎ ((f ≡ fault.Store) × HasRisen old new)
 
--- where a rule is named, it is this one, and where one is broken, it isn't told as a fault of the store
+-- where a rule is named, it is this one, and where one is broken, it isn't reported as a fault of the store
 abbrev pub IsBroken : Option Rule → AdoptFault → Type 0
 IsBroken broken fault.Store = broken ≡ None
 IsBroken broken (fault.Newer n) = ⊥
@@ -83,7 +83,7 @@ NamesFirst db (fault.Newer n) = ⊥
 NamesFirst db (fault.Damaged r) = IsFirstBroken db r
 NamesFirst db fault.Memory = ⊤
 
--- where a rule is named, it is the first that the loaded rows break, and where they break one, it isn't told as a fault
+-- where a rule is named, it is the first that the loaded rows break, and where they break one, it isn't reported as a fault
 -- of the store
 abbrev pub BrokenBy : Loaded → AdoptFault → Type 0
 BrokenBy x f = IsBroken (first_broken x) f
@@ -101,14 +101,14 @@ IsRefusedBy db fault.Memory = ⊤
 abbrev pub AreMade : Database → Trees → Type 0
 AreMade old trees = (db : Database) × MakesDesk old db × (trees ≡ db.trees)
 
--- The names of the desk's tables were free, and in the trees those of the opening state are to be found, beside the same
--- tables of other names.
+-- The names of the desk's tables were free, and in the trees those of the opening state are to be found, with the same
+-- foreign tables.
 pub record IsOpened (old : Database) (trees : Trees) : Type 0 where
   pub free : AreFree desk_table_defs old.schema
   pub finds : FindsTables old trees opening_tables
 
--- The tables of a good state stood there in a schema below the newest, with the names free that later ones add, and in the
--- trees those of the same state in a later schema are to be found, beside the same tables of other names and with the names
+-- The tables of a valid state were there in a schema below the newest, with the names free that later ones add, and in the
+-- trees those of the same state in a later schema are to be found, with the same foreign tables and with the names
 -- free that later ones than that add.
 pub record IsRaised (old : Database) (trees : Trees) : Type 0 where
   pub version : ℕ

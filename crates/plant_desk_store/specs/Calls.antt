@@ -33,9 +33,9 @@ use Rattle.plant_desk_store.specs.declared.adopting.AdoptFault.TheVariants as fa
 pub record HasAdopted (old new : store.State) : Type 0 where
   pub rests : new.in_transaction ≡ false
   pub adopted : HasCleanDisk new → IsNewlyOpened old → AdoptedFrom old (IsDurablyAt new)
-  -- over the tables of a good state the desk stands at this state, and a stop leaves that state alone
+  -- over the tables of a valid state the desk represents this state, and a stop leaves that state alone
   pub again : KeepsValidState old new
-  -- tables of other names stand as they did
+  -- foreign tables are as they were
   pub others : HasCleanDisk new → IsNewlyOpened old → KeepsForeignTables old.now new
   -- a stop leaves what it left before, and only that where there were tables that aren't raised
   pub no_crash_state_added : IsUnraised old.now → Survives old new (λ _. ⊥)
@@ -46,9 +46,9 @@ pub record HasRefused (f : AdoptFault) (old new : store.State) : Type 0 where
   -- the fault has its cause, and no transaction is open
   pub refused : HasCleanDisk new → IsRefusedBy old.now f
   pub rests : new.in_transaction ≡ false
-  -- the store, while it is open, shows what it showed, or good tables that were raised in part
+  -- the store, while it is open, shows what it showed, or valid tables that were raised in part
   pub shows : HasCleanDisk new → IsNewlyOpened old → ShowsUnchanged f old new
-  -- a stop leaves the tables of a good state as they were, or of a later schema
+  -- a stop leaves the tables of a valid state as they were, or of a later schema
   pub unchanged : ValidStateSurvives old new
   -- it leaves what it left before, and only that where there were tables that aren't raised, and at each fault but Store
   pub no_crash_state_added : IsUnraised old.now → Survives old new (λ _. ⊥)
@@ -93,10 +93,10 @@ pub record HasRun (old new : store.State) (shut : Bool) (list : List Envelope) (
   pub is_live : end ≢ Some Shut
   pub ran : HasCleanDisk new → (s : State) → Represents old false s → Ran s list answered end (Represents new shut) (HasCrashStates new) shut
   pub accounted : HasCleanDisk new → (s : State) → Represents old false s → IsAccounted (fold s (take (length answered) list))
-  -- tables of other names stand as they did, also in what a stop leaves
+  -- foreign tables are as they were, also in what a stop leaves
   pub others : HasCleanDisk new → (before : Database) → HasForeignTables old false before → HasForeignTables new shut before
 
--- The indexes were made that the tables lacked, or weren't for this fault; the desk stands where it stood, and so does what a
+-- The indexes were made that the tables lacked, or weren't for this fault; the desk represents what it represented, and so does what a
 -- stop leaves.
 pub record HasIndexed (old new : store.State) (r : Result (Unit {0}) DeskFault) : Type 0 where
   pub honest : HasCleanDisk new → HasCleanDisk old
@@ -104,12 +104,12 @@ pub record HasIndexed (old new : store.State) (r : Result (Unit {0}) DeskFault) 
   pub represents : HasCleanDisk new → (s : State) → Represents old false s → Represents new false s
   -- each index whose name was free is there
   pub made : HasCleanDisk new → (s : State) → Represents old false s → OnOk r (AddsMissing old.now new.now)
-  -- tables of other names stand as they did, also in what a stop leaves
+  -- foreign tables are as they were, also in what a stop leaves
   pub others : HasCleanDisk new → (before : Database) → HasForeignTables old false before → HasForeignTables new false before
   -- where no name is free, a stop leaves what it left before
   pub no_crash_state_added : HasCleanDisk new → AreAllTaken old.now.schema → (trees : Trees) → new.may_leave trees → old.may_leave trees
 
--- All tables were tested: the first rule that they break is told, which none does where the desk stood at a state.
+-- All tables were tested: the first rule that they break is returned, and there is none where the desk represented a state.
 pub record HasVerified (old new : store.State) (r : Result (Option Rule) DeskFault) : Type 0 where
   pub honest : HasCleanDisk new → HasCleanDisk old
   pub is_live : IfErr r (λ f. f ≢ Shut)

@@ -1,4 +1,4 @@
--- What a test of all tables tells.
+-- The outcome of a test of all tables.
 use Rattle.std.specs.Prelude.{◌≡◌, ℕ, Option, Some, None, ⊤}
 use Rattle.sqlite.specs.Effect.{Database}
 use Rattle.plant_tables_read.specs.Loading.{AreLoaded}
@@ -11,7 +11,7 @@ use Rattle.plant_check.specs.declared.rule.Rule.{Rule}
 use Rattle.plant_desk_store.specs.declared.check_error.CheckError.{CheckError}
 use Rattle.plant_desk_store.specs.declared.check_error.CheckError.TheVariants as check_error
 
--- each table stands as it is declared, and this is the first rule that their rows break, where they break one
+-- each table is declared as its definition says, and this is the first rule that their rows break, where they break one
 abbrev pub IsTested : Database → Option Rule → Type 0
 IsTested db broken = (x : Loaded) × AreLoaded newest_schema db x × (broken ≡ first_broken x)
 

@@ -1,4 +1,4 @@
--- What follows from where a desk stands, and from what an adoption leaves.
+-- What follows from the state that a desk represents, and from what an adoption leaves.
 use Rattle.std.specs.Prelude.{◌≡◌, ◌⊎◌, ◌↔◌, ◌≤◌, ℕ, All, List, map, Contains}
 use Rattle.std.specs.List.Sorted.{IsStrictlySortedBy}
 use Rattle.sqlite.specs.Tree.{Trees}
@@ -19,7 +19,7 @@ use Rattle.plant_desk_store.specs.DeskStates.{FindsStateOf}
 use Rattle.plant_desk_store.specs.declared.adopting.AdoptFault.{AdoptFault}
 use Rattle.plant_desk_store.specs.declared.adopting.AdoptFault.TheVariants.{Store, Memory}
 
--- The tables of a good state stand in a known version, and the names of those that a later one adds are free.
+-- The tables of a valid state are there in a known version, and the names of those that a later one adds are free.
 pub record IsAdoptable (version : ℕ) (db : Database) (s : State) : Type 0 where
   pub held : HoldsValidState version db s
   pub free : All (IsFree db.schema) (later_table_defs version)
@@ -29,7 +29,7 @@ pub record IsAdoptable (version : ℕ) (db : Database) (s : State) : Type 0 wher
 abbrev pub StopsAreReopened : Type 0
 StopsAreReopened = (version : ℕ) (trees : Trees) (s : State) → IsKnown version → (finds : FindsStateOf version trees s) → (db : Database) → db.trees ≡ trees → IsDatabase db → HoldsValidState version db s × (db.schema ≡ finds.schema)
 
--- The tables of a good state, of a known version, and none that a later one adds, are refused by a fault of the store or for want of memory, and for nothing else.
+-- The tables of a valid state, of a known version, and none that a later one adds, are refused by a fault of the store or for want of memory, and for nothing else.
 abbrev pub ValidIsNotRefused : Type 0
 ValidIsNotRefused = (version : ℕ) (db : Database) (s : State) → IsAdoptable version db s → (f : AdoptFault) → IsRefusedBy db f → (f ≡ Store) ⊎ (f ≡ Memory)
 
@@ -39,17 +39,17 @@ ValidIsNotRefused = (version : ℕ) (db : Database) (s : State) → IsAdoptable 
 abbrev pub IsOpenedAfter : Database → Database → Type 0
 IsOpenedAfter old db = IsDatabase db × ((db.trees ≡ old.trees) ⊎ IsAdopted old db.trees)
 
--- Where a good state could be adopted, it can be again, in the same version or a later one, beside the same tables of
--- other names.
+-- Where a valid state could be adopted, it can be again, in the same version or a later one, with the same
+-- foreign tables.
 abbrev pub ValidIsAdoptedAgain : Type 0
 ValidIsAdoptedAgain = (version : ℕ) (old : Database) (s : State) → IsAdoptable version old s → (db : Database) → IsOpenedAfter old db → (later : ℕ) × (version ≤ later) × IsAdoptable later db s × KeepsOtherTables desk_table_defs old db
 
--- Where the names of the desk's tables were free, nothing was changed, or the opening state can be adopted, beside the same
--- tables of other names.
+-- Where the names of the desk's tables were free, nothing was changed, or the opening state can be adopted, with the same
+-- foreign tables.
 abbrev pub OpeningIsAdopted : Type 0
 OpeningIsAdopted = (old : Database) → IsDatabase old → AreFree desk_table_defs old.schema → (db : Database) → IsOpenedAfter old db → (db ≡ old) ⊎ (IsAdoptable newest_schema db opening × KeepsOtherTables desk_table_defs old db)
 
--- Where they weren't free and no good state stood in a known version, nothing was changed.
+-- Where they weren't free and there was no valid state in a known version, nothing was changed.
 abbrev pub UnknownTablesAreKept : Type 0
 UnknownTablesAreKept = (old : Database) → IsDatabase old → (AreFree desk_table_defs old.schema → ⊥) → ((version : ℕ) (s : State) → ¬ HoldsValidState version old s) → (db : Database) → IsOpenedAfter old db → db ≡ old
 

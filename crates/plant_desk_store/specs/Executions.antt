@@ -1,4 +1,4 @@
--- The life of a desk's store: its openings, the calls of a desk over it, and its stops, in whichever order they came.
+-- An execution: the openings of a desk's store, the calls of a desk over it, and its stops, in whichever order they came.
 use Rattle.std.specs.Prelude.{◌≡◌, ◌⊎◌, ℕ, Bool, false, List, [], ◌∷◌, ◌++◌, length, map, zip, slice_get, Option, Some, Result, Ok, Err}
 use Rattle.sqlite.specs.Effect.{Database}
 use Rattle.sqlite.specs.Held.{Held, state}
@@ -59,7 +59,7 @@ attempts_of list answered end = map (λ p. acknowledged p.0 p.1) (zip list answe
 abbrev pub IsOpened : store.State → Type 0
 IsOpened c = IsNewlyOpened c × IsLive c
 
--- what a life begins with: the names of the desk's tables are free; or the tables of a good state stand, of any version that
+-- what an execution begins with: the names of the desk's tables are free; or the tables of a valid state are there, of any version that
 -- can be read, and the names are free that later ones add
 abbrev pub IsBeginning : Database → Type 0
 IsBeginning db = AreFree desk_table_defs db.schema ⊎ ((version : ℕ) × ((s : State) × IsAdoptable version db s))

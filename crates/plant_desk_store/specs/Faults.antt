@@ -1,4 +1,4 @@
--- What calls below the desk came to, as the desk and an adoption tell it.
+-- What calls below the desk came to, as the desk and an adoption report it.
 use Rattle.std.specs.Prelude.{ℕ, ℤ, pos, negsuc, nat_lt, if◌then◌else◌, Option, Some, None, Result, Ok, Err}
 use Rattle.sql_tables.specs.declared.fault.Fault.{Fault}
 use Rattle.sql_tables.specs.declared.fault.Fault.TheVariants as below
@@ -14,7 +14,7 @@ use Rattle.plant_messages.specs.declared.reply.DeskFault.TheVariants as desk
 use Rattle.plant_desk_store.specs.declared.adopting.AdoptFault.{AdoptFault}
 use Rattle.plant_desk_store.specs.declared.adopting.AdoptFault.TheVariants as adopting
 
--- a fault of the store, as the desk tells it
+-- a fault of the store, as the desk reports it
 abbrev pub desk_fault : Fault → DeskFault
 desk_fault below.Store = desk.Store
 desk_fault below.Memory = desk.Memory
@@ -24,7 +24,7 @@ abbrev pub lookup_fault : ViewFault Fault → DeskFault
 lookup_fault (view.View f) = desk_fault f
 lookup_fault view.Memory = desk.Memory
 
--- a fault of the store, as an adoption tells it
+-- a fault of the store, as an adoption reports it
 abbrev pub adopt_fault : Fault → AdoptFault
 adopt_fault below.Store = adopting.Store
 adopt_fault below.Memory = adopting.Memory
@@ -34,7 +34,7 @@ abbrev pub looked_up : {A : Type 0} → Result A (ViewFault Fault) → Result A 
 looked_up (Ok a) = Ok a
 looked_up (Err f) = Err (lookup_fault f)
 
--- the rows that a test reads: a table that doesn't stand as it is declared is a fault of the store
+-- the rows that a test reads: a table that isn't declared as its definition says is a fault of the store
 abbrev pub rows_to_test : Result (Option Loaded) Fault → Result Loaded DeskFault
 rows_to_test (Ok (Some x)) = Ok x
 rows_to_test (Ok None) = Err desk.Store
@@ -46,7 +46,7 @@ rows_to_adopt (Ok (Some x)) = Ok x
 rows_to_adopt (Ok None) = Err (adopting.Damaged rule.Tables)
 rows_to_adopt (Err f) = Err (adopt_fault f)
 
--- The schema of a version that table meta tells, where it is known; a number below 0, which meta can't tell, is that of none.
+-- The schema of the version in table meta, where it is known; a number below 0, which meta can't have, is that of none.
 abbrev pub schema_of_version : ℤ → Result (Option ℕ) AdoptFault
 schema_of_version (pos n) = if nat_lt newest_schema n then Err (adopting.Newer n) else Ok (Some n)
 schema_of_version (negsuc n) = Ok (Some 0)

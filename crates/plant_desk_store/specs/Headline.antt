@@ -1,4 +1,4 @@
--- The headline: what a store holds and what is told of it, whatever stops came.
+-- The main theorem: what a store holds and what is answered of it, whatever stops came.
 use Rattle.std.specs.Prelude.{◌≡◌, ◌⊎◌, ◌↔◌, ℕ, ◌+◌, true, false, List, map, filter, None, Ok, IsTrue, ⊤, Contains}
 use Rattle.std.specs.List.{AllByRecursion}
 use Rattle.std.specs.List.Sorted.{IsStrictlySortedBy}
@@ -36,14 +36,14 @@ use Rattle.plant_desk_store.specs.Executions.{Attempt, PossibleOutcome, IsOpened
 use Rattle.plant_desk_store.specs.declared.adopting.AdoptFault.{AdoptFault}
 use Rattle.plant_desk_store.specs.declared.adopting.AdoptFault.TheVariants.{Store, Memory}
 
--- ---- what is told
+-- ---- what is answered
 
 -- the trace lists just what the least relation reaches, or the lot or batch that it starts from isn't there
 abbrev pub IsTraceIn : State → Direction → Node → Answer → Type 0
 IsTraceIn s direction start (A.Trace nodes) = Lists (IsReached direction (edges_of s) start) nodes
 IsTraceIn s direction start _ = ¬ (missing s start ≡ None)
 
--- the lots that are told are just those with stock that the start is or leads to, ascending, each once, or it isn't there
+-- the lots in the answer are just those with stock that the start is or leads to, ascending, each once, or it isn't there
 abbrev pub AreStandingIn : State → Node → Answer → Type 0
 AreStandingIn s start (A.Stands lots) = IsStrictlySortedBy standing_order lots × ((a : StandingLot) → Contains lots a ↔ StandsFrom s start a)
 AreStandingIn s start _ = ¬ (missing s start ≡ None)
@@ -56,12 +56,12 @@ pub record IsStockIn (s : State) (lot : List ℕ) (a : LotAnswer) : Type 0 where
   pub sublots : map place_of_row a.sublots ≡ filter (λ p. same p.lot lot) s.places
   pub each : AllByRecursion (λ (r : Sublot). r.stock + left s.movements r.lot r.number ≡ entered s.movements r.lot r.number) a.sublots
 
--- its stock is told, or the lot isn't there
+-- the answer is the lot's stock, or the lot isn't there
 abbrev pub IsLotIn : State → List ℕ → Answer → Type 0
 IsLotIn s lot (A.Lot a) = IsStockIn s lot a
 IsLotIn s lot _ = lot_at s lot ≡ None
 
--- what an answer says of a trace, of where goods stand or of a lot, in words of movements and of the least relation
+-- what an answer says of a trace, of where goods are or of a lot, in words of movements and of the least relation
 abbrev pub SaysOf : State → Question → Answer → Type 0
 SaysOf s (Q.Trace direction start) a = IsTraceIn s direction start a
 SaysOf s (Q.Stands start) a = AreStandingIn s start a
@@ -69,19 +69,19 @@ SaysOf s (Q.Lot lot) a = IsLotIn s lot a
 SaysOf s _ a = ⊤
 
 -- Each question is answered by the definitions' answer at the state, of tables in the newest schema; and of a trace, of where
--- goods stand and of a lot that says what follows.
+-- goods are and of a lot that says what follows.
 pub record IsAnsweredIn (s : State) (q : Question) (a : Answer) : Type 0 where
   pub answered : a ≡ answer newest_schema s q
   pub says : SaysOf s q a
 
--- ---- what stands
+-- ---- what a store holds
 
 -- the database holds the tables of the state, in a schema that lacks no row of it; or the names of the desk's tables are
 -- free, and the state is the opening one
 abbrev pub IsAtState : State → Database → Type 0
 IsAtState s db = (AreFree desk_table_defs db.schema × (s ≡ opening)) ⊎ ((version : ℕ) × HoldsTablesOf version db (tables_of version s) × IsWholeIn version s)
 
--- A store that was opened is at the state, which is good: nothing in it is lost or made. An adoption refuses it by a fault of
+-- A store that was opened is at the state, which is valid: nothing in it is lost or made. An adoption refuses it by a fault of
 -- the store or for want of memory alone.
 pub record IsFoundAt {S : Type 0} (g : Ghosts S) (c : Held S) (s : State) : Type 0 where
   pub valid : StateInvariant s
@@ -89,8 +89,8 @@ pub record IsFoundAt {S : Type 0} (g : Ghosts S) (c : Held S) (s : State) : Type
   pub tables : IsAtState s (state g c).now
   pub accepted : (f : AdoptFault) (new : Held S) → HasRefused f (state g c) (state g new) → HasCleanDisk (state g new) → (f ≡ Store) ⊎ (f ≡ Memory)
 
--- The store of a desk that isn't shut, while it is open, holds the tables of the state, which is good: nothing in it is lost
--- or made. What is asked is told of it, and what would become of a command there.
+-- The store of a desk that isn't shut, while it is open, holds the tables of the state, which is valid: nothing in it is lost
+-- or made. Questions are answered by it, and checks of commands too.
 pub record IsKeptAt {S : Type 0} (g : Ghosts S) (c : Held S) (s : State) : Type 0 where
   pub valid : StateInvariant s
   pub accounted : IsAccounted s
@@ -102,7 +102,7 @@ pub record IsKeptAt {S : Type 0} (g : Ghosts S) (c : Held S) (s : State) : Type 
 abbrev pub HasOpenableCrashState : store.State → Type 0
 HasOpenableCrashState c = ∥ ((db : Database) × IsDatabase db × c.may_leave db.trees) ∥₁
 
--- what is so at each place; of a desk that is shut and of a store that was given back nothing is told but by the next opening
+-- what is so in each phase; of a desk that is shut and of a store that was given back nothing is said but at the next opening
 abbrev pub IsSoAt : {S : Type 0} → Ghosts S → Held S → State → StorePhase → Type 0
 IsSoAt g c s opened = IsFoundAt g c s
 IsSoAt g c s (desk false) = IsKeptAt g c s

@@ -79,11 +79,11 @@ pub record HasTested (old new : store.State) (r : Result (Option Rule) DeskFault
 
 -- ---- commands
 
--- tables of other names that stood as in some database still do
+-- the foreign tables that were as in some database still are
 abbrev pub PreservesForeignTables : store.State → store.State → Type 0
 PreservesForeignTables old new = (before : Database) → KeepsForeignTables before old → KeepsForeignTables before new
 
--- The changes lead from the tables of one state to those of another, which is good, each row under a key of its own.
+-- The changes lead from the tables of one state to those of another, which is valid, each row under a key of its own.
 pub record PossibleOutcomes (changes : List RowChange) (s next : State) : Type 0 where
   pub valid : StateInvariant next
   pub leads : changed_all changes (tables_of newest_schema s) ≡ tables_of newest_schema next
@@ -155,7 +155,7 @@ pub record HasChecked (version : ℕ) (old new : store.State) (r : Result DeskRo
   pub unchanged : HasCleanDisk new → OnOk r (IsUnchanged old new)
   pub named : HasCleanDisk new → IsVersion old.now (pos version) → IfErr r (NamesFirst old.now)
 
--- Good tables of an older version, of which these rows were read, were raised to the newest, or in part.
+-- Valid tables of an older version, of which these rows were read, were raised to the newest, or in part.
 pub record HasRaised (version : ℕ) (rows : DeskRows) (old new : store.State) (r : Result (Unit {0}) AdoptFault) : Type 0 where
   pub rests : new.in_transaction ≡ false
   pub raised : HasCleanDisk new → IsSettled old → (s : State) → HoldsValidState version old.now s → AreRowsOf version s rows
@@ -164,7 +164,7 @@ pub record HasRaised (version : ℕ) (rows : DeskRows) (old new : store.State) (
   pub unmade : IfErr r (λ f. f ≢ fault.Store → Survives old new (λ _. ⊥))
   pub crash : Survives old new (IsRaisedBy version (newest_schema - version) rows.meta.position (edges_from version rows.movements.items) old)
 
--- The tables of a version, which are there, were tested, and raised where they are good and older than the newest.
+-- The tables of a version, which are there, were tested, and raised where they are valid and older than the newest.
 pub record HasTaken (version : ℕ) (old new : store.State) (r : Result (Unit {0}) AdoptFault) : Type 0 where
   pub rests : new.in_transaction ≡ false
   pub valid : HasCleanDisk new → IsNewlyOpened old → IsKnown version

@@ -11,10 +11,10 @@ use Rattle.plant_desk.specs.Sendings.{Outcome, answered, stopped_before, stopped
 use Rattle.plant_desk_store.specs.Headline.{IsAtState, IsSoAt}
 use Rattle.plant_desk_store.specs.Executions.{Attempt, acknowledged, in_flight, PossibleOutcome, IsOpened, StorePhase, Execution}
 
--- ---- the commands of a life are a sending
+-- ---- the commands of an execution are a sending
 
 -- what became of a command that was sent at this state: it was acknowledged by the definitions' reply, or it was under way at
--- a stop, before it acted or behind that
+-- a stop, before it acted or after that
 abbrev pub attempt_at : State → Envelope → Outcome → Attempt
 attempt_at s e answered = acknowledged e (reply s e)
 attempt_at s e stopped_before = in_flight e
@@ -25,7 +25,7 @@ abbrev pub all_attempts : State → Sending → List Attempt
 all_attempts s [] = []
 all_attempts s (x ∷ xs) = attempt_at s x.0 x.1 ∷ all_attempts (after s x.0 x.1) xs
 
--- Wherever the commands of a life may have led, a sending of just these commands leads.
+-- Wherever the commands of an execution may have led, a sending of just these commands leads.
 abbrev pub ExecutionsAreSendings : Type 0
 ExecutionsAreSendings = (s u : State) (list : List Attempt) → PossibleOutcome s list u → (xs : Sending) × (all_attempts s xs ≡ list) × (state_after_sending s xs ≡ u)
 
@@ -53,7 +53,7 @@ AreResent (in_flight e ∷ more) = IsSome e.reference × IsNext e more × AreRes
 abbrev pub ExecutionsApplyOnce : Type 0
 ExecutionsApplyOnce = (s u : State) (list : List Attempt) → AreResent list → PossibleOutcome s list u → but_receipts u ≡ but_receipts (plain s (once s (acknowledged_of list)))
 
--- So it is of a store, whatever it has been through since its first opening: what is found and kept there, as the headline
+-- So it is of a store, whatever it has been through since its first opening: what is found and kept there, as the main theorem
 -- says it, is of such a state.
 abbrev pub StoresApplyOnce : {S : Type 0} → Ghosts S → Type 0
 StoresApplyOnce {S} g = (first c : Held S) (phase : StorePhase) (list : List Attempt) → IsOpened (state g first) → Execution g first c phase list → HasCleanDisk (state g c) → AreResent list

@@ -55,7 +55,7 @@ fn fault_of(fault: Fault) -> AdoptFault
     }
 }
 
-/// The rows that an adoption reads. `Damaged`, of the first rule, where a table doesn't stand as it is declared; Store
+/// The rows that an adoption reads. `Damaged`, of the first rule, where a table isn't declared as its definition says; Store
 /// where the store failed; Memory where there was none.
 fn rows_to_adopt(read: Result<Option<Loaded>, Fault>) -> Result<Loaded, AdoptFault>
     ensures { result ≡ spec.rows_to_adopt read }
@@ -69,9 +69,9 @@ fn rows_to_adopt(read: Result<Option<Loaded>, Fault>) -> Result<Loaded, AdoptFau
 
 impl<S: Alter> Desk<S> {
     /// Adopts a store in which no transaction is open. One that has none of the desk's tables gets them, with the
-    /// opening state, in one transaction; good tables of an older schema are raised to the newest, one schema after the
-    /// other, each in a transaction of its own; tables of other names aren't read and stay.
-    /// What a stop leaves is then that state, and after a fault what it left before, the opening state, or the good state that
+    /// opening state, in one transaction; valid tables of an older schema are raised to the newest, one schema after the
+    /// other, each in a transaction of its own; foreign tables aren't read and stay.
+    /// What a stop leaves is then that state, and after a fault what it left before, the opening state, or the valid state that
     /// was there, in its schema or a later one.
     ///
     /// - `Newer`: the tables are of a schema above the newest. Nothing is changed.
@@ -79,7 +79,7 @@ impl<S: Alter> Desk<S> {
     ///   it. Nothing is changed.
     /// - `Memory`: nothing is changed.
     /// - `Store`: the tables are as they were, or, where there were none, made with the opening state, or, where they were
-    ///   good and of an older schema, raised, to the newest or to one between.
+    ///   valid and of an older schema, raised, to the newest or to one between.
     pub fn adopt(alloc: Global, mut connection: Connection<S>) -> Result<Desk<S>, AdoptRefused<S>>
         requires { (state S.Store connection).in_transaction ≡ false }
         ensures adopted { IfOk result (λ desk. HasAdopted (state S.Store connection)
@@ -114,7 +114,7 @@ fn adopt_on<S: Alter>(alloc: Global, connection: &mut Connection<S>) -> Result<(
 }
 
 /// The schema of the tables that were found, `None` where there are none of the desk's. `Damaged`, of the first rule, where
-/// table meta tells no version; `Newer` where it tells one above the newest; Store where the store failed; Memory where
+/// table meta has no version; `Newer` where it has one above the newest; Store where the store failed; Memory where
 /// there was none.
 fn schema_found(found: Result<FoundTables, Fault>) -> Result<Option<u64>, AdoptFault>
     ensures { result ≡ spec.schema_found found }
@@ -127,7 +127,7 @@ fn schema_found(found: Result<FoundTables, Fault>) -> Result<Option<u64>, AdoptF
     }
 }
 
-/// The schema of a version, where it is known; `Newer` where it is above the newest. Of a number that meta can't tell, as
+/// The schema of a version, where it is known; `Newer` where it is above the newest. Of a number that meta can't have, as
 /// none is below 1, this is 0, which is no schema's.
 fn schema_of_version(version: i64) -> Result<Option<u64>, AdoptFault>
     ensures { result ≡ spec.schema_of_version version }
@@ -139,7 +139,7 @@ fn schema_of_version(version: i64) -> Result<Option<u64>, AdoptFault>
     Ok(Some(schema))
 }
 
-/// Tests the tables of a schema, which are there, and raises them where they are good and the schema isn't the newest.
+/// Tests the tables of a schema, which are there, and raises them where they are valid and the schema isn't the newest.
 fn adopt_tables<S: Alter>(
     alloc: Global,
     connection: &mut Connection<S>,
@@ -167,7 +167,7 @@ fn make_opening<S: Alter>(connection: &mut Connection<S>) -> Result<(), AdoptFau
     }
 }
 
-/// Reads all tables of a schema, and tests whether they are those of a good state. Nothing is changed.
+/// Reads all tables of a schema, and tests whether they are those of a valid state. Nothing is changed.
 fn check_tables<S: Alter>(
     alloc: Global,
     connection: &mut Connection<S>,
@@ -181,7 +181,7 @@ fn check_tables<S: Alter>(
     }
 }
 
-/// Tests whether the rows that were loaded of the tables of a schema are those of a good state.
+/// Tests whether the rows that were loaded of the tables of a schema are those of a valid state.
 fn check_loaded(alloc: Global, loaded: Loaded, schema: u64) -> Result<DeskRows, AdoptFault>
     ensures fit { IfOk result (PassesChecks loaded schema) }
     ensures broken { IfErr result (BrokenBy loaded) }
@@ -195,7 +195,7 @@ fn check_loaded(alloc: Global, loaded: Loaded, schema: u64) -> Result<DeskRows, 
     }
 }
 
-/// Raises good tables of an older schema, whose rows these are, to the newest, one schema after the other.
+/// Raises valid tables of an older schema, whose rows these are, to the newest, one schema after the other.
 fn raise_tables<S: Alter>(
     alloc: Global,
     connection: &mut Connection<S>,

@@ -14,7 +14,7 @@ pub(crate) enum CheckError {
     Broken(Rule),
     /// They break no rule and are of another schema.
     Schema,
-    /// There was no memory to tell.
+    /// There was no memory to decide it.
     Memory,
 }
 

@@ -28,7 +28,7 @@ pub(crate) fn fault_in(fault: ViewFault<Fault>) -> DeskFault
     }
 }
 
-/// What look-ups came to, as the desk tells it.
+/// What look-ups came to, as the desk reports it.
 pub(crate) fn looked_up<T>(answer: Result<T, ViewFault<Fault>>) -> Result<T, DeskFault>
     ensures { result ≡ spec.looked_up answer }
 {
@@ -38,7 +38,7 @@ pub(crate) fn looked_up<T>(answer: Result<T, ViewFault<Fault>>) -> Result<T, Des
     }
 }
 
-/// The rows that a test reads. Store where a table doesn't stand as it is declared, and where the store failed; Memory
+/// The rows that a test reads. Store where a table isn't declared as its definition says, and where the store failed; Memory
 /// where there was none.
 pub(crate) fn rows_to_test(read: Result<Option<Loaded>, Fault>) -> Result<Loaded, DeskFault>
     ensures { result ≡ spec.rows_to_test read }

@@ -16,29 +16,29 @@ use plant_desk::Keeper;
 use plant_messages::{Answer, DeskFault, Question, Reply};
 use sqlite::Alter;
 
-/// The headline: stopped before or within any write, however often, reopening gives the tables of all acknowledged commands,
+/// The main theorem: stopped before or within any write, however often, reopening gives the tables of all acknowledged commands,
 /// or of those and the ones under way; there each trace is exactly the least relation closed under recorded consumption,
 /// production, split and merge, and every lot's stock is what entered less what left.
 ///
 /// What it supposes of a call is what the call ensures: [`Desk::adopt`], [`Desk::run`], [`Desk::verify`], and `execute`,
-/// `check` and `ask` of a desk, as [`execute_with_outcome`], [`check_with_outcome`] and [`ask_with_outcome`] tell them.
+/// `check` and `ask` of a desk, as [`execute_with_outcome`], [`check_with_outcome`] and [`ask_with_outcome`] state it.
 pub fn headline_law<S: Alter>()
     ensures { Headline S.Store }
 {}
 
 /// A client who gives each command a reference and sends each that was under way at a stop again, until it is acknowledged.
 ///
-/// `sendings`: wherever the commands of a life may have led, a sending of just these commands leads, in which each was answered
-/// by the definitions' reply, or stopped before it acted or behind that. `once`: such a client's commands lead, but for receipts,
-/// where the acknowledged ones lead, each taken once, in a desk without receipts. `stores`: of such a state are what the headline
-/// says of a store, whatever it has been through.
+/// `sendings`: wherever the commands of an execution may have led, a sending of just these commands leads, in which each
+/// was answered by the definitions' reply, or stopped before it acted or after that. `once`: such a client's commands
+/// lead, but for receipts, where the acknowledged ones lead, each taken once, in a desk without receipts. `stores`: of
+/// such a state are what the main theorem says of a store, whatever it has been through.
 pub fn resend_law<S: Alter>()
     ensures sendings { ExecutionsAreSendings }
     ensures once { ExecutionsApplyOnce }
     ensures stores { StoresApplyOnce S.Store }
 {}
 
-/// Executes a command over a desk that isn't shut: what comes of it, in the words of the headline.
+/// Executes a command over a desk that isn't shut: what comes of it, in the terms of the main theorem.
 /// `Store` where the store failed; the desk is then shut, and the command is stored or not. `Memory` where memory was
 /// refused; nothing has changed then.
 pub fn execute_with_outcome<S: Alter>(
@@ -52,7 +52,7 @@ pub fn execute_with_outcome<S: Alter>(
     desk.execute(envelope)
 }
 
-/// Checks a command at a desk that isn't shut: what comes of it, in the words of the headline.
+/// Checks a command at a desk that isn't shut: what comes of it, in the terms of the main theorem.
 /// `Store` where the store failed; `Memory` where memory was refused. The desk isn't shut by either.
 pub fn check_with_outcome<S: Alter>(
     desk: &mut Desk<S>,
@@ -66,7 +66,7 @@ pub fn check_with_outcome<S: Alter>(
     desk.check(envelope)
 }
 
-/// Asks a desk that isn't shut: what comes of it, in the words of the headline.
+/// Asks a desk that isn't shut: what comes of it, in the terms of the main theorem.
 /// `Store` where the store failed; `Memory` where memory was refused. The desk isn't shut by either.
 pub fn ask_with_outcome<S: Alter>(
     desk: &mut Desk<S>,
@@ -80,21 +80,21 @@ pub fn ask_with_outcome<S: Alter>(
     desk.ask(question)
 }
 
-/// What follows from the clauses of a desk, as laws about their words; the function itself does nothing.
+/// What follows from the clauses of a desk, as laws about what they say; the function itself does nothing.
 ///
 /// `reopened`: whatever database is opened over what a stop left, it holds the tables of the state that was to be found
 /// there, in the same schema. So the states that a clause names as those that a stop leaves are those at which a desk is
 /// adopted again.
-/// `unrefused`: the tables of a good state are refused by a fault of the store or for want of memory, and for nothing else.
-/// `marks`: wherever the tables of a state stand, the rows of table mark are just the pairs of an open recall and a lot or
-/// batch that it reaches: the recalled lot, and what one or more edges lead to from it.
+/// `unrefused`: the tables of a valid state are refused by a fault of the store or for want of memory, and for nothing else.
+/// `marks`: in whatever database has the tables of a state, the rows of table mark are just the pairs of an open recall
+/// and a lot or batch that it reaches: the recalled lot, and what one or more edges lead to from it.
 ///
 /// The others are of what an adoption leaves (`crash` of `Desk::adopt`), whatever it answers, once it is opened again.
-/// `adopted_again`: where a good state could be adopted, its tables stand there, in the same schema or a later one, and it
+/// `adopted_again`: where a valid state could be adopted, its tables are there, in the same schema or a later one, and it
 /// can be adopted again; of a schema between the one that was found and the newest, where the names that later ones add are
 /// still free. `opening_adopted`: where the names of the desk's tables were free, nothing was changed, or the opening state
-/// can be adopted. `foreign_tables_kept`: where they weren't free and no good state stood there, nothing was changed. Tables of
-/// other names stand as they did.
+/// can be adopted. `foreign_tables_kept`: where they weren't free and there was no valid state, nothing was changed. Foreign
+/// tables are as they were.
 pub fn desk_laws()
     ensures reopened { StopsAreReopened }
     ensures unrefused { ValidIsNotRefused }

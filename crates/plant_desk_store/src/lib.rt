@@ -1,4 +1,4 @@
-//! The desk over its file: a keeper whose state stands in the tables of one store.
+//! The desk over its file: a keeper whose state is in the tables of one store.
 #![tactic(auto)]
 
 mod adopting;

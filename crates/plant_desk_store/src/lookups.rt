@@ -9,7 +9,7 @@ ghost use Rattle.plant_view.specs.OneBatch.{PutsOneBatch};
 ghost use Rattle.plant_causes.specs.Causes.{checked};
 ghost use Rattle.plant_answers.specs.Answers.{answer};
 ghost use Rattle.plant_keyed.specs.LookupOutcomes.{PreservesFrame};
-ghost use Rattle.plant_keyed.specs.EdgeCaching.{AreEdgesOf};
+ghost use Rattle.plant_keyed.specs.Caching.{IsCacheOf};
 ghost use Rattle.plant_desk_store.specs.Lookups.{IsDecidedAt};
 ghost use Rattle.plant_desk_store.specs.Parts.{HasDecided, HasForeseen, HasAnswered};
 ghost use Rattle.plant_desk_store.specs.DeskStates.{ShowsState};
@@ -18,7 +18,7 @@ use crate::faults::looked_up;
 use plant_answers::answer;
 use plant_base::Envelope;
 use plant_causes::{Checked, check};
-use plant_keyed::{EdgeCache, Keyed};
+use plant_keyed::{Keyed, LookupCache};
 use plant_messages::{Answer, DeskFault, Question};
 use plant_rules::decide;
 use plant_view::{Decision, ViewFault};
@@ -45,8 +45,8 @@ pub(crate) fn decide_on<S: Alter>(
     ensures { HasDecided (state S.Store connection.old) (state S.Store connection.new) envelope.now
         result }
 {
-    let mut edges = EdgeCache::unread(alloc);
-    let mut view = Keyed::new(alloc, connection, &mut edges);
+    let mut cache = LookupCache::unread(alloc);
+    let mut view = Keyed::new(alloc, connection, &mut cache);
     looked_up(decide_over(alloc, &mut view, envelope))
 }
 
@@ -61,7 +61,7 @@ fn decide_over<S: Alter>(
     ensures frame { PreservesFrame (state S.Store view.old.conn.now) (state S.Store view.new.conn.now)
         view.old.has_failed view.new.has_failed }
     ensures decided { HasCleanDisk (state S.Store view.new.conn.now) → (s : State)
-        → ShowsState (state S.Store view.old.conn.now) s → AreEdgesOf s view.old.edges.now
+        → ShowsState (state S.Store view.old.conn.now) s → IsCacheOf s view.old.cache.now
         → IfOk result (IsDecidedAt s envelope.now) }
     ensures one_batch { IfOk result (λ d. PutsOneBatch d.decision) }
     ensures small { IfOk result (λ d. d.seq ≤ greatest_seq) }
@@ -94,8 +94,8 @@ pub(crate) fn check_on<S: Alter>(
     ensures { HasForeseen (state S.Store connection.old) (state S.Store connection.new) envelope.now
         result }
 {
-    let mut edges = EdgeCache::unread(alloc);
-    let mut view = Keyed::new(alloc, connection, &mut edges);
+    let mut cache = LookupCache::unread(alloc);
+    let mut view = Keyed::new(alloc, connection, &mut cache);
     looked_up(check_over(alloc, &mut view, envelope))
 }
 
@@ -109,7 +109,7 @@ fn check_over<S: Alter>(
     ensures frame { PreservesFrame (state S.Store view.old.conn.now) (state S.Store view.new.conn.now)
         view.old.has_failed view.new.has_failed }
     ensures checks { HasCleanDisk (state S.Store view.new.conn.now) → (s : State)
-        → ShowsState (state S.Store view.old.conn.now) s → AreEdgesOf s view.old.edges.now
+        → ShowsState (state S.Store view.old.conn.now) s → IsCacheOf s view.old.cache.now
         → IfOk result (λ c. c ≡ checked s envelope.now) }
 {
     // A position that was read shows that the connection is open.
@@ -138,8 +138,8 @@ pub(crate) fn answer_on<S: Alter>(
     ensures { HasAnswered (state S.Store connection.old) (state S.Store connection.new) question.now
         result }
 {
-    let mut edges = EdgeCache::unread(alloc);
-    let mut view = Keyed::new(alloc, connection, &mut edges);
+    let mut cache = LookupCache::unread(alloc);
+    let mut view = Keyed::new(alloc, connection, &mut cache);
     looked_up(answer_over(alloc, &mut view, question))
 }
 
@@ -153,7 +153,7 @@ fn answer_over<S: Alter>(
     ensures frame { PreservesFrame (state S.Store view.old.conn.now) (state S.Store view.new.conn.now)
         view.old.has_failed view.new.has_failed }
     ensures answers { HasCleanDisk (state S.Store view.new.conn.now) → (s : State)
-        → ShowsState (state S.Store view.old.conn.now) s → AreEdgesOf s view.old.edges.now
+        → ShowsState (state S.Store view.old.conn.now) s → IsCacheOf s view.old.cache.now
         → IfOk result (λ a. a ≡ answer newest_schema s question.now) }
 {
     // A position that was read shows that the connection is open.

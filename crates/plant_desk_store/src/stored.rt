@@ -14,7 +14,7 @@ use plant_messages::{Answer, DeskFault, Question, Reply};
 use sqlite::{Alter, Connection};
 use std::alloc::Global;
 
-/// A desk over its file: its records stand in the tables of one store.
+/// A desk over its file: its state is in the tables of one store.
 ///
 /// A command or a question reads the rows that it names, and a trace all edges, where they are many. Nothing of the state is kept between
 /// calls but whether the desk is shut.
@@ -49,9 +49,9 @@ impl<S: Alter> Desk<S> {
         run_over(self.alloc, self, list)
     }
 
-    /// Reads and tests all tables: the first rule that they break. A desk whose store has kept its word answers `None`, or a
-    /// fault: `Store` where a table doesn't stand any more as it is declared, and where the store fails; `Memory`; `Shut`
-    /// exactly from a desk that is shut. Nothing is changed, and an open desk stays open.
+    /// Reads and tests all tables: the first rule that they break. A desk whose store has kept its specification answers
+    /// `None`, or a fault: `Store` where a table isn't declared any more as its definition says, and where the store
+    /// fails; `Memory`; `Shut` exactly from a desk that is shut. Nothing is changed, and an open desk stays open.
     pub fn verify(&mut self) -> Result<Option<Rule>, DeskFault>
         ensures verified { self.old.is_shut ≡ false → HasVerified (state S.Store self.old.connection)
             (state S.Store self.new.connection) result }
@@ -66,9 +66,9 @@ impl<S: Alter> Desk<S> {
     }
 
     /// Makes the indexes that the tables lack whose names are free, in one transaction: those of a file that was made
-    /// before there were such. They are there for speed alone, so that a desk stands where it stood, and is as open as it
-    /// was, also where they can't be made: `Store` where the store fails; `Memory` where there is none; `Shut` exactly from
-    /// a desk that is shut. Where no name is free nothing is written.
+    /// before there were such. They are there for speed alone, so that a desk represents what it represented, and is as
+    /// open as it was, also where they can't be made: `Store` where the store fails; `Memory` where there is none; `Shut`
+    /// exactly from a desk that is shut. Where no name is free nothing is written.
     pub fn add_indexes(&mut self) -> Result<(), DeskFault>
         ensures indexed { self.old.is_shut ≡ false → HasIndexed (state S.Store self.old.connection)
             (state S.Store self.new.connection) result }
@@ -130,7 +130,7 @@ impl<S: Alter> Keeper for Desk<S> {
 
     ghost adds_no_crash_state = { λ a b. Survives (state S.Store a.connection) (state S.Store b.connection) (λ _. ⊥) };
 
-    // Tables of other names, as they stand in a database.
+    // The foreign tables, as those of a database.
     ghost ForeignTables = { Database };
 
     ghost foreign_tables = { λ d before. HasForeignTables (state S.Store d.connection) d.is_shut before };

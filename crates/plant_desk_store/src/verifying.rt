@@ -14,7 +14,7 @@ use plant_tables_read::Loaded;
 use sqlite::{Alter, Connection};
 use std::alloc::Global;
 
-/// The first rule that the tables of a store break. Store where a table doesn't stand as it is declared, and where the
+/// The first rule that the tables of a store break. Store where a table isn't declared as its definition says, and where the
 /// store fails; Memory where there is none. Nothing is changed.
 pub(crate) fn verify_on<S: Alter>(
     alloc: Global,

@@ -68,7 +68,7 @@ abbrev IsCountUpTo : Node → List (Node × Node) → ℕ → Type 0
 IsCountUpTo x links = IsPartitionPoint (λ (l : Node × Node). is_le (node_cmp l.0 x) ≡ true) (λ (l : Node × Node). is_le (node_cmp l.0 x) ≡ false) links
 
 module _ (x : Node) (links : List (Node × Node)) (from to : ℕ) (low : from ≤ length links) (high : to ≤ length links) (before : IsCountBefore x links from) (up_to : IsCountUpTo x links to) where
-  -- a link between the two counts the wrong way round would begin both before the node and behind it
+  -- a link between the two counts the wrong way round would begin both before the node and after it
   crossed : to < from → ⊥
   crossed less =
       let d : Node × Node = (x, x) in
@@ -86,7 +86,7 @@ module _ (x : Node) (links : List (Node × Node)) (from to : ℕ) (low : from �
   itself_too : is_le (node_cmp x x) ≡ true
   itself_too = ap is_le (tied_itself node_total x)
 
-  -- a link that begins at the node stands in the part
+  -- a link that begins at the node is in the part
   here : (p : Node × Node) (k : ℕ) → k < length links → get_or links k p ≡ p → p.0 ≡ x → Contains part p
   here p k within is begins =
       let at : (get_or links k p).0 ≡ x = ap (λ (l : Node × Node). l.0) is ∙ begins in
@@ -113,7 +113,7 @@ module _ (x : Node) (links : List (Node × Node)) (from to : ℕ) (low : from �
 
 -- ---- all edges
 
--- the rows of all edges tell each edge of the movements, and no other
+-- the rows of all edges are those of each edge of the movements, and of no other
 pub all_reported : (ms : List Movement) (d : Direction) (links : List (Node × Node)) → AreTurned d (map ends_of (edge_rows ms)) links → AreTurned d (edges_among ms) links
 all_reported ms d links are p = (
   λ has. (are p).0 (let of_row = pair_row ms p has in subst (Contains (map ends_of (edge_rows ms))) of_row.2 (mapped_in ends_of (edge_rows ms) of_row.0 of_row.1)),

@@ -54,7 +54,7 @@ named_is name (Some id) = text_is id name
 pub batch_is : (m : Movement) (batch : List ℕ) → has_values (8 ∷ []) (Text batch ∷ []) (row_of_movement m) ≡ is_named batch (batch_by m.kind)
 batch_is m batch = and_true _ ∙ named_is batch (batch_by m.kind)
 
--- the other lot is told of a movement as its column holds it
+-- the other lot of a movement is the one in its column
 same_other : (k : MovementKind) (lot : List ℕ) → column_lot k lot ≡ other_lot k lot
 same_other kind.Received lot = refl
 same_other _ lot = refl

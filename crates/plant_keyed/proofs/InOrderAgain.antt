@@ -24,7 +24,7 @@ module _ {R : Type 0} (order : R → R → Ordering) (total : IsTotalOrder order
   abbrev IsApart : R → List R → Type 0
   IsApart r xs = AllByRecursion (λ x. ties r x ≡ false) xs
 
-  -- no two of the rows have one place in the order
+  -- no two of the rows tie in the order
   abbrev pub IsOnce : List R → Type 0
   IsOnce xs = (r : R) → length (filter (ties r) xs) ≤ 1
 
@@ -54,7 +54,7 @@ module _ {R : Type 0} (order : R → R → Ordering) (total : IsTotalOrder order
   sorted_once [] sorted r = omega arith
   sorted_once (x ∷ xs) sorted r = by_tie r x xs (all_weaker (λ y. order x y ≡ Less) (λ y. ties x y ≡ false) (λ y less. ap is_eq less) xs sorted.0) (sorted_once xs sorted.1 r) (order r x) refl
 
-  -- each row is at another place than those behind it
+  -- each row is at another position than those after it
   abbrev pub AreApart : List R → Type 0
   AreApart [] = Unit {0}
   AreApart (x ∷ xs) = IsApart x xs × AreApart xs
@@ -84,7 +84,7 @@ module _ {R : Type 0} (order : R → R → Ordering) (total : IsTotalOrder order
       let few = rw itself at (once x) in
       apart_of x xs (omega (arith, few))
 
-  -- such rows stand in the order, each once, when they are put in order
+  -- such rows are in the order, each once, when they are put in order
   pub ordered : (ys : List R) → IsOnce ys → IsStrictlySortedBy order (in_order order ys) × IsPermutation ys (in_order order ys)
   unfolding IsStrictlySortedBy
   ordered [] once = (tt, IsPermutation-refl [])
@@ -136,6 +136,6 @@ kept_in_order order total p xs once =
 
 -- ---- rows that ascend by a key, in another order
 
--- they have no two at one place of an order that sets different keys apart
+-- no two of them tie in an order that sets different keys apart
 pub once_by_key : {R : Type 0} (key order : R → R → Ordering) (total : IsTotalOrder key) (total' : IsTotalOrder order) → ((a b : R) → is_eq (order a b) ≡ true → is_eq (key a b) ≡ true) → (xs : List R) → IsStrictlySortedBy key xs → IsOnce order total' xs
 once_by_key key order total total' apart xs sorted r = omega (arith, fewer (ties order total' r) (ties key total r) (apart r) xs, sorted_once key total xs sorted r)

@@ -1,4 +1,4 @@
--- A page of a table of a good state is the first of the rows that pass.
+-- A page of a table of a valid state is the first of the rows that pass.
 use Rattle.std.proofs.Common.{◌≡◌, ◌∙◌, ◌≤◌, ◌+◌, ℕ, zero, suc, Bool, false, List, [], ◌∷◌, map, filter, take, length, nat_lt, Option, Some, refl, sym, ap, subst, arith}
 use Rattle.std.specs.Prelude.{IsSorted}
 use Rattle.std.specs.List.{AllByRecursion}
@@ -125,7 +125,7 @@ module _ {R : Type 0} (row_from : Row → Option R) (written : R → Row) (P : R
     (by_columns : (a b : R) → order a b ≡ stored_order by (written a) (written b))
     (db : Database) (rs : List R) (represents : HasStoredRows db table_def (map written rs)) (once : IsOnce order total rs) (all : AllByRecursion P rs)
     (places : List ℕ) (next : ℕ) (values : Row) (p : R → Bool) (tests : (r : R) → is_beyond places next values (written r) ≡ p r) where
-  -- where no two rows have one place in the order, the rows of a page are the first of those that pass, as they are sorted
+  -- where no two rows tie in the order, the rows of a page are the first of those that pass, as they are sorted
   pub page_in_order : (page : Page R) → IsPaged db table_def by row_from places next values page → page ≡ page_of (in_order order (filter p rs))
   page_in_order page is =
       let list = in_order order rs in

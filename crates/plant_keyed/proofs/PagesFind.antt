@@ -1,4 +1,4 @@
--- What a page finds among the tables of a good state.
+-- What a page finds among the tables of a valid state.
 use Rattle.std.proofs.Common.{◌≡◌, ◌∙◌, ℕ, ◌+◌, Bool, true, false, ◌&&◌, ◌==◌, if◌then◌else◌, List, [], ◌∷◌, Option, Some, None, refl, sym, ap, ap₂, codes, pos}
 use Rattle.std.specs.Cmp.{IsTotalOrder, unsigned_ties}
 use Rattle.std.specs.List.{AllByRecursion}
@@ -81,13 +81,13 @@ by_text_number a b m n = ap₂ ordering_then (sym (value_cmp-Text a b)) (by_numb
 number_order_total : IsTotalOrder number_order
 number_order_total = on_total (λ r. r.seq) nat_cmp_total
 
--- those of different numbers are at different places
+-- those of different numbers don't tie
 places_apart : (rs : List Receipt) → AreApart rs → ArePlacesApart number_order number_order_total rs
 places_apart [] apart = tt
 places_apart (r ∷ rs) apart =
     (all_weaker (λ q. (r.seq == q.seq) ≡ false) (λ q. is_eq (number_order r q) ≡ false) (λ q other. sym (unsigned_ties r.seq q.seq) ∙ other) rs apart.0, places_apart rs apart.1)
 
--- ---- the value that a list is of, and the place to go on from
+-- ---- the value that a list is of, and the cursor to go on from
 
 above_is : (cursor : Option (List ℕ)) (id : List ℕ) → is_gt (value_cmp (Text id) (Text (text_after cursor))) ≡ is_after cursor id
 above_is cursor id = ap is_gt (value_cmp-Text id (text_after cursor))
@@ -123,7 +123,7 @@ asked_after cursor = Text (text_after cursor) ∷ number (page_size + 1) ∷ []
 abbrev pub asked : Value → Option (List ℕ) → Row
 asked value cursor = value ∷ asked_after cursor
 
--- ---- the tables of a good state
+-- ---- the tables of a valid state
 
 module _ (db : Database) (s : State) (valid : StateInvariant s) (holds : HoldsTables db (tables_of newest_schema s)) where
   abbrev t : Tables
@@ -193,7 +193,7 @@ module _ (db : Database) (s : State) (valid : StateInvariant s) (holds : HoldsTa
 
   -- ---- in another order than that of a table's key
 
-  -- no two receipts have one place, since their numbers differ
+  -- no two receipts tie, since their numbers differ
   pub receipts_are : (cursor : Option ℕ) (page : Page Receipt) → IsPaged db receipt_table (2 ∷ []) receipt_from [] 2 (number (number_after cursor) ∷ number (page_size + 1) ∷ []) page → page ≡ page_of (receipts_by_number s cursor)
   receipts_are cursor =
       let once = apart_once number_order number_order_total s.receipts (places_apart s.receipts valid.receipts.apart) in

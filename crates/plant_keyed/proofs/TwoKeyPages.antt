@@ -56,7 +56,7 @@ use Rattle.plant_keyed.proofs.AbstractionIsState.{movement_again}
 use Rattle.plant_keyed.proofs.ComparisonTests.{named_is, text_is}
 use Rattle.std.proofs.Math.Bool.{or-false, and-or_distrib_right}
 
--- after the place of two values: with its first value and after its second, or after its first
+-- after the cursor of two values: with its first value and after its second, or after its first
 after : (s : Bool) (o p : Ordering) → ((s && (is_eq o && is_gt p)) || (s && is_gt o)) ≡ (s && is_gt (ordering_then o p))
 after false o p = refl
 after true Less p = refl
@@ -75,7 +75,7 @@ module _ {R : Type 0} (row_from : Row → Option R) (written : R → Row) (P : R
   abbrev is_far : R → Bool
   is_far r = s r && is_gt (o r)
 
-  -- the rows of such a page are the first of those that come after the place
+  -- the rows of such a page are the first of those that come after the cursor
   pub beyond_again : (page : Page R) → IsPagedBeyond db table_def by row_from order place next last given first second page → page ≡ page_of (filter (λ r. s r && is_gt (ordering_then (o r) (p r))) rs)
   beyond_again page is =
       let one = page_again row_from written P again table_def by order by_columns db rs represents sorted all (place ∷ next ∷ []) last (given ∷ first ∷ second ∷ number (page_size + 1) ∷ []) is_near near is.first is.of_first in
@@ -83,7 +83,7 @@ module _ {R : Type 0} (row_from : Row → Option R) (written : R → Row) (P : R
       is.as_one (filter is_near rs) (filter is_far rs) one other
       ∙ ap page_of (merged_filters order total is_near is_far rs sorted ∙ (λ i. filter (λ r. after (s r) (o r) (p r) i) rs))
 
--- the same in another order than that of the list, where no two rows have one place in it
+-- the same in another order than that of the list, where no two rows tie in it
 module _ {R : Type 0} (row_from : Row → Option R) (written : R → Row) (P : R → Type 0) (again : (r : R) → P r → row_from (written r) ≡ Some r) (table_def : TableDef) (by : List ℕ) (order : R → R → Ordering) (total : IsTotalOrder order)
     (by_columns : (a b : R) → order a b ≡ stored_order by (written a) (written b))
     (db : Database) (rs : List R) (represents : HasStoredRows db table_def (map written rs)) (once : IsOnce order total rs) (all : AllByRecursion P rs)
@@ -97,7 +97,7 @@ module _ {R : Type 0} (row_from : Row → Option R) (written : R → Row) (P : R
       beyond_again row_from written P again table_def by order total by_columns db list (relisted written db table_def rs list made.1 represents) made.0 (all-permutation P rs list made.1 all) place next last given first second s o p near far page is
       ∙ ap page_of (kept_in_order order total (λ r. s r && is_gt (ordering_then (o r) (p r))) rs once)
 
--- ---- keys and places as a store compares them
+-- ---- keys and cursors as a store compares them
 
 by_two_numbers : (a b m n : ℕ) → ordering_then (nat_cmp a b) (nat_cmp m n) ≡ ordering_then (value_cmp (number a) (number b)) (ordering_then (value_cmp (number m) (number n)) Equal)
 by_two_numbers a b m n = ap₂ ordering_then (sym (number_cmp a b)) (by_number m n)
@@ -168,7 +168,7 @@ named_so lot cursor m = by m.kind
     by (kind.Merged to) = sym (and-or_distrib_right (same m.lot lot) (same to lot) b)
     by _ = sym (and-or_distrib_right (same m.lot lot) false b)
 
--- ---- the tables of a good state
+-- ---- the tables of a valid state
 
 module _ (db : Database) (s : State) (valid : StateInvariant s) (holds : HoldsTables db (tables_of newest_schema s)) where
   values : HasValidValues (tables_of newest_schema s)
@@ -184,7 +184,7 @@ module _ (db : Database) (s : State) (valid : StateInvariant s) (holds : HoldsTa
       (λ r. both_so (text_is (recipe_state_name r.state) (recipe_state_name state)) (both_so (ap is_eq (value_cmp-Text r.header.recipe place.recipe)) (ap is_gt (number_cmp r.header.version place.version))))
       (λ r. both_so (text_is (recipe_state_name r.state) (recipe_state_name state)) (ap is_gt (value_cmp-Text r.header.recipe place.recipe)))
 
-  -- no two orders have one place, since their ids differ
+  -- no two orders tie, since their ids differ
   pub orders_by_due_are : (state : JobState) (cursor : Option DueCursor) (page : Page Job)
       → IsPagedBeyond db job_table (5 ∷ 1 ∷ []) job_from due_order 7 5 1 (Text (job_state_name state)) (Text (due_after cursor).due) (Text (due_after cursor).order) page → page ≡ page_of (orders_by_due s state cursor)
   orders_by_due_are state cursor =
@@ -197,7 +197,7 @@ module _ (db : Database) (s : State) (valid : StateInvariant s) (holds : HoldsTa
       (λ r. both_so (text_is (job_state_name r.state) (job_state_name state)) (both_so (ap is_eq (value_cmp-Text r.order.due place.due)) (ap is_gt (value_cmp-Text r.order.order place.order))))
       (λ r. both_so (text_is (job_state_name r.state) (job_state_name state)) (ap is_gt (value_cmp-Text r.order.due place.due)))
 
-  -- movements that come after a place, by a column that names a lot
+  -- movements that come after a cursor, by a column that names a lot
   pub movements_beyond : (place : ℕ) (lot : List ℕ) (cursor : Option MovementCursor) (names : Movement → Bool)
       → ((m : Movement) → IsNear place (names m) lot (movement_after cursor).seq (movement_after cursor).line m) → ((m : Movement) → IsFar place (names m) lot (movement_after cursor).seq m) → (page : Page Movement)
       → IsPagedBeyond db movement_table (first_of movement_table.keys) movement_read movement_order place 1 2 (Text lot) (number (movement_after cursor).seq) (number (movement_after cursor).line) page → page ≡ page_of (filter (λ m. names m && is_movement_after cursor m) s.movements)

@@ -7,6 +7,6 @@ use Rattle.plant_invariant.specs.StateInvariant.{StateInvariant}
 use Rattle.plant_tables.specs.Keyed.{HoldsTables}
 use Rattle.plant_keyed.specs.Abstraction.{abstraction}
 
--- a database that holds the tables of a good state shows that state
+-- a database that holds the tables of a valid state shows that state
 abbrev pub AbstractionIsState : Type 0
 AbstractionIsState = (db : Database) (s : State) → StateInvariant s → HoldsTables db (tables_of newest_schema s) → abstraction db ≡ s

@@ -8,7 +8,7 @@ use Rattle.sql_queries.specs.Reading.{Finds}
 use Rattle.sql_queries.specs.Rises.{Rises}
 use Rattle.plant_tables_columns.specs.DecodedRows.{all_from}
 
--- These rows of the desk were read of the table's rows that have the values in the places, by the table's first key.
+-- These rows of the desk were read of the table's rows that have the values in these columns, by the table's first key.
 pub record AreFound (db : Database) (table_def : TableDef) {R : Type 0} (row_from : Row → Option R) (places : List ℕ) (values : Row) (rows : List R) : Type 0 where
   pub stored : List Row
   pub finds : Finds db table_def places values stored

@@ -39,6 +39,6 @@ pub record HasEdgesAt (d : Direction) (x : Node) (all some : List (Node × Node)
 abbrev pub AreTurned : Direction → List (Node × Node) → List (Node × Node) → Type 0
 AreTurned d pairs links = (p : Node × Node) → Contains pairs p ↔ Contains links (turned d p)
 
--- they stand in the order of their near ends
+-- they are in the order of their near ends
 abbrev pub Ascend : List (Node × Node) → Type 0
 Ascend links = IsSortedByKey (λ (l : Node × Node). l.0) node_cmp links

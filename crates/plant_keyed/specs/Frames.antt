@@ -9,9 +9,9 @@ use Rattle.plant_view.specs.Tables.{tables_of}
 use Rattle.plant_invariant.specs.StateInvariant.{StateInvariant}
 use Rattle.plant_tables.specs.Keyed.{HoldsTables}
 use Rattle.plant_keyed.specs.LookupOutcomes.{IsHonest, PreservesFrame}
-use Rattle.plant_keyed.specs.EdgeCaching.{CacheStaysValid}
+use Rattle.plant_keyed.specs.Caching.{CacheStaysValid}
 use Rattle.plant_keyed.specs.Abstraction.{abstraction}
-use Rattle.plant_keyed.specs.declared.edge_cache.EdgeCache.{EdgeCache}
+use Rattle.plant_keyed.specs.declared.lookup_cache.LookupCache.{LookupCache}
 
 pub frame_refl : (c : store.State) (failed : Bool) → PreservesFrame c c failed failed
 frame_refl c failed = record {
@@ -51,10 +51,10 @@ honest_before old new was failed frame honest =
 
 -- ---- what is remembered
 
-pub stays_refl : (c : store.State) (failed : Bool) (is : EdgeCache) → CacheStaysValid c.now c failed is is
+pub stays_refl : (c : store.State) (failed : Bool) (is : LookupCache) → CacheStaysValid c.now c failed is is
 stays_refl c failed is honest = (λ h. h, λ h. h)
 
-pub stays_trans : (a : Database) (b c : store.State) (f g h : Bool) (x y z : EdgeCache) → PreservesFrame b c g h → CacheStaysValid a b g x y → CacheStaysValid b.now c h y z → CacheStaysValid a c h x z
+pub stays_trans : (a : Database) (b c : store.State) (f g h : Bool) (x y z : LookupCache) → PreservesFrame b c g h → CacheStaysValid a b g x y → CacheStaysValid b.now c h y z → CacheStaysValid a c h x z
 stays_trans a b c f g h x y z frame first second honest =
     let one = first (honest_before b c g h frame honest) in
     let two = second honest in

@@ -9,7 +9,7 @@ use Rattle.sql_tables.specs.AtRest.{Keeps}
 use Rattle.plant_tables.specs.Keyed.{HoldsTables}
 use Rattle.plant_keyed.specs.Abstraction.{abstraction}
 
--- The store kept its word, no look-up failed, and the tables are those of the good state that they show.
+-- The store kept its specification, no look-up failed, and the tables are those of the valid state that they show.
 pub record IsHonest (c : store.State) (has_failed : Bool) : Type 0 where
   pub clean : HasCleanDisk c
   pub unfailed : has_failed ≡ false
@@ -25,7 +25,7 @@ pub record PreservesFrame (old new : store.State) (had_failed has_failed : Bool)
   pub shows : HasCleanDisk new → has_failed ≡ false → new.now ≡ old.now
   pub live : HasCleanDisk new → has_failed ≡ false → IsTrue old.is_open → IsTrue new.is_open
 
--- What a look-up tells: where it ends honest it was so before, and the fact holds.
+-- What a look-up reports: where it ends honest it was so before, and the fact holds.
 pub record IsReported (old new : store.State) (had_failed has_failed : Bool) (fact : Type 0) : Type 0 where
   pub always : PreservesFrame old new had_failed has_failed
   pub before : IsHonest new has_failed → IsHonest old had_failed

@@ -12,7 +12,7 @@ use Rattle.plant_tables_columns.specs.Kinds.{number}
 use Rattle.plant_worklists.specs.Pages.{page_size, page_of}
 use Rattle.plant_worklists.specs.declared.page.Page.{Page}
 
--- These rows of the desk were read of a page of the table's rows, in the order of the columns at these places.
+-- These rows of the desk were read of a page of the table's rows, in the order of the columns with these indexes.
 pub record IsPaged (db : Database) (table_def : TableDef) (by : List ℕ) {R : Type 0} (row_from : Row → Option R) (places : List ℕ) (next : ℕ) (values : Row) (page : Page R) : Type 0 where
   pub stored : List Row
   pub paged : IsPage db table_def by places next values page_size stored page.has_more
@@ -26,7 +26,7 @@ pub record IsOfBoth {R : Type 0} (order : R → R → Ordering) (is_first is_sec
   pub of_second : is_second second
   pub as_one : (xs ys : List R) → first ≡ page_of xs → second ≡ page_of ys → page ≡ page_of (sorted_merge order true xs ys)
 
--- The rows with a given value in one column, and after a place of two values in two others: those with its first value and after its
+-- The rows with a given value in one column, and after a cursor of two values in two others: those with its first value and after its
 -- second, and those after its first.
 abbrev pub IsPagedBeyond : Database → TableDef → List ℕ → {R : Type 0} → (Row → Option R) → (R → R → Ordering) → ℕ → ℕ → ℕ → Value → Value → Value → Page R → Type 0
 IsPagedBeyond db table_def by row_from order place next last given first second =

@@ -8,7 +8,7 @@ ghost use Rattle.plant_trace.specs.Reach.{IsNext, Lists};
 ghost use Rattle.plant_view.specs.Genealogy.{edge_rows, edges_of, ends_of};
 ghost use Rattle.plant_keyed.specs.Edges.{begins_at, id_of, AreKindsAt, AreTurned, HasEdgesAt};
 ghost use Rattle.plant_keyed.specs.LookupOutcomes.{PreservesFrame, IsReported};
-ghost use Rattle.plant_keyed.specs.EdgeCaching.{AreEdgesOf, IsTraced, CacheStaysValid, one_more, are_few, are_seen};
+ghost use Rattle.plant_keyed.specs.Caching.{AreEdgesOf, IsTraced, CacheStaysValid, one_more, are_few, are_seen};
 ghost use Rattle.plant_keyed.specs.Abstraction.{abstraction};
 
 use crate::edge_cache::EdgeCache;
@@ -44,7 +44,7 @@ impl<'a, S: Alter> Keyed<'a, S> {
             self.old.has_failed self.new.has_failed
             (IfOk result (λ rows. rows.items ≡ filter (begins_at direction kind id.now)
             (edge_rows (abstraction (state S.Store self.old.conn.now).now).movements))) }
-        ensures cached { self.new.edges.now ≡ self.old.edges.now }
+        ensures cached { self.new.cache.now ≡ self.old.cache.now }
     {
         let key = [small(kind.number()), text_of(id)];
         match direction {
@@ -60,7 +60,7 @@ impl<'a, S: Alter> Keyed<'a, S> {
             self.old.has_failed self.new.has_failed
             (IfOk result (λ rows. HasEdgesAt direction node.now
             (edges_of (abstraction (state S.Store self.old.conn.now).now)) (map ends_of rows.items))) }
-        ensures cached { self.new.edges.now ≡ self.old.edges.now }
+        ensures cached { self.new.cache.now ≡ self.old.cache.now }
     {
         let (kind, second) = kinds_at(node, direction);
         let id = id_of(node);
@@ -81,7 +81,7 @@ impl<'a, S: Alter> Keyed<'a, S> {
             self.old.has_failed self.new.has_failed
             (IfOk result (λ nodes. Lists (IsNext direction
             (edges_of (abstraction (state S.Store self.old.conn.now).now)) node) nodes.items)) }
-        ensures cached { self.new.edges.now ≡ self.old.edges.now }
+        ensures cached { self.new.cache.now ≡ self.old.cache.now }
     {
         let edges = self.edges_at(&node, direction)?;
         let nodes = if_memory(nodes_by(self.alloc, edges.as_slice(), node, direction))?;
@@ -95,7 +95,7 @@ impl<'a, S: Alter> Keyed<'a, S> {
             self.old.has_failed self.new.has_failed
             (IfOk result (λ rows. rows.items
             ≡ edge_rows (abstraction (state S.Store self.old.conn.now).now).movements)) }
-        ensures cached { self.new.edges.now ≡ self.old.edges.now }
+        ensures cached { self.new.cache.now ≡ self.old.cache.now }
         ensures asked { self.new.asked ≡ self.old.asked }
     {
         self.found(&EDGE, texts::EDGES, &[])
@@ -103,18 +103,18 @@ impl<'a, S: Alter> Keyed<'a, S> {
 
     /// Reads all edges and remembers them as the direction sees them. The faults are those of each look-up.
     fn fill(&mut self, direction: Direction) -> Result<(), Fault>
-        requires { self.old.edges.now.are_read ≡ false }
+        requires { self.old.cache.now.edges.are_read ≡ false }
         ensures same_reference { self.new.conn.ghost_name ≡ self.old.conn.ghost_name }
         ensures frame { PreservesFrame (state S.Store self.old.conn.now) (state S.Store self.new.conn.now)
             self.old.has_failed self.new.has_failed }
         ensures stays { CacheStaysValid (state S.Store self.old.conn.now).now (state S.Store self.new.conn.now)
-            self.new.has_failed self.old.edges.now self.new.edges.now }
-        ensures read { OnOk result (self.new.edges.now.are_read ≡ true) }
+            self.new.has_failed self.old.cache.now self.new.cache.now }
+        ensures read { OnOk result (self.new.cache.now.edges.are_read ≡ true) }
         ensures asked { self.new.asked ≡ self.old.asked }
     {
         let rows = self.all_edges()?;
         let all = if_memory(cached_by(self.alloc, rows.as_slice(), direction))?;
-        *self.edges = all;
+        self.cache.edges = all;
         Ok(())
     }
 
@@ -125,15 +125,15 @@ impl<'a, S: Alter> Keyed<'a, S> {
         ensures frame { PreservesFrame (state S.Store self.old.conn.now) (state S.Store self.new.conn.now)
             self.old.has_failed self.new.has_failed }
         ensures stays { CacheStaysValid (state S.Store self.old.conn.now).now (state S.Store self.new.conn.now)
-            self.new.has_failed self.old.edges.now self.new.edges.now }
+            self.new.has_failed self.old.cache.now self.new.cache.now }
         ensures counted { self.new.asked ≡ one_more self.old.asked }
-        ensures few { are_few (one_more self.old.asked) self.old.commands ≡ true → self.new.edges.now ≡ self.old.edges.now }
-        ensures many { are_few (one_more self.old.asked) self.old.commands ≡ false → OnOk result (self.new.edges.now.are_read ≡ true) }
-        ensures once { self.old.edges.now.are_read ≡ true
-            → (self.new.edges.now ≡ self.old.edges.now) × (self.new.conn.now ≡ self.old.conn.now) }
+        ensures few { are_few (one_more self.old.asked) self.old.commands ≡ true → self.new.cache.now ≡ self.old.cache.now }
+        ensures many { are_few (one_more self.old.asked) self.old.commands ≡ false → OnOk result (self.new.cache.now.edges.are_read ≡ true) }
+        ensures once { self.old.cache.now.edges.are_read ≡ true
+            → (self.new.cache.now ≡ self.old.cache.now) × (self.new.conn.now ≡ self.old.conn.now) }
     {
         self.asked = self.asked.saturating_add(1);
-        if self.edges.are_read || are_few(self.asked, self.commands) {
+        if self.cache.edges.are_read || are_few(self.asked, self.commands) {
             return Ok(());
         }
         self.fill(direction)
@@ -148,13 +148,13 @@ impl<'a, S: Alter> Keyed<'a, S> {
     ) -> Result<Vec<Node>, Fault>
         ensures same_reference { self.new.conn.ghost_name ≡ self.old.conn.ghost_name }
         ensures traced { IsTraced (state S.Store self.old.conn.now) (state S.Store self.new.conn.now)
-            self.old.has_failed self.new.has_failed self.old.edges.now self.new.edges.now
+            self.old.has_failed self.new.has_failed self.old.cache.now self.new.cache.now
             (IfOk result (λ nodes. Lists (IsNext direction
             (edges_of (abstraction (state S.Store self.old.conn.now).now)) node) nodes.items)) }
-        ensures unasked { are_seen direction self.old.edges.now ≡ true → self.new.conn.now ≡ self.old.conn.now }
+        ensures unasked { are_seen direction self.old.cache.now.edges ≡ true → self.new.conn.now ≡ self.old.conn.now }
     {
         self.fill_if_many(direction)?;
-        let known = if_memory(recalled(self.alloc, self.edges, &node, direction))?;
+        let known = if_memory(recalled(self.alloc, &self.cache.edges, &node, direction))?;
         match known {
             Some(nodes) => Ok(nodes),
             None => self.look_up_next(node, direction),

@@ -18,9 +18,9 @@ use sqlite::types::ValueRef;
 use sqlite::{Alter, Connection, Row};
 use std::alloc::Global;
 
-/// The rows of a table that have the given values, by the first key of the table. Store where the table doesn't stand
-/// as it is declared, where a transaction is open, where a value of a row breaks its rule, and where the store fails;
-/// Memory where there is none. Nothing is changed.
+/// The rows of a table that have the given values, by the first key of the table. Store where the table isn't
+/// declared as its definition says, where a transaction is open, where a value of a row breaks its rule, and where the store
+/// fails; Memory where there is none. Nothing is changed.
 pub(crate) fn found_rows<S: Alter, R: Decoded>(
     alloc: Global,
     conn: &mut Connection<S>,

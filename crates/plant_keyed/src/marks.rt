@@ -36,7 +36,7 @@ impl<'a, S: Alter> Keyed<'a, S> {
             self.old.has_failed self.new.has_failed
             (IfOk result (λ rows. rows.items
             ≡ marks_on (abstraction (state S.Store self.old.conn.now).now) node.now)) }
-        ensures cached { self.new.edges.now ≡ self.old.edges.now }
+        ensures cached { self.new.cache.now ≡ self.old.cache.now }
     {
         let kind = kind_of(node);
         let key = [small(kind.number()), text_of(id_of(node))];

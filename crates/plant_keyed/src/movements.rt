@@ -22,7 +22,7 @@ impl<'a, S: Alter> Keyed<'a, S> {
             self.old.has_failed self.new.has_failed
             (IfOk result (λ rows. rows.items
             ≡ movements_of (abstraction (state S.Store self.old.conn.now).now) batch.now)) }
-        ensures cached { self.new.edges.now ≡ self.old.edges.now }
+        ensures cached { self.new.cache.now ≡ self.old.cache.now }
     {
         self.found(&MOVEMENT, texts::MOVEMENTS_OF_BATCH, &[id(batch)])
     }

@@ -67,7 +67,7 @@ pub(crate) fn decoded_page<R>(
     }
 }
 
-/// A page of the rows of a table, in the order of the columns at these places. Store where a value of a row breaks its rule,
+/// A page of the rows of a table, in the order of the columns with these indexes. Store where a value of a row breaks its rule,
 /// and as `find_page`; Memory where there is none. Nothing is changed.
 fn page_over<S: Alter, R: Decoded>(
     alloc: Global,
@@ -110,7 +110,7 @@ impl<'a, S: Alter> Keyed<'a, S> {
             places next (bound values.now)) }
         ensures frame { PreservesFrame (state S.Store self.old.conn.now) (state S.Store self.new.conn.now)
             self.old.has_failed self.new.has_failed }
-        ensures cached { self.new.edges.now ≡ self.old.edges.now }
+        ensures cached { self.new.cache.now ≡ self.old.cache.now }
     {
         match page_over(self.alloc, self.conn, table_def, by, sql, values) {
             Ok(page) => Ok(page),
@@ -142,7 +142,7 @@ impl<'a, S: Alter> Keyed<'a, S> {
             ∷ number (page_size + 1) ∷ [])) }
         ensures frame { PreservesFrame (state S.Store self.old.conn.now) (state S.Store self.new.conn.now)
             self.old.has_failed self.new.has_failed }
-        ensures cached { self.new.edges.now ≡ self.old.edges.now }
+        ensures cached { self.new.cache.now ≡ self.old.cache.now }
     {
         let bounds = [given, word(text_after(cursor)), small(PAGE_SIZE + 1)];
         self.page_found(table_def, first_key(table_def), sql, &bounds)
@@ -164,14 +164,14 @@ impl<'a, S: Alter> Keyed<'a, S> {
             (Text (text_after cursor.now) ∷ number (page_size + 1) ∷ [])) }
         ensures frame { PreservesFrame (state S.Store self.old.conn.now) (state S.Store self.new.conn.now)
             self.old.has_failed self.new.has_failed }
-        ensures cached { self.new.edges.now ≡ self.old.edges.now }
+        ensures cached { self.new.cache.now ≡ self.old.cache.now }
     {
         let bounds = [word(text_after(cursor)), small(PAGE_SIZE + 1)];
         self.page_found(table_def, first_key(table_def), sql, &bounds)
     }
 
-    /// A page of the rows that have this value in one column, and come after a place of two values in two others, in the order
-    /// of the columns at these places: by one text those with its first value and after its second, by another those after its
+    /// A page of the rows that have this value in one column, and come after a cursor of two values in two others, in the order
+    /// of the columns with these indexes: by one text those with its first value and after its second, by another those after its
     /// first. The faults are those of each look-up.
     pub(crate) fn page_beyond<'v, R: Decoded + HasKeyOrder + Copy + Drop>(
         &mut self,
@@ -200,7 +200,7 @@ impl<'a, S: Alter> Keyed<'a, S> {
             (bound_value (owned first.entry)) (bound_value (owned second.entry)))) }
         ensures frame { PreservesFrame (state S.Store self.old.conn.now) (state S.Store self.new.conn.now)
             self.old.has_failed self.new.has_failed }
-        ensures cached { self.new.edges.now ≡ self.old.edges.now }
+        ensures cached { self.new.cache.now ≡ self.old.cache.now }
     {
         let place = [given, first, second, small(PAGE_SIZE + 1)];
         let near = self.page_found(table_def, by, at, &place)?;

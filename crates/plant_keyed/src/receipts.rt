@@ -96,7 +96,7 @@ fn receipts_page_by(
     )
 }
 
-/// A page of the receipts of a table, in the order of the columns at these places, as that of the rows of any other.
+/// A page of the receipts of a table, in the order of the columns with these indexes, as that of the rows of any other.
 fn receipts_page_over<S: Alter>(
     alloc: Global,
     conn: &mut Connection<S>,
@@ -138,7 +138,7 @@ impl<'a, S: Alter> Keyed<'a, S> {
             places next (bound values.now)) }
         ensures frame { PreservesFrame (state S.Store self.old.conn.now) (state S.Store self.new.conn.now)
             self.old.has_failed self.new.has_failed }
-        ensures cached { self.new.edges.now ≡ self.old.edges.now }
+        ensures cached { self.new.cache.now ≡ self.old.cache.now }
     {
         match receipts_page_over(self.alloc, self.conn, table_def, by, sql, values) {
             Ok(page) => Ok(page),
@@ -149,8 +149,8 @@ impl<'a, S: Alter> Keyed<'a, S> {
         }
     }
 
-    /// A page of the receipts of a table that have a number after this one in a column, in the order of the columns at these
-    /// places. Store also where the number is above those that a column holds.
+    /// A page of the receipts of a table that have a number after this one in a column, in the order of the columns with these
+    /// indexes. Store also where the number is above those that a column holds.
     pub(crate) fn receipts_page_after(
         &mut self,
         table_def: &TableDef<'_>,
@@ -166,7 +166,7 @@ impl<'a, S: Alter> Keyed<'a, S> {
             [] next (number (number_after cursor) ∷ number (page_size + 1) ∷ [])) }
         ensures frame { PreservesFrame (state S.Store self.old.conn.now) (state S.Store self.new.conn.now)
             self.old.has_failed self.new.has_failed }
-        ensures cached { self.new.edges.now ≡ self.old.edges.now }
+        ensures cached { self.new.cache.now ≡ self.old.cache.now }
     {
         let bounds = [large(number_after(cursor))?, small(PAGE_SIZE + 1)];
         self.receipts_page_found(table_def, by, sql, &bounds)
@@ -188,7 +188,7 @@ impl<'a, S: Alter> Keyed<'a, S> {
             receipt_from places (bound values.now) rows.items) }
         ensures frame { PreservesFrame (state S.Store self.old.conn.now) (state S.Store self.new.conn.now)
             self.old.has_failed self.new.has_failed }
-        ensures cached { self.new.edges.now ≡ self.old.edges.now }
+        ensures cached { self.new.cache.now ≡ self.old.cache.now }
     {
         match found_receipts(self.alloc, self.conn, table_def, sql, values) {
             Ok(rows) => Ok(rows),
@@ -206,7 +206,7 @@ impl<'a, S: Alter> Keyed<'a, S> {
             self.old.has_failed self.new.has_failed
             (IfOk result (λ row. row
             ≡ receipt_at (abstraction (state S.Store self.old.conn.now).now) reference.now)) }
-        ensures cached { self.new.edges.now ≡ self.old.edges.now }
+        ensures cached { self.new.cache.now ≡ self.old.cache.now }
     {
         let rows = self.receipts_found(&RECEIPT, texts::RECEIPT_BY_ID, &[id(reference)])?;
         Ok(first_of(rows))

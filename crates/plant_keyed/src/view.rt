@@ -1,5 +1,5 @@
-// Look-ups over a connection as a view: honest while the store keeps its word and no look-up fails, over the tables of a
-// good state.
+// Look-ups over a connection as a view: honest while the store keeps its specification and no look-up fails, over the tables of a
+// valid state.
 ghost use Rattle.std.specs.Prelude.{◌≡◌, refl};
 ghost use Rattle.std.proofs.Common.{ap};
 ghost use Rattle.sqlite.specs.Held.{state};
@@ -7,7 +7,7 @@ ghost use Rattle.plant_trace.specs.HoldsIfHonest.{same_along};
 ghost use Rattle.plant_view.specs.Genealogy.{edges_of};
 ghost use Rattle.plant_keyed.specs.LookupOutcomes.{IsHonest, PreservesFrame};
 ghost use Rattle.plant_keyed.specs.Abstraction.{abstraction};
-ghost use Rattle.plant_keyed.specs.EdgeCaching.{AreEdgesOf, CacheStaysValid};
+ghost use Rattle.plant_keyed.specs.Caching.{IsCacheOf, CacheStaysValid};
 ghost use Rattle.plant_keyed.specs.Frames.{frame_refl, frame_trans, stays_refl, stays_trans};
 
 use crate::keyed::Keyed;
@@ -30,7 +30,7 @@ impl<'a, S: Alter> Edges for Keyed<'a, S> {
     type Fault = Fault;
 
     ghost honest = { λ k. IsHonest (state S.Store k.conn.now) k.has_failed
-        × AreEdgesOf (abstraction (state S.Store k.conn.now).now) k.edges.now };
+        × IsCacheOf (abstraction (state S.Store k.conn.now).now) k.cache.now };
 
     ghost pairs = { λ k. edges_of (abstraction (state S.Store k.conn.now).now) };
 
@@ -38,7 +38,7 @@ impl<'a, S: Alter> Edges for Keyed<'a, S> {
 
     ghost frame = { λ k l. (l.conn.ghost_name ≡ k.conn.ghost_name)
         × PreservesFrame (state S.Store k.conn.now) (state S.Store l.conn.now) k.has_failed l.has_failed
-        × CacheStaysValid (state S.Store k.conn.now).now (state S.Store l.conn.now) l.has_failed k.edges.now l.edges.now };
+        × CacheStaysValid (state S.Store k.conn.now).now (state S.Store l.conn.now) l.has_failed k.cache.now l.cache.now };
 
     fn succ(&mut self, node: Node) -> Result<Vec<Node>, Fault> {
         self.next_nodes(node, Direction::Forward)
@@ -55,13 +55,13 @@ impl<'a, S: Alter> Edges for Keyed<'a, S> {
     ghost frame_refl = { λ k. (
       refl,
       frame_refl _ k.has_failed,
-      stays_refl _ k.has_failed k.edges.now,
+      stays_refl _ k.has_failed k.cache.now,
     ) };
 
     ghost frame_trans = { λ k l m a b. (
       same_along a.0 b.0,
       frame_trans _ _ _ _ _ _ a.1 b.1,
-      stays_trans _ _ _ k.has_failed l.has_failed m.has_failed k.edges.now l.edges.now m.edges.now b.1 a.2 b.2,
+      stays_trans _ _ _ k.has_failed l.has_failed m.has_failed k.cache.now l.cache.now m.cache.now b.1 a.2 b.2,
     ) };
 
     ghost kept_pairs = { λ k l a. ap (λ db. edges_of (abstraction db)) a };
@@ -71,7 +71,7 @@ impl<'a, S: Alter> View for Keyed<'a, S> {
     ghost state = { λ k. abstraction (state S.Store k.conn.now).now };
 
     fn position(&mut self) -> Result<Position, Fault> {
-        self.read_position()
+        self.known_position()
     }
 
     fn class(&mut self, id: Id) -> Result<Option<Class>, Fault> {

@@ -1,4 +1,4 @@
-// Pages of the desk's lists, each by a query with the value that the list is of, the place to go on from, and a limit; the
+// Pages of the desk's lists, each by a query with the value that the list is of, the cursor to go on from, and a limit; the
 // movements of a lot; and pages of what lots have.
 
 ghost use Rattle.std.specs.Prelude.{◌≡◌, if◌then◌else◌};

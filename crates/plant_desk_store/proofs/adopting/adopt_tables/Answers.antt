@@ -21,7 +21,7 @@ returns-in_err-rows g c =
     let is : c.from_residual.result ≡ Err c.in_err-rows.field-0.0 = search rules in
     subst (HasTaken c.args.schema old new) (sym is) (unread c.args.schema old new c.in_err-rows.field-0.0 laws c.requires c.in_err-rows.ensures)
 
--- they are good, and the tables are raised
+-- they are valid, and the tables are raised
 pub returns-then-schema-lt-NEWEST_SCHEMA : goal.returns-then-schema-lt-NEWEST_SCHEMA
 returns-then-schema-lt-NEWEST_SCHEMA g c =
     let held = c.check_tables.new.connection in
@@ -31,7 +31,7 @@ returns-then-schema-lt-NEWEST_SCHEMA g c =
     raised_or_not c.args.schema older c.in_ok-rows.rows (state g.S.Store c.args.connection.now) mid (state g.S.Store c.raise_tables.new.connection) first c.in_ok-rows.ensures
     c.raise_tables.result c.raise_tables.ensures
 
--- they are good, and of the newest schema
+-- they are valid, and of the newest schema
 pub returns : goal.returns
 returns g c =
     let old = state g.S.Store c.args.connection.now in

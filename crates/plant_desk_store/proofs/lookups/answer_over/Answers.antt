@@ -13,7 +13,7 @@ returns-clause-answers g c clean s at known =
     let new = state g.S.Store c.answer.new.view.conn.now in
     let first = c.in-Ok.ensures.reported in
     let second = c.in-Ok-answer.ensures in
-    let honest = honest_at old mid new c.args.view.now.has_failed c.read_position.new.self.has_failed c.answer.new.view.has_failed c.args.view.now.edges.now c.read_position.new.self.edges.now c.answer.new.view.edges.now s first.always second.always.1 c.in-Ok.ensures.cached second.always.2 clean c.if-view.false c.in-Ok.ensures.live at known in
+    let honest = honest_at old mid new c.args.view.now.has_failed c.read_position.new.self.has_failed c.answer.new.view.has_failed c.args.view.now.cache.now c.read_position.new.self.cache.now c.answer.new.view.cache.now s first.always second.always.1 c.in-Ok.ensures.stays second.always.2 clean c.if-view.false c.in-Ok.ensures.live at known in
     subst (λ (u : State). c.in-Ok-answer.answer ≡ answer newest_schema u c.args.question.now) honest.shows (second.holds (honest.ends, honest.true_of) (second.before (honest.ends, honest.true_of)).0.valid.sound)
 
 -- the answer is dropped where a look-up failed

@@ -13,7 +13,7 @@ returns-clause-checks g c clean s at known =
     let new = state g.S.Store c.check.new.view.conn.now in
     let first = c.in-Ok.ensures.reported in
     let second = c.in-Ok-check.ensures in
-    let honest = honest_at old mid new c.args.view.now.has_failed c.read_position.new.self.has_failed c.check.new.view.has_failed c.args.view.now.edges.now c.read_position.new.self.edges.now c.check.new.view.edges.now s first.always second.always.1 c.in-Ok.ensures.cached second.always.2 clean c.if-view.false c.in-Ok.ensures.live at known in
+    let honest = honest_at old mid new c.args.view.now.has_failed c.read_position.new.self.has_failed c.check.new.view.has_failed c.args.view.now.cache.now c.read_position.new.self.cache.now c.check.new.view.cache.now s first.always second.always.1 c.in-Ok.ensures.stays second.always.2 clean c.if-view.false c.in-Ok.ensures.live at known in
     subst (λ (u : State). c.in-Ok-check.checked ≡ checked u c.args.envelope.now) honest.shows (second.holds (honest.ends, honest.true_of))
 
 -- what is said is dropped where a look-up failed

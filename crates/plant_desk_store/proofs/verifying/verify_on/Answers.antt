@@ -6,7 +6,7 @@ use Rattle.plant_base.specs.State.{newest_schema}
 use Rattle.sql_tables.specs.declared.fault.Fault.TheVariants as fault
 use Rattle.plant_tables_read.specs.Loading.{AreLoaded}
 use Rattle.plant_messages.specs.declared.reply.DeskFault.TheVariants.{Shut}
-use Rattle.plant_check_complete.proofs.InvariantImpliesChecksPass.{read_valid}
+use Rattle.plant_check_laws.proofs.InvariantImpliesChecksPass.{read_valid}
 use Rattle.plant_invariant_tables.proofs.TablesHaveValidValues.{newest_known}
 use Rattle.plant_desk_store.proofs.FaultsOfCalls.{tested_rows, unshut, untested_unshut}
 use Rattle.plant_desk_store.proofs.verifying.verify_on.Goals as goal

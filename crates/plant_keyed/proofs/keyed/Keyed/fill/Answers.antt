@@ -1,12 +1,15 @@
-use Rattle.std.proofs.Common.{◌∙◌, sym, subst}
+use Rattle.std.proofs.Common.{◌≡◌, ◌∙◌, Option, IfSome, ap, sym, subst}
 use Rattle.std.proofs.lemmas.Bool.{false≢true}
 use Rattle.sqlite.specs.Effect.{Database}
 use Rattle.sqlite.specs.Held.{state}
+use Rattle.plant_base.specs.declared.rows.Position.{Position}
 use Rattle.plant_trace.specs.declared.direction.Direction.{Direction}
 use Rattle.plant_view.specs.Genealogy.{edges_of}
+use Rattle.plant_view.specs.Tables.{position_of}
 use Rattle.plant_keyed.specs.Edges.{AreTurned}
-use Rattle.plant_keyed.specs.EdgeCaching.{AreEdgesOf}
+use Rattle.plant_keyed.specs.Caching.{AreEdgesOf}
 use Rattle.plant_keyed.specs.Abstraction.{abstraction}
+use Rattle.plant_keyed.specs.declared.lookup_cache.LookupCache.{LookupCache}
 use Rattle.plant_keyed.proofs.CachedEdges.{all_reported}
 use Rattle.plant_keyed.proofs.keyed.Keyed.fill.Goals as goal
 
@@ -18,7 +21,14 @@ returns-clause-stays g c honest =
     let now = reported.always.shows honest.clean honest.unfailed in
     let turned = rw (c.as_slice.ensures.value, reported.holds honest, c.in_ok-all.ensures.only) at c.cached_by.ensures.turned in
     let whole = all_reported (abstraction old.now).movements c.args.direction all.links.items turned in
-    let true_of : AreEdgesOf (abstraction old.now) all = λ _. subst (λ (d : Direction). AreTurned d (edges_of (abstraction old.now)) all.links.items) (sym (rw c.in_ok-all.ensures.only at c.cached_by.ensures.way)) whole in (
-      λ _. subst (λ (db : Database). AreEdgesOf (abstraction db) all) (sym now) true_of,
-      λ _ read. absurd (false≢true (sym c.requires ∙ read)),
+    let true_of : AreEdgesOf (abstraction old.now) all = λ _. subst (λ (d : Direction). AreTurned d (edges_of (abstraction old.now)) all.links.items) (sym (rw c.in_ok-all.ensures.only at c.cached_by.ensures.way)) whole in
+    let same = ap (λ (k : LookupCache). k.position) c.all_edges.ensures.cached in (
+      λ was. record {
+        position = subst (λ (db : Database). IfSome c.all_edges.new.self.cache.now.position (λ p. p ≡ position_of (abstraction db))) (sym now) (subst (λ (o : Option Position). IfSome o (λ p. p ≡ position_of (abstraction old.now))) (sym same) was.position);
+        edges = subst (λ (db : Database). AreEdgesOf (abstraction db) all) (sym now) true_of;
+      },
+      λ is. record {
+        position = subst (λ (o : Option Position). IfSome o (λ p. p ≡ position_of (abstraction old.now))) same (subst (λ (db : Database). IfSome c.all_edges.new.self.cache.now.position (λ p. p ≡ position_of (abstraction db))) now is.position);
+        edges = λ read. absurd (false≢true (sym c.requires ∙ read));
+      },
     )

@@ -12,7 +12,7 @@ returns-in-Some-clause-traced g c =
     let new = state g.S.Store c.fill_if_many.new.self.conn.now in
     recalled_so old new _ _ _ _ (λ s. Lists (IsNext c.args.direction (edges_of s) c.args.node) c.in-Some.nodes.items)
     c.fill_if_many.ensures.frame c.fill_if_many.ensures.stays
-    (λ true_of. rw (c.in_ok-known.ensures.only, c.in-Some.is) at (c.recalled.ensures.next (abstraction new.now) true_of))
+    (λ true_of. rw (c.in_ok-known.ensures.only, c.in-Some.is) at (c.recalled.ensures.next (abstraction new.now) true_of.edges))
 
 pub returns-in-None-clause-traced : goal.returns-in-None-clause-traced
 returns-in-None-clause-traced g c =

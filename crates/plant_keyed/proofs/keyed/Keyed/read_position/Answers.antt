@@ -6,7 +6,8 @@ use Rattle.plant_base.specs.Values.{greatest_seq}
 use Rattle.plant_tables_columns.proofs.OptionalValues.{some_same}
 use Rattle.plant_tables_columns.proofs.RowLaws.{meta_reads}
 use Rattle.plant_keyed.proofs.LookupFinds.{meta_is}
-use Rattle.plant_keyed.proofs.LookupsKeep.{reported_by}
+use Rattle.plant_keyed.specs.declared.lookup_cache.LookupCache.{LookupCache}
+use Rattle.plant_keyed.proofs.LookupsKeep.{reported_by, position_stays}
 use Rattle.plant_keyed.proofs.TextsSelect.{meta}
 use Rattle.plant_keyed.proofs.keyed.Keyed.read_position.Goals as goal
 
@@ -27,3 +28,14 @@ returns-in-Some-clause-small g c =
     let decoded = rw c.in-Some.is at c.in_ok-meta.ensures.decoded in
     let most : nat_le c.in-Some.meta.position.seq greatest_seq ≡ true = (meta_reads.keeps decoded.0 c.in-Some.meta decoded.1).seq in
     grind (arith, nat_tests)
+
+pub returns-in-Some-clause-stays : goal.returns-in-Some-clause-stays
+returns-in-Some-clause-stays g c =
+    let old = state g.S.Store c.args.self.now.conn.now in
+    let new = state g.S.Store c.first_found.new.self.conn.now in
+    let same = c.first_found.ensures.cached in
+    position_stays old new c.args.self.now.has_failed c.first_found.new.self.has_failed c.args.self.now.cache.now c.remember.new.self c.in-Some.meta.position c.first_found.ensures.frame
+    (c.remember.ensures.edges ∙ ap (λ (k : LookupCache). k.edges) same)
+    (λ q e. c.remember.ensures.known q (ap (λ (k : LookupCache). k.position) same ∙ e))
+    (λ e. c.remember.ensures.unknown (ap (λ (k : LookupCache). k.position) same ∙ e))
+    (returns-in-Some-clause-reported g c).holds

@@ -1,23 +1,30 @@
--- What look-ups remember of the edges.
-use Rattle.std.specs.Prelude.{◌≡◌, ◌↔◌, ℕ, ◌+◌, ◌/◌, min, Bool, true, false, nat_le, ◌&&◌}
+-- What lookups remember: the position and the edges.
+use Rattle.std.specs.Prelude.{◌≡◌, ◌↔◌, ℕ, ◌+◌, ◌/◌, min, Bool, true, false, nat_le, ◌&&◌, IfSome}
 use Rattle.sqlite.specs.Effect.{Database}
 use Rattle.sqlite.specs.State as store
 use Rattle.plant_base.specs.State.{State}
 use Rattle.plant_trace.specs.declared.direction.Direction.{Direction}
 use Rattle.plant_trace.specs.declared.direction.Direction.TheVariants.{Forward, Back}
 use Rattle.plant_view.specs.Genealogy.{edges_of}
+use Rattle.plant_view.specs.Tables.{position_of}
 use Rattle.plant_keyed.specs.Edges.{AreTurned}
 use Rattle.plant_keyed.specs.LookupOutcomes.{IsHonest, IsReported}
 use Rattle.plant_keyed.specs.Abstraction.{abstraction}
 use Rattle.plant_keyed.specs.declared.edge_cache.EdgeCache.{EdgeCache}
+use Rattle.plant_keyed.specs.declared.lookup_cache.LookupCache.{LookupCache}
 
 -- what is remembered, if edges were read, is all edges of the state
 abbrev pub AreEdgesOf : State → EdgeCache → Type 0
 AreEdgesOf s d = d.are_read ≡ true → AreTurned d.direction (edges_of s) d.links.items
 
+-- what is remembered is true of the state: the position, if it was read, and the edges
+pub record IsCacheOf (s : State) (c : LookupCache) : Type 0 where
+  pub position : IfSome c.position (λ p. p ≡ position_of s)
+  pub edges : AreEdgesOf s c.edges
+
 -- where the look-ups end honest, what is remembered is as true of the state that they show as what was remembered before
-abbrev pub CacheStaysValid : Database → store.State → Bool → EdgeCache → EdgeCache → Type 0
-CacheStaysValid old new failed was is = IsHonest new failed → AreEdgesOf (abstraction old) was ↔ AreEdgesOf (abstraction new.now) is
+abbrev pub CacheStaysValid : Database → store.State → Bool → LookupCache → LookupCache → Type 0
+CacheStaysValid old new failed was is = IsHonest new failed → IsCacheOf (abstraction old) was ↔ IsCacheOf (abstraction new.now) is
 
 -- one more node asked for, counted up to the greatest number of 64 bits
 abbrev pub one_more : ℕ → ℕ
@@ -37,7 +44,7 @@ is_same_way _ _ = false
 abbrev pub are_seen : Direction → EdgeCache → Bool
 are_seen direction d = d.are_read && is_same_way d.direction direction
 
--- What look-ups tell of edges: the fact holds where what was remembered is true.
-pub record IsTraced (old new : store.State) (had_failed has_failed : Bool) (was is : EdgeCache) (fact : Type 0) : Type 0 where
-  pub reported : IsReported old new had_failed has_failed (AreEdgesOf (abstraction old.now) was → fact)
+-- What look-ups report of edges: the fact holds where what was remembered is true.
+pub record IsTraced (old new : store.State) (had_failed has_failed : Bool) (was is : LookupCache) (fact : Type 0) : Type 0 where
+  pub reported : IsReported old new had_failed has_failed (IsCacheOf (abstraction old.now) was → fact)
   pub stays : CacheStaysValid old.now new has_failed was is

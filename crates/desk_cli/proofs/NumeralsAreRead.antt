@@ -1,4 +1,4 @@
--- Numbers in words, as std reads them.
+-- Numbers in arguments, as std reads them.
 use Rattle.std.proofs.Common.{◌≡◌, ◌<◌, ◌≤◌, ◌^◌, ℕ, Bool, true, false, List, length, Some, None, nat_le, ◌&&◌, if◌then◌else◌, ap, ◌∙◌, refl, rules, arith}
 use Rattle.std.specs.Prelude.{IfSome}
 use Rattle.std.specs.Str.Parse.{IsNumeral, digits_value, without_leading_plus}

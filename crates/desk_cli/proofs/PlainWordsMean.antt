@@ -1,4 +1,4 @@
--- The plain words, computed.
+-- The plain arguments, computed.
 use Rattle.std.proofs.Common.{◌≡◌, ◌||◌, Bool, true, false, List, [], ◌∷◌, None, Some, Ok, Err, codes, refl, ap, ◌∙◌, rules}
 use Rattle.std.specs.Str.{bytes_eq}
 use Rattle.clap.specs.Lexer.{long_of, short_of}
@@ -93,7 +93,7 @@ unset id = record { id = id; values = codes "false" ∷ []; count = None; source
 abbrev rows_of_serve : Text → List Row → List Row
 rows_of_serve file more = given (codes "file") (file ∷ []) ∷ number (codes "port") (codes "8080") ∷ number (codes "count") (codes "1000") ∷ more
 
--- what the words mean by their rows
+-- what the arguments mean by their rows
 by_rows : (words : List Text) (rows : List Row) (meant : Meant) → fault_of the_program words ≡ [] → subcommand_of the_program words ≡ Some (codes "serve", rows)
     → meant_in (Some (codes "serve", rows)) ≡ Ok meant → Mean words meant
 by_rows words rows meant taken found means = (taken, ap meant_in found ∙ means)

@@ -18,7 +18,7 @@ any_among p k [] h e = absurd h
 any_among p k (x ∷ xs) (inl same) e = let first : p x ≡ true = sym (ap p same) ∙ e in search (rules, first)
 any_among p k (x ∷ xs) (inr later) e = let rest = any_among p k xs later e in search (rules, rest)
 
--- what tells an error by its text is a fault of it
+-- the fault for an error, with its text, is a fault of it
 pub reported_fault : (k : ErrorKind) (usage help fault : WordsFault) → fault ≡ fault_as k usage help
     → (is_mistake k ≡ true → IsFaultOf k usage) → (asks_help k ≡ true → IsFaultOf k help) → IsFaultOf k fault
 reported_fault kind.OutOfMemory usage help fault is mistake helps = subst (IsFaultOf kind.OutOfMemory) (sym is) tt
@@ -39,7 +39,7 @@ refused_by words (Usage text) h = inl h
 refused_by words (Help text) h = h
 refused_by words Memory h = h
 
--- words of which a value breaks its rule are refused by that, or for want of memory
+-- arguments of which a value breaks its rule are refused by that, or for want of memory
 pub broken : (words : List Text) (a : Argument) (fault : WordsFault) → meant_in (subcommand_of the_program words) ≡ Err a
     → NamesBroken a fault → IsRefusedBy words fault
 broken words a (Usage text) none h = inr (a, none, h)

@@ -1,4 +1,4 @@
--- Which refusals the words of a check of a desk's file lead to.
+-- Which refusals the arguments of a check of a desk's file lead to.
 use Rattle.std.proofs.Common.{◌≡◌, List, None, inl, inr}
 use Rattle.std.specs.Prelude.{codes}
 use Rattle.clap.specs.Words.{Text, fault_of}

@@ -1,4 +1,4 @@
--- The arguments of the words, and what is told of one whose value breaks its rule.
+-- The arguments of the subcommands, and the message of one whose value breaks its rule.
 use Rattle.std.specs.Prelude.{ℕ, List, ◌++◌, codes}
 use Rattle.desk_cli.specs.declared.argument.Argument.{Argument}
 use Rattle.desk_cli.specs.declared.argument.Argument.TheVariants as argument
@@ -30,6 +30,6 @@ rule_text argument.Port = codes "PORT is a whole number from 1 to 65535"
 rule_text argument.Count = codes "COUNT is a whole number from 1 to 1000000"
 rule_text argument.Host = codes "NAME of --host is 1 to 60 of a to z, 0 to 9, - and ., the first no - and no .; 8 of them at most, and only with --page"
 
--- the lines that refuse words with such a value
+-- the lines that refuse arguments with such a value
 abbrev pub refusal_text : Argument → List ℕ
 refusal_text a = codes "error: " ++ rule_text a ++ codes "\n\nFor more information, try '--help'.\n"

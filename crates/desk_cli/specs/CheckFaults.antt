@@ -1,4 +1,4 @@
--- What is told of a check that ends before it has told all.
+-- The message of a check that ends before it has reported all.
 use Rattle.std.specs.Prelude.{ℕ, List, codes}
 use Rattle.desk_cli.specs.declared.check_fault.CheckFault.{CheckFault}
 use Rattle.desk_cli.specs.declared.check_fault.CheckFault.TheVariants as fault

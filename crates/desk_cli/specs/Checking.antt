@@ -1,12 +1,7 @@
 -- The command lines of the programs that check a file.
-use Rattle.std.specs.Prelude.{List, codes, true}
+use Rattle.std.specs.Prelude.{List, codes, Some, true}
+use Rattle.clap.specs.declared.builder.action.ArgAction.TheVariants.{SetTrue}
 use Rattle.clap.specs.Words.{App, Rule, Text, new_app, new_rule, with_rule}
-use Rattle.desk_cli.specs.declared.checking.CheckProgram.{CheckProgram}
-use Rattle.desk_cli.specs.declared.checking.CheckProgram.TheVariants as program
-
-abbrev pub program_name : CheckProgram → Text
-program_name program.Orders = codes "order_check"
-program_name program.Lines = codes "line_check"
 
 -- the name of a file, which may be left out
 abbrev pub checked_rule : Rule
@@ -21,3 +16,18 @@ versioned_app name =
 -- one that takes a file as well
 abbrev pub check_app : Text → App
 check_app name = with_rule (versioned_app name) checked_rule
+
+-- the one that checks an order file
+abbrev pub order_check_app : App
+order_check_app = check_app (codes "order_check")
+
+-- whether the schema of lines is printed
+abbrev pub schema_rule : Rule
+schema_rule = record (new_rule (codes "schema")) {
+  long = Some (codes "schema");
+  action = Some SetTrue;
+}
+
+-- the one that checks lines
+abbrev pub line_check_app : App
+line_check_app = with_rule (check_app (codes "line_check")) schema_rule

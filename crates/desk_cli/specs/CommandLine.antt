@@ -76,9 +76,9 @@ host_rule = record (new_rule (codes "host")) {
   value_names = 1;
 }
 
--- ---- words
+-- ---- subcommands
 
--- a word that takes a file
+-- a subcommand that takes a file
 abbrev pub word_app : Text → App
 word_app name = with_rule (new_app name) file_rule
 
@@ -98,20 +98,20 @@ port_app = with_rule (with_rule (with_rule (word_app (codes "serve")) port_rule)
 abbrev pub serve_app : App
 serve_app = with_rule (with_rule port_app page_rule) host_rule
 
--- the program's name alone: the word `help` has no meaning of its own
+-- the program's name alone: the subcommand `help` has no meaning of its own
 abbrev pub bare_program : App
 bare_program =
     let plain = new_app (codes "desk") in
     record plain { top = record plain.top { disable_help_subcommand = true; has_version = true } }
 
--- the words that take commands in
+-- the subcommands that take commands in
 abbrev pub with_taking : App → App
 with_taking program = with_subcommand (with_subcommand (with_subcommand program
     (word_app (codes "init")).top)
     (word_app (codes "run")).top)
     import_app.top
 
--- the words that tell of a desk
+-- the subcommands that report on a desk
 abbrev pub with_report_words : App → App
 with_report_words program = with_subcommand (with_subcommand (with_subcommand program
     trace_app.top)

@@ -1,4 +1,4 @@
--- The names of hosts that the words give.
+-- The names of hosts that the arguments give.
 use Rattle.std.specs.Prelude.{ℕ, ◌&&◌, ◌||◌, ◌==◌, nat_le, Bool, false, List, [], ◌∷◌, length, take, Option, Some, None, option_and_then, slice_get, unwrap_or, if◌then◌else◌}
 use Rattle.std.specs.List.{list_all}
 use Rattle.plant_base.specs.Values.{is_text, only}
@@ -24,7 +24,7 @@ begins_host (b ∷ bs) = is_letter_or_digit b
 abbrev pub is_host_name : List ℕ → Bool
 is_host_name text = is_text text && (begins_host text && list_all is_host_byte text)
 
--- the text at this place, the empty one behind the last
+-- the text of this index, the empty one after the last
 abbrev pub text_at : List (List ℕ) → ℕ → List ℕ
 text_at texts i = unwrap_or (option_and_then (only is_text) (slice_get texts i)) []
 

@@ -1,4 +1,4 @@
--- What the words of the command line mean.
+-- What the arguments of the command line mean.
 use Rattle.std.specs.Prelude.{◌≡◌, ◌⊎◌, ℕ, ◌&&◌, nat_le, Bool, true, false, List, [], length, codes, Option, Some, None, Result, Ok, Err, ok_or}
 use Rattle.std.specs.Prelude.{option_and_then, if◌then◌else◌, string_bytes}
 use Rattle.std.specs.List.{list_any}
@@ -114,12 +114,12 @@ serving_in rows = do
   page ← page_in rows
   Ok (record { port = port; count = count; is_logged = is_set (first_of (codes "log") rows); page = page })
 
--- ---- words
+-- ---- subcommands
 
 abbrev pub task_work : Result Task Argument → Result Work Argument
 task_work read = read >>= λ t. Ok (work.Task t)
 
--- what a word and its arguments tell to do over the file
+-- the work over the file by a subcommand and its arguments
 unfoldable pub work_in : Text → List Row → Result Work Argument
 work_in name rows = if bytes_eq name (codes "init") then Ok (work.Task task.Init)
     else (if bytes_eq name (codes "run") then Ok (work.Task task.Run)
@@ -130,14 +130,14 @@ work_in name rows = if bytes_eq name (codes "init") then Ok (work.Task task.Init
     else (if bytes_eq name (codes "serve") then (serving_in rows >>= λ s. Ok (work.Serve s))
     else Err argument.Word))))))
 
--- a word and its arguments
+-- a subcommand and its arguments
 abbrev pub meant_by : Text → List Row → Result Meant Argument
 meant_by name rows = do
   file ← ok_or (first_of (codes "file") rows) argument.File
   w ← work_in name rows
   Ok (file, w)
 
--- no word is a run over memory
+-- without arguments it is a run over memory
 abbrev pub meant_in : Option (Text × List Row) → Result Meant Argument
 meant_in None = Ok (codes ":memory:", work.Task task.Run)
 meant_in (Some p) = meant_by p.0 p.1
@@ -149,14 +149,14 @@ asks_help kind.DisplayHelp = true
 asks_help kind.DisplayVersion = true
 asks_help _ = false
 
--- a mistake in the words: neither a request for help or for the version nor want of memory
+-- a mistake in the arguments: neither a request for help or for the version nor want of memory
 abbrev pub is_mistake : ErrorKind → Bool
 is_mistake kind.DisplayHelp = false
 is_mistake kind.DisplayVersion = false
 is_mistake kind.OutOfMemory = false
 is_mistake _ = true
 
--- one of the kinds is a mistake in the words
+-- one of the kinds is a mistake in the arguments
 abbrev pub has_mistake : Kinds → Bool
 has_mistake = list_any is_mistake
 
@@ -164,37 +164,37 @@ has_mistake = list_any is_mistake
 abbrev pub has_request : Kinds → Bool
 has_request = list_any asks_help
 
--- the fault that tells an error of this kind
+-- the fault for an error of this kind
 abbrev pub IsFaultOf : ErrorKind → WordsFault → Type 0
 IsFaultOf k (Usage text) = is_mistake k ≡ true
 IsFaultOf k (Help text) = asks_help k ≡ true
 IsFaultOf k Memory = Unit {0}
 
--- the fault that tells an error of this kind, of these two, which tell its text as a mistake and as help
+-- the fault for an error of this kind, of these two, which have its text as a mistake and as help
 abbrev pub fault_as : ErrorKind → WordsFault → WordsFault → WordsFault
 fault_as kind.OutOfMemory usage help = Memory
 fault_as kind.DisplayHelp usage help = help
 fault_as kind.DisplayVersion usage help = help
 fault_as _ usage help = usage
 
--- the fault that tells the argument whose value breaks its rule, or want of memory for that
+-- the fault that names the argument whose value breaks its rule, or want of memory for that
 abbrev pub NamesBroken : Argument → WordsFault → Type 0
 NamesBroken a (Usage text) = string_bytes text ≡ refusal_text a
 NamesBroken a (Help text) = ⊥
 NamesBroken a Memory = Unit {0}
 
--- the words are refused by this fault only where one of these kinds is a mistake, only where one asks for help or for the version, or for
+-- the arguments are refused by this fault only where one of these kinds is a mistake, only where one asks for help or for the version, or for
 -- want of memory
 abbrev pub IsRefusalOf : Kinds → WordsFault → Type 0
 IsRefusalOf ks (Usage text) = has_mistake ks ≡ true
 IsRefusalOf ks (Help text) = has_request ks ≡ true
 IsRefusalOf ks Memory = Unit {0}
 
--- clap takes the words, and this tells the first value that breaks its rule
+-- clap takes the arguments, and this names the first value that breaks its rule
 abbrev pub IsBroken : List Text → List ℕ → Type 0
 IsBroken words reported = (a : Argument) × (meant_in (subcommand_of the_program words) ≡ Err a) × (reported ≡ refusal_text a)
 
--- the words are refused by this fault as clap refuses them, or since it tells a value that breaks its rule
+-- the arguments are refused by this fault as clap refuses them, or since it names a value that breaks its rule
 abbrev pub IsRefusedBy : List Text → WordsFault → Type 0
 IsRefusedBy words (Usage text) = IsRefusalOf (fault_of the_program words) (Usage text) ⊎ IsBroken words (string_bytes text)
 IsRefusedBy words fault = IsRefusalOf (fault_of the_program words) fault

@@ -1,4 +1,4 @@
--- What plain words tell, whatever the program, the file and the batch are called.
+-- What plain arguments mean, whatever the program, the file and the batch are called.
 use Rattle.std.specs.Prelude.{◌≡◌, ◌==◌, ◌||◌, Bool, true, false, List, [], ◌∷◌, codes, Some, None, Ok, Err}
 use Rattle.std.specs.Str.{bytes_eq}
 use Rattle.clap.specs.Words.{Text, fault_of, subcommand_of}
@@ -15,51 +15,51 @@ use Rattle.desk_cli.specs.declared.meaning.Work.{Work}
 use Rattle.desk_cli.specs.declared.meaning.Work.TheVariants as work
 use Rattle.desk_cli.specs.declared.meaning.Task.TheVariants as task
 
--- the word may be an option
+-- the argument may be an option
 abbrev pub begins_with_dash : Text → Bool
 begins_with_dash [] = false
 begins_with_dash (x ∷ xs) = x == 45
 
--- the word is one of the seven
+-- the argument is one of the seven subcommands
 abbrev pub is_word : Text → Bool
 is_word word = bytes_eq (codes "init") word || (bytes_eq (codes "run") word || (bytes_eq (codes "import") word
     || (bytes_eq (codes "trace") word || (bytes_eq (codes "record") word || (bytes_eq (codes "verify") word
     || bytes_eq (codes "serve") word)))))
 
--- the words are taken, and tell this
+-- the arguments are taken, and mean this
 abbrev pub Mean : List Text → Meant → Type 0
 Mean words meant = (fault_of the_program words ≡ []) × (meant_in (subcommand_of the_program words) ≡ Ok meant)
 
--- the words ask for help, and no mistake is in them
+-- the arguments ask for help, and no mistake is in them
 abbrev pub AskHelp : List Text → Type 0
 AskHelp words = fault_of the_program words ≡ kind.DisplayHelp ∷ []
 
--- a mistake is in the words
+-- a mistake is in the arguments
 abbrev pub AreWrong : List Text → Type 0
 AreWrong words = has_mistake (fault_of the_program words) ≡ true
 
--- clap takes the words, and the value of this argument is the first that breaks a rule of the desk
+-- clap takes the arguments, and the value of this one is the first that breaks a rule of the desk
 abbrev pub Break : List Text → Argument → Type 0
 Break words a = meant_in (subcommand_of the_program words) ≡ Err a
 
--- a word with a file
+-- a subcommand with a file
 abbrev pub NamesFile : Text → Work → Type 0
 NamesFile word w = (name file : Text) → begins_with_dash file ≡ false → Mean (name ∷ word ∷ file ∷ []) (file, w)
 
--- a word wants one file, and no further word
+-- a subcommand wants one file, and no further argument
 abbrev pub WantsFile : Text → Type 0
 WantsFile word = ((name : Text) → AreWrong (name ∷ word ∷ []))
     × ((name file more : Text) → begins_with_dash file ≡ false → begins_with_dash more ≡ false
     → AreWrong (name ∷ word ∷ file ∷ more ∷ []))
 
--- a direction behind a file, for one lot
+-- a direction after a file, for one lot
 abbrev pub NamesTrace : Text → Direction → Type 0
 NamesTrace word direction = (name file : Text) → begins_with_dash file ≡ false
     → Mean (name ∷ codes "trace" ∷ file ∷ word ∷ codes "L-1" ∷ []) (file, work.Task (task.Trace direction (codes "L-1")))
 
--- words that take a file alone, words that are none, and those that ask
+-- subcommands that take a file alone, arguments that are none, and those that ask
 pub record FileWords : Type 0 where
-  -- no word is a run over memory
+  -- without arguments it is a run over memory
   pub alone : (name : Text) → Mean (name ∷ []) (codes ":memory:", work.Task task.Run)
   pub init_file : NamesFile (codes "init") (work.Task task.Init)
   pub run_file : NamesFile (codes "run") (work.Task task.Run)
@@ -110,7 +110,7 @@ pub record ServeWords : Type 0 where
   pub serve_hosts : (name file : Text) → begins_with_dash file ≡ false
       → Mean (name ∷ codes "serve" ∷ file ∷ codes "8080" ∷ codes "1000" ∷ codes "--page" ∷ codes "--host" ∷ codes "a.example" ∷ codes "--host" ∷ codes "b" ∷ [])
       (file, work.Serve (record { port = 8080; count = 1000; is_logged = false; page = Some (hosts_of_names (codes "a.example" ∷ codes "b" ∷ [])) }))
-  -- a name is given with the page alone, has no port and no upper case, and stands behind its option
+  -- a name is given with the page alone, has no port and no upper case, and comes after its option
   pub host_alone : (name file : Text) → begins_with_dash file ≡ false
       → Break (name ∷ codes "serve" ∷ file ∷ codes "8080" ∷ codes "1000" ∷ codes "--host" ∷ codes "a" ∷ []) argument.Host
   pub host_with_port : (name file : Text) → begins_with_dash file ≡ false

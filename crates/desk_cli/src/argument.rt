@@ -1,4 +1,4 @@
-//! The arguments of the words, and what is told of one whose value breaks its rule.
+//! The arguments of the subcommands, and the message of one whose value breaks its rule.
 ghost use Rattle.std.specs.Prelude.{◌≡◌, Some};
 ghost use Rattle.desk_cli.specs.Arguments.{name_of, rule_text};
 
@@ -7,7 +7,7 @@ use std::fmt;
 /// What on the command line may break a rule of the desk.
 #[derive(Clone, Copy, Debug, PartialEq, Eq)]
 pub enum Argument {
-    /// The word itself. Words that are none of the desk's are refused before by clap.
+    /// The subcommand itself. Subcommands that are none of the desk's are refused before by clap.
     Word,
     /// The name of the file, which clap sees to.
     File,
@@ -21,13 +21,13 @@ pub enum Argument {
     Direction,
     /// The lot that is traced.
     Lot,
-    /// The batch whose record is told.
+    /// The batch whose record is printed.
     Batch,
     /// The port of `serve`, whose range clap sees to.
     Port,
     /// How many connections `serve` takes, whose range clap sees to.
     Count,
-    /// A name under which `serve` takes requests beside the page.
+    /// A name under which `serve` takes requests in addition to this machine's, with the web page.
     Host,
 }
 

@@ -1,10 +1,10 @@
-//! Why a check ends before it has told all.
+//! Why a check ends before it has reported all.
 ghost use Rattle.std.specs.Prelude.{◌≡◌, Some};
 ghost use Rattle.desk_cli.specs.CheckFaults.{fault_status, fault_text};
 
 use std::fmt;
 
-/// Why a check of a file ends before it has told all.
+/// Why a check of a file ends before it has reported all.
 #[derive(Clone, Copy, Debug, PartialEq, Eq)]
 pub enum CheckFault {
     /// The file can't be opened.

@@ -1,7 +1,7 @@
-//! The words of the programs that check a file before it is sent.
+//! The arguments of the program that checks an order file before it is sent.
 ghost use Rattle.std.specs.Prelude.{◌≡◌, IfErr, IfOk, [], codes, false, map, option_map};
 ghost use Rattle.clap.specs.Words.{app_of, fault_of, first_of, matches_of, rule_of};
-ghost use Rattle.desk_cli.specs.Checking.{check_app, checked_rule, program_name};
+ghost use Rattle.desk_cli.specs.Checking.{check_app, checked_rule, order_check_app};
 ghost use Rattle.desk_cli.specs.Meaning.{IsRefusalOf};
 
 use crate::command_line::VERSION;
@@ -11,17 +11,8 @@ use crate::values::value_of;
 use clap::{Arg, Command};
 use std::alloc::{AllocError, Global};
 
-/// A program that checks a file.
-#[derive(Clone, Copy, Debug, PartialEq, Eq)]
-pub enum CheckProgram {
-    /// `order_check`, which checks an order file.
-    Orders,
-    /// `line_check`, which checks lines.
-    Lines,
-}
-
 /// The name of the file, which may be left out.
-fn checked_argument<'a>(alloc: Global) -> Arg<'a>
+pub(crate) fn checked_argument<'a>(alloc: Global) -> Arg<'a>
     ensures rule { rule_of result ≡ checked_rule }
     ensures local { result.global ≡ false }
 {
@@ -30,8 +21,8 @@ fn checked_argument<'a>(alloc: Global) -> Arg<'a>
     )
 }
 
-/// The command line of a program of this name, with what it is for, how it is used and what its exit status tells.
-fn check_command<'a>(
+/// The command line of a program of this name, with what it is for, how it is used and what its exit status means.
+pub(crate) fn check_command<'a>(
     alloc: Global,
     name: &'a str,
     about: &'a str,
@@ -47,44 +38,33 @@ fn check_command<'a>(
 }
 
 /// The command line of the program.
-fn check_line<'a>(alloc: Global, program: CheckProgram) -> Result<Command<'a>, AllocError>
-    ensures { IfOk result (λ c. app_of c ≡ check_app (program_name program)) }
+fn order_check_line<'a>(alloc: Global) -> Result<Command<'a>, AllocError>
+    ensures { IfOk result (λ c. app_of c ≡ order_check_app) }
 {
-    match program {
-        CheckProgram::Orders => check_command(
-            alloc,
-            "order_check",
-            "Tell how many orders an order file holds, or its first fault, before it is sent",
-            "Example: order_check orders.csv\n\
+    check_command(
+        alloc,
+        "order_check",
+        "Tell how many orders an order file holds, or its first fault, before it is sent",
+        "Example: order_check orders.csv\n\
 Exit status: 0 for an order file; 1 for another; 2 where these words aren't understood; 3 where a read or a write failed;\n\
 4 where memory was refused.",
-        ),
-        CheckProgram::Lines => check_command(
-            alloc,
-            "line_check",
-            "Tell which lines the desk would answer BadForm, and why, before they are sent",
-            "Example: line_check shift.jsonl\n\
-Exit status: 0 where no line is told; 1 where one is; 2 where these words aren't understood; 3 where a read or a write failed;\n\
-4 where memory was refused.",
-        ),
-    }
+    )
 }
 
-/// Reads the words of a command line, the program's name first: which file is checked, `None` for standard input.
+/// Reads the arguments of a command line, the program's name first: which order file is checked, `None` for standard input.
 ///
 /// `Usage` comes where they aren't understood, `Help` where they ask for help or for the version, and `Memory` for want of memory.
-pub fn read_checked_file<'a>(
+pub fn read_order_check<'a>(
     alloc: Global,
-    program: CheckProgram,
     words: &'a [&'a str],
 ) -> Result<Option<&'a str>, WordsFault>
     ensures named { IfOk result (λ file. option_map (λ s. s.now) file
-        ≡ first_of (codes "file") (matches_of (check_app (program_name program)) (map (λ s. s.now) words.entry.now))) }
-    ensures taken { IfOk result (λ _. fault_of (check_app (program_name program)) (map (λ s. s.now) words.entry.now) ≡ []) }
+        ≡ first_of (codes "file") (matches_of order_check_app (map (λ s. s.now) words.entry.now))) }
+    ensures taken { IfOk result (λ _. fault_of order_check_app (map (λ s. s.now) words.entry.now) ≡ []) }
     ensures refused { IfErr result
-        (λ fault. IsRefusalOf (fault_of (check_app (program_name program)) (map (λ s. s.now) words.entry.now)) fault) }
+        (λ fault. IsRefusalOf (fault_of order_check_app (map (λ s. s.now) words.entry.now)) fault) }
 {
-    let Ok(command) = check_line(alloc, program) else {
+    let Ok(command) = order_check_line(alloc) else {
         return Err(WordsFault::Memory);
     };
     match command.try_get_matches_from(words) {

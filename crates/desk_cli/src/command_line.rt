@@ -1,4 +1,4 @@
-//! The command line, as clap is told it.
+//! The command line, as it is defined to clap.
 ghost use Rattle.std.specs.Prelude.{◌≡◌, IfOk, codes, false};
 ghost use Rattle.clap.specs.Words.{app_of, rule_of, shape_of, with_rule, with_subcommand};
 ghost use Rattle.desk_cli.specs.CommandLine.{bare_program, import_app, count_rule, host_rule, log_rule, page_rule, port_app, port_rule, record_app};
@@ -13,7 +13,7 @@ use std::alloc::{AllocError, Global};
 /// The version of the program. The schema of a desk's tables has a number of its own, which `init` prints.
 pub(crate) const VERSION: &str = "1.0.0";
 
-/// What the exit status tells.
+/// What the exit status means.
 const STATUSES: &str =
     "Exit status: 0 where all went well; 1 where a reply is a refusal, or an order file has a fault; 2 where the words
 aren't understood; 3 where the store, the port, a read or a write failed; 4 where memory was refused.";
@@ -102,7 +102,7 @@ fn host_argument<'a>(alloc: Global) -> Arg<'a>
         )
 }
 
-/// The word `name`, which takes the name of a file alone.
+/// The subcommand `name`, which takes the name of a file alone.
 fn word_command<'a>(
     alloc: Global,
     name: &'a str,
@@ -153,7 +153,7 @@ fn reference_argument<'a>(alloc: Global) -> Arg<'a>
     )
 }
 
-/// The word `import`.
+/// The subcommand `import`.
 fn import_command<'a>(alloc: Global) -> Result<Command<'a>, AllocError>
     ensures app { IfOk result (λ c. app_of c ≡ import_app) }
     ensures local { IfOk result (λ c. IsLocal c) }
@@ -170,7 +170,7 @@ Prints {\"ok\":N}, or the refusal, or the first fault of the file, as in csv row
     .arg(reference_argument(alloc))
 }
 
-/// The word `trace`.
+/// The subcommand `trace`.
 fn trace_command<'a>(alloc: Global) -> Result<Command<'a>, AllocError>
     ensures app { IfOk result (λ c. app_of c ≡ trace_app) }
     ensures local { IfOk result (λ c. IsLocal c) }
@@ -192,7 +192,7 @@ fn trace_command<'a>(alloc: Global) -> Result<Command<'a>, AllocError>
     .arg(lot)
 }
 
-/// The word `record`.
+/// The subcommand `record`.
 fn record_command<'a>(alloc: Global) -> Result<Command<'a>, AllocError>
     ensures app { IfOk result (λ c. app_of c ≡ record_app) }
     ensures local { IfOk result (λ c. IsLocal c) }
@@ -207,7 +207,7 @@ fn record_command<'a>(alloc: Global) -> Result<Command<'a>, AllocError>
     .arg(batch)
 }
 
-/// The word `serve` without the arguments about the page.
+/// The subcommand `serve` without the arguments about the web page.
 fn port_command<'a>(alloc: Global) -> Result<Command<'a>, AllocError>
     ensures app { IfOk result (λ c. app_of c ≡ port_app) }
     ensures local { IfOk result (λ c. IsLocal c) }
@@ -224,7 +224,7 @@ For browsers: desk serve plant.db 8080 1000000 --page\nThen open http://127.0.0.
     .arg(log_argument(alloc))
 }
 
-/// The word with the arguments about the page as well.
+/// The subcommand with the arguments about the web page as well.
 fn with_page<'a>(alloc: Global, word: Command<'a>) -> Result<Command<'a>, AllocError>
     requires { IsLocal word }
     ensures app { IfOk result (λ c. app_of c ≡ with_rule (with_rule (app_of word.entry) page_rule) host_rule) }
@@ -233,7 +233,7 @@ fn with_page<'a>(alloc: Global, word: Command<'a>) -> Result<Command<'a>, AllocE
     word.arg(page_argument(alloc))?.arg(host_argument(alloc))
 }
 
-/// The word `serve`.
+/// The subcommand `serve`.
 fn serve_command<'a>(alloc: Global) -> Result<Command<'a>, AllocError>
     ensures app { IfOk result (λ c. app_of c ≡ serve_app) }
     ensures local { IfOk result (λ c. IsLocal c) }
@@ -241,7 +241,7 @@ fn serve_command<'a>(alloc: Global) -> Result<Command<'a>, AllocError>
     with_page(alloc, port_command(alloc)?)
 }
 
-/// The program with no word.
+/// The program with no subcommand.
 fn bare_command<'a>(alloc: Global) -> Command<'a>
     ensures { app_of result ≡ bare_program }
 {
@@ -252,7 +252,7 @@ fn bare_command<'a>(alloc: Global) -> Command<'a>
         .disable_help_subcommand(true)
 }
 
-/// The word `init`.
+/// The subcommand `init`.
 fn init_command<'a>(alloc: Global) -> Result<Command<'a>, AllocError>
     ensures app { IfOk result (λ c. app_of c ≡ word_app (codes "init")) }
     ensures local { IfOk result (λ c. IsLocal c) }
@@ -265,7 +265,7 @@ fn init_command<'a>(alloc: Global) -> Result<Command<'a>, AllocError>
     )
 }
 
-/// The word `run`.
+/// The subcommand `run`.
 fn run_command<'a>(alloc: Global) -> Result<Command<'a>, AllocError>
     ensures app { IfOk result (λ c. app_of c ≡ word_app (codes "run")) }
     ensures local { IfOk result (λ c. IsLocal c) }
@@ -279,7 +279,7 @@ Prints a line for each. The exit status is 1 where one was refused.",
     )
 }
 
-/// The word `verify`.
+/// The subcommand `verify`.
 fn verify_command<'a>(alloc: Global) -> Result<Command<'a>, AllocError>
     ensures app { IfOk result (λ c. app_of c ≡ word_app (codes "verify")) }
     ensures local { IfOk result (λ c. IsLocal c) }
@@ -293,7 +293,7 @@ Prints good schema N seq S, S being how many commands were accepted.",
     )
 }
 
-/// The program with one word more, none of whose arguments is global.
+/// The program with one subcommand more, none of whose arguments is global.
 fn with_word<'a>(program: Command<'a>, word: Command<'a>) -> Result<Command<'a>, AllocError>
     requires { IsLocal word }
     ensures { IfOk result (λ c. app_of c ≡ with_subcommand (app_of program.entry) (shape_of word.entry)) }
@@ -301,7 +301,7 @@ fn with_word<'a>(program: Command<'a>, word: Command<'a>) -> Result<Command<'a>,
     program.subcommand(word)
 }
 
-/// The program with the words that take commands in as well: `init`, `run` and `import`.
+/// The program with the subcommands that take commands in as well: `init`, `run` and `import`.
 fn with_taking<'a>(alloc: Global, program: Command<'a>) -> Result<Command<'a>, AllocError>
     ensures { IfOk result (λ c. app_of c ≡ with_taking (app_of program.entry)) }
 {
@@ -310,7 +310,7 @@ fn with_taking<'a>(alloc: Global, program: Command<'a>) -> Result<Command<'a>, A
     with_word(with_run, import_command(alloc)?)
 }
 
-/// The program with the words that tell of a desk as well: `trace`, `record` and `verify`.
+/// The program with the subcommands that report on a desk as well: `trace`, `record` and `verify`.
 fn with_report_words<'a>(alloc: Global, program: Command<'a>) -> Result<Command<'a>, AllocError>
     ensures { IfOk result (λ c. app_of c ≡ with_report_words (app_of program.entry)) }
 {

@@ -1,4 +1,4 @@
-//! The words of the program that checks a desk's file.
+//! The arguments of the program that checks a desk's file.
 ghost use Rattle.std.specs.Prelude.{◌≡◌, IfErr, IfOk, Some, [], codes, false, map};
 ghost use Rattle.clap.specs.Words.{app_of, fault_of, rule_of};
 ghost use Rattle.desk_cli.specs.CommandLine.{file_rule};
@@ -14,14 +14,14 @@ use crate::values::value_of;
 use clap::{Arg, ArgAction, Command};
 use std::alloc::{AllocError, Global};
 
-/// What `desk_check` is told to do.
+/// The arguments of `desk_check`.
 #[derive(Clone, Copy, Debug, PartialEq, Eq)]
 pub struct DeskCheck<'a> {
     /// The name of the file that is checked.
     pub file: &'a str,
-    /// Whether one JSON object is told in place of sentences.
+    /// Whether one JSON object is written instead of sentences.
     pub is_json: bool,
-    /// Whether a page is written beside it, to see whether the disk has room.
+    /// Whether a page is written next to it, to see whether the disk has room.
     pub tries_room: bool,
 }
 
@@ -36,7 +36,7 @@ fn file_argument<'a>(alloc: Global) -> Arg<'a>
         .help("The file of the desk's records, which isn't changed")
 }
 
-/// `--json`, whether one JSON object is told.
+/// `--json`, whether one JSON object is written.
 fn json_argument<'a>(alloc: Global) -> Arg<'a>
     ensures rule { rule_of result ≡ json_rule }
     ensures local { result.global ≡ false }
@@ -47,7 +47,7 @@ fn json_argument<'a>(alloc: Global) -> Arg<'a>
         .help("Print one JSON object in place of sentences")
 }
 
-/// `--room`, whether a page is written beside the file.
+/// `--room`, whether a page is written next to the file.
 fn room_argument<'a>(alloc: Global) -> Arg<'a>
     ensures rule { rule_of result ≡ room_rule }
     ensures local { result.global ≡ false }
@@ -78,7 +78,8 @@ understood; 3 where it doesn't open, breaks a rule or is of a later program, or 
         .arg(room_argument(alloc))
 }
 
-/// Reads the words of a command line, the program's name first: which desk's file is checked, how it is told, and whether room is tried.
+/// Reads the arguments of a command line, the program's name first: which desk's file is checked, how that is reported,
+/// and whether room is tried.
 ///
 /// `Usage` comes where they aren't understood, `Help` where they ask for help or for the version, and `Memory` for want of memory.
 pub fn read_desk_check<'a>(alloc: Global, words: &'a [&'a str]) -> Result<DeskCheck<'a>, WordsFault>

@@ -1,4 +1,4 @@
-//! The names of hosts that the words give.
+//! The names of hosts that the arguments give.
 ghost use Rattle.std.specs.Prelude.{◌≡◌, ◌≤◌, [], ◌∷◌, length, map, IfSome};
 ghost use Rattle.std.specs.List.{list_all};
 ghost use Rattle.plant_base.specs.Values.{is_text, only};
@@ -90,7 +90,7 @@ fn is_host_name(text: &str) -> bool
     is_text(bytes) && begins_host(bytes) && all_host_bytes(bytes)
 }
 
-/// The text at a place, the empty one behind the last.
+/// The text of this index, the empty one after the last.
 fn text_at(texts: &[&str], index: usize) -> Text
     ensures { result ≡ text_at (map (λ s. s.now) texts.now) index }
 {

@@ -1,4 +1,4 @@
-//! The words of the command line: what the desk's program is told to do.
+//! The arguments of the command line: what the desk's program has to do.
 #![tactic(auto)]
 
 mod argument;
@@ -8,6 +8,7 @@ mod command_line;
 mod desk_checking;
 mod hosts;
 mod laws;
+mod line_checking;
 mod matched;
 mod meaning;
 mod read;
@@ -16,10 +17,11 @@ mod values;
 
 pub use argument::Argument;
 pub use check_fault::CheckFault;
-pub use checking::{CheckProgram, read_checked_file};
+pub use checking::read_order_check;
 pub use desk_checking::{DeskCheck, read_desk_check};
 pub use hosts::Hosts;
 pub use laws::plain_words_law;
+pub use line_checking::{LineCheck, read_line_check};
 pub use meaning::{Serving, Task, Words, WordsFault, Work};
 pub use read::{read_words, refusal_of};
 pub use taken::{print_refused, read_arguments, texts_of};

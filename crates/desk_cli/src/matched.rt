@@ -1,4 +1,4 @@
-//! What the words of the command line mean, as clap matched them.
+//! What the arguments of the command line mean, as clap matched them.
 ghost use Rattle.std.specs.Prelude.{◌≡◌, codes};
 ghost use Rattle.clap.specs.Words.{all_of, first_of, found_of, rows_of, subcommand_rows_of};
 ghost use Rattle.desk_cli.specs.Meaning.{all_meant, hosts_given, import_in, is_set, meant_by, meant_in, page_in, record_in, serving_in};
@@ -12,7 +12,7 @@ use crate::values::{
 };
 use clap::ArgMatches;
 
-/// The name of the file that stands for memory.
+/// The file name that means a store in memory.
 const IN_MEMORY: &str = ":memory:";
 
 /// The greatest port.
@@ -21,7 +21,7 @@ pub(crate) const GREATEST_PORT: u16 = u16::MAX;
 /// The most connections that are served.
 pub(crate) const MOST_CONNECTIONS: u32 = 1_000_000;
 
-/// The import that the arguments tell.
+/// The import of the arguments.
 fn import_in(matches: &ArgMatches<'_>) -> Result<Task, Argument>
     ensures { result ≡ import_in (rows_of (found_of matches.now)) }
 {
@@ -31,7 +31,7 @@ fn import_in(matches: &ArgMatches<'_>) -> Result<Task, Argument>
     Ok(Task::Import { at, by, reference })
 }
 
-/// The trace that the arguments tell.
+/// The trace of the arguments.
 fn trace_in(matches: &ArgMatches<'_>) -> Result<Task, Argument>
     ensures { result ≡ trace_in (rows_of (found_of matches.now)) }
 {
@@ -40,7 +40,7 @@ fn trace_in(matches: &ArgMatches<'_>) -> Result<Task, Argument>
     Ok(Task::Trace { direction, lot })
 }
 
-/// The record that the arguments tell.
+/// The record of the arguments.
 fn record_in(matches: &ArgMatches<'_>) -> Result<Task, Argument>
     ensures { result ≡ record_in (rows_of (found_of matches.now)) }
 {
@@ -84,7 +84,7 @@ fn page_in(matches: &ArgMatches<'_>) -> Result<Option<Hosts>, Argument>
     }
 }
 
-/// The serving that the arguments tell.
+/// The serving of the arguments.
 fn serving_in(matches: &ArgMatches<'_>) -> Result<Serving, Argument>
     ensures { result ≡ serving_in (rows_of (found_of matches.now)) }
 {
@@ -109,7 +109,7 @@ fn task_work(task: Result<Task, Argument>) -> Result<Work, Argument>
     }
 }
 
-/// What the word `name` and its arguments tell to do over the file.
+/// The work over the file by the subcommand `name` and its arguments.
 #[tactic(auto, unfolding(crate::specs::Meaning::work_in))]
 fn work_in(name: &str, matches: &ArgMatches<'_>) -> Result<Work, Argument>
     ensures { result ≡ work_in name.now (rows_of (found_of matches.now)) }
@@ -141,7 +141,7 @@ fn work_in(name: &str, matches: &ArgMatches<'_>) -> Result<Work, Argument>
     Err(Argument::Word)
 }
 
-/// What the word `name` and its arguments mean.
+/// What the subcommand `name` and its arguments mean.
 fn words_at<'a>(name: &str, matches: &ArgMatches<'a>) -> Result<Words<'a>, Argument>
     ensures { all_meant result ≡ meant_by name.now (rows_of (found_of matches.now)) }
 {
@@ -154,7 +154,7 @@ fn words_at<'a>(name: &str, matches: &ArgMatches<'a>) -> Result<Words<'a>, Argum
     }
 }
 
-/// What the words mean, as clap matched them, or the first argument whose value breaks its rule: no word is `run :memory:`.
+/// What the arguments mean, as clap matched them, or the first one whose value breaks its rule: none at all is `run :memory:`.
 pub(crate) fn words_in<'a>(matches: &ArgMatches<'a>) -> Result<Words<'a>, Argument>
     ensures { all_meant result ≡ meant_in (subcommand_rows_of matches.now) }
 {

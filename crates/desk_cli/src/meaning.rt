@@ -1,4 +1,4 @@
-//! What the program is told to do.
+//! What the program has to do.
 ghost use Rattle.std.specs.Prelude.{◌≡◌};
 
 use crate::hosts::Hosts;
@@ -6,7 +6,7 @@ use plant_base::{Id, Moment, Text};
 use plant_trace::Direction;
 use thiserror::Error;
 
-/// What the program is told to do, with the name of the file of the desk.
+/// What the program has to do, with the name of the file of the desk.
 #[derive(Clone, Copy, Debug, PartialEq, Eq)]
 pub struct Words<'a> {
     /// The name of the file, `:memory:` for a desk that is kept in memory.
@@ -40,14 +40,14 @@ pub enum Task {
         /// The reference under which they are taken in once, where one is named.
         reference: Option<Id>,
     },
-    /// Tell what leads to a lot, or where it leads.
+    /// Print what leads to a lot, or where it leads.
     Trace {
         /// Which way.
         direction: Direction,
         /// The lot.
         lot: Id,
     },
-    /// Tell the record of a batch (IEC 61512-4).
+    /// Print the record of a batch (IEC 61512-4).
     Record {
         /// The batch.
         batch: Id,
@@ -65,17 +65,17 @@ pub struct Serving {
     pub count: u32,
     /// Whether each request is noted on standard error.
     pub is_logged: bool,
-    /// Where the page is served: the names of hosts under which it is, beside those of this machine.
+    /// Where the web page is served: the names of hosts under which it is, other than those of this machine.
     pub page: Option<Hosts>,
 }
 
-/// Why the words tell nothing to do.
+/// Why the arguments give nothing to do.
 #[derive(Debug, Drop, Error)]
 pub enum WordsFault {
-    /// The words aren't understood: the text tells why, and how the program is used.
+    /// The arguments aren't understood: the text says why, and how the program is used.
     #[error("{0}")]
     Usage(String),
-    /// The words ask for help or for the version, which is the text.
+    /// The arguments ask for help or for the version, which is the text.
     #[error("{0}")]
     Help(String),
     /// Memory was refused.

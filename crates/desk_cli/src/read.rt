@@ -1,4 +1,4 @@
-//! The reading of the words.
+//! The reading of the arguments.
 ghost use Rattle.std.specs.Prelude.{◌≡◌, IfErr, IfOk, Some, Ok, [], map};
 ghost use Rattle.clap.specs.Words.{fault_of, kind_of, subcommand_of};
 ghost use Rattle.desk_cli.specs.CommandLine.{the_program};
@@ -14,7 +14,7 @@ use clap::error::ErrorKind;
 use std::alloc::Global;
 use std::fmt;
 
-/// What is told where clap takes the words and the value of an argument breaks its rule.
+/// The message where clap takes the arguments and the value of one breaks its rule.
 #[derive(Clone, Copy)]
 struct BrokenRule(Argument);
 
@@ -27,7 +27,7 @@ impl fmt::Display for BrokenRule {
     }
 }
 
-/// clap's refusal of the words, with its text.
+/// clap's refusal of the arguments, with its text.
 pub fn refusal_of(alloc: Global, error: Error) -> WordsFault
     ensures { IsFaultOf (kind_of error) result }
 {
@@ -38,7 +38,7 @@ pub fn refusal_of(alloc: Global, error: Error) -> WordsFault
     }
 }
 
-/// The fault that tells an error of this kind by its text.
+/// The fault for an error of this kind, with its text.
 fn fault_as(kind: ErrorKind, text: String) -> WordsFault
     ensures { result ≡ fault_as kind (WordsFault.Usage text) (WordsFault.Help text) }
 {
@@ -49,10 +49,10 @@ fn fault_as(kind: ErrorKind, text: String) -> WordsFault
     }
 }
 
-/// Reads the words of a command line, the program's name first.
+/// Reads the arguments of a command line, the program's name first.
 ///
-/// `Usage` comes where they aren't understood or a value breaks its rule, of which the text tells the first, `Help` where they ask for help or for the
-/// version, and `Memory` for want of memory.
+/// `Usage` comes where they aren't understood or a value breaks its rule, of which the text names the first, `Help` where
+/// they ask for help or for the version, and `Memory` for want of memory.
 pub fn read_words<'a>(alloc: Global, words: &'a [&'a str]) -> Result<Words<'a>, WordsFault>
     ensures meant { IfOk result (λ w. meant_in (subcommand_of the_program
         (map (λ s. s.now) words.entry.now)) ≡ Ok (words_meant w)) }
@@ -71,7 +71,7 @@ pub fn read_words<'a>(alloc: Global, words: &'a [&'a str]) -> Result<Words<'a>, 
     }
 }
 
-/// The refusal of words that clap takes and of which an argument's value breaks its rule.
+/// The refusal of arguments that clap takes and of which a value breaks its rule.
 pub(crate) fn broken(alloc: Global, argument: Argument) -> WordsFault
     ensures { NamesBroken argument result }
 {

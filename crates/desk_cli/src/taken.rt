@@ -1,4 +1,4 @@
-//! The words of the command line as they come from the system.
+//! The arguments of the command line as they come from the system.
 ghost use Rattle.std.specs.Prelude.{◌≡◌, IfErr, IfOk, OnErr, Ok, Err, map, string_bytes};
 ghost use Rattle.std.specs.IoError.{error_kind};
 ghost use Rattle.desk_cli.specs.Taken.{IsNotUtf8, IsStatusOf, fault_of_kind};
@@ -8,7 +8,7 @@ use std::alloc::{AllocError, Global};
 use std::env;
 use std::io::{Error, ErrorKind};
 
-/// The words of the command line, the program's name first.
+/// The arguments of the command line, the program's name first.
 ///
 /// `Usage` comes where one of them isn't UTF-8, `Memory` for want of memory.
 pub fn read_arguments(rt: &HostRuntime) -> Result<Vec<String>, WordsFault> {
@@ -18,7 +18,7 @@ pub fn read_arguments(rt: &HostRuntime) -> Result<Vec<String>, WordsFault> {
     }
 }
 
-/// The words that were collected, or want of memory for their list.
+/// The arguments that were collected, or want of memory for their list.
 fn list_of(words: Result<Vec<String>, AllocError>) -> Result<Vec<String>, WordsFault>
     ensures ok { IfOk words (λ list. result ≡ Ok list) }
     ensures memory { OnErr words (result ≡ Err WordsFault.Memory) }
@@ -29,7 +29,7 @@ fn list_of(words: Result<Vec<String>, AllocError>) -> Result<Vec<String>, WordsF
     }
 }
 
-/// Why the words couldn't be read: for want of memory, else since one of them isn't UTF-8, which is told so.
+/// Why the arguments couldn't be read: for want of memory, else since one of them isn't UTF-8, which has its own fault.
 fn fault_of(error: &Error, not_utf8: WordsFault) -> WordsFault
     ensures { result ≡ fault_of_kind (error_kind error.now) not_utf8 }
 {
@@ -39,14 +39,14 @@ fn fault_of(error: &Error, not_utf8: WordsFault) -> WordsFault
     }
 }
 
-/// The mistake that a word isn't UTF-8.
+/// The mistake that an argument isn't UTF-8.
 fn not_utf8(alloc: Global) -> WordsFault
     ensures { IsNotUtf8 result }
 {
     usage_of(String::from_str(alloc, "error: a word is not UTF-8\n"))
 }
 
-/// A mistake in the words by its text, or want of memory for that.
+/// A mistake in the arguments by its text, or want of memory for that.
 fn usage_of(text: Result<String, AllocError>) -> WordsFault
     ensures usage { IfOk text (λ line. result ≡ WordsFault.Usage line) }
     ensures memory { OnErr text (result ≡ WordsFault.Memory) }
@@ -57,7 +57,7 @@ fn usage_of(text: Result<String, AllocError>) -> WordsFault
     }
 }
 
-/// The words as texts.
+/// The arguments as texts.
 ///
 /// `Memory` comes for want of memory, and no other fault.
 pub fn texts_of<'a>(alloc: Global, words: &'a [String]) -> Result<Vec<&'a str>, WordsFault>
@@ -73,8 +73,8 @@ pub fn texts_of<'a>(alloc: Global, words: &'a [String]) -> Result<Vec<&'a str>, 
     Ok(texts)
 }
 
-/// Tells why words give nothing to do, and gives the exit status: the help that they ask for on standard output with 0, or 3 where it can't
-/// be written; a mistake on standard error with 2; want of memory there with 4.
+/// Prints why arguments give nothing to do, and gives the exit status: the help that they ask for on standard output with
+/// 0, or 3 where it can't be written; a mistake on standard error with 2; want of memory there with 4.
 pub fn print_refused(rt: &HostRuntime, fault: &WordsFault) -> u8
     ensures { IsStatusOf fault.now result }
 {

@@ -1,4 +1,4 @@
-//! The values of the words' arguments, each by its rule.
+//! The values of the subcommands' arguments, each by its rule.
 ghost use Rattle.std.specs.Prelude.{◌≡◌, ◌<◌, ◌^◌, ◌≤◌, IfOk, map, option_map};
 ghost use Rattle.clap.specs.Words.{all_of, first_of, found_of, rows_of};
 ghost use Rattle.plant_base.specs.Values.{greatest_moment, is_id, is_text, only};

@@ -59,7 +59,7 @@ nothing_held t a = ([], t, refl, Appends-nil a)
 
 -- ---- the report
 
--- the report on an input, by the lines that end in it and by what stands behind the last
+-- the report on an input, by the lines that end in it and by what follows the last
 report_is : (bytes line : List ℕ) → line ≡ held_after [] bytes
     → texts 0 (verdicts_after [] bytes) ++ (texts (tally_after no_lines (verdicts_after [] bytes)).lines (verdict_of line ∷ [])
     ++ end_text (tally_with (tally_after no_lines (verdicts_after [] bytes)) (verdict_of line))) ≡ report bytes
@@ -90,7 +90,7 @@ report_begins bytes more =
       sym (report_is all (held_after [] all) refl) ∙ ap (λ u. u ++ end) parts ∙ append_assoc (texts 0 vs) (texts (tally_after no_lines vs).lines ws) end,
     )
 
--- an end that was told early behind a line
+-- an end that came early after a line
 pub early_behind_line : (r : Result Bool CheckFault) (t now : Tally) (v : Verdict) (a b c : Option (List ℕ)) → AreWrittenAndCounted t (v ∷ []) a b now
     → IfErr r (λ f. EndsEarly f b c (end_text now)) → IfErr r (λ f. EndsEarly f a c (texts t.lines (v ∷ []) ++ end_text (tally_with t v)))
 early_behind_line (Ok bad) t now v a b c told ends = tt
@@ -98,7 +98,7 @@ early_behind_line (Err f) t now v a b c told ends =
     early_behind f (texts t.lines (v ∷ [])) (end_text (tally_with t v)) a b c told.text
     (subst (λ (u : Tally). EndsEarly f b c (end_text u)) told.tally ends)
 
--- the lines of a piece, told early in one of its bytes
+-- the lines of a piece, ended early in one of its bytes
 pub early_at_byte : (f : CheckFault) (t mid : Tally) (first held done byte rest all : List ℕ) (a b c : Option (List ℕ))
     → AreWrittenAndCounted t (verdicts_after first done) a b mid → held ≡ held_after first done
     → EndsEarly f b c (texts mid.lines (verdicts_after held byte)) → all ≡ (done ++ byte) ++ rest → EndsEarly f a c (texts t.lines (verdicts_after first all))
@@ -119,7 +119,7 @@ early_at_byte f t mid first held done byte rest all a b c told same ends is =
     (early_before f (texts t.lines (verdicts_after first front))
     (texts (tally_after t (verdicts_after first front)).lines (verdicts_after (held_after first front) rest)) a c early)
 
--- an input goes on behind what was consumed of it
+-- an input goes on after what was consumed of it
 goes_on : (from left : Option (List ℕ)) (bytes : List ℕ) → Consumes from left bytes → (more : List ℕ) × Agrees from (bytes ++ more)
 goes_on None left bytes consumed = ([], tt)
 goes_on (Some xs) (Some ys) bytes consumed = (ys, sym consumed)
@@ -137,7 +137,7 @@ all_consumed (Some xs) None bytes consumed end = absurd consumed
 abbrev pub EndsEarlyOver : Option (List ℕ) → Option (List ℕ) → Option (List ℕ) → CheckFault → Type 0
 EndsEarlyOver from a c f = (bytes : List ℕ) × Agrees from bytes × EndsEarly f a c (report bytes)
 
--- ... while lines of what was consumed were told
+-- ... while lines of what was consumed were reported
 pub early_within : (f : CheckFault) (from left a c : Option (List ℕ)) (bytes : List ℕ) → Consumes from left bytes
     → EndsEarly f a c (texts 0 (verdicts_after [] bytes)) → EndsEarlyOver from a c f
 early_within f from left a c bytes consumed ends =

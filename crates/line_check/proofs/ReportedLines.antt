@@ -1,4 +1,4 @@
--- Lines that were told, one after the other.
+-- Lines that were reported, one after the other.
 use Rattle.std.proofs.Common.{◌≡◌, ℕ, ◌+◌, ◌<◌, List, [], ◌∷◌, ◌++◌, length, Bool, true, false, nat_eq, cond, Option, Result, Ok, Err, refl, sym, ap, ◌∙◌, subst, append_assoc, arith}
 use Rattle.std.proofs.lemmas.List.{append-nil, map-append}
 use Rattle.std.proofs.lemmas.Bool.Decides.{nat_tests}
@@ -60,7 +60,7 @@ piece_reported t mid now first held done piece all a b c x same_held y e =
 abbrev last_of : List ℕ → List (List ℕ)
 last_of x = cond (nat_eq (length x) 0) [] (x ∷ [])
 
--- the lines were told, and the tally is theirs but for an empty line behind them
+-- the lines were reported, and the tally is theirs but for an empty line after them
 record Ended (ls : List (List ℕ)) (a b : Option (List ℕ)) (now : Tally) : Type 0 where
   text : Appends a b (texts 0 (verdicts ls))
   end : end_text now ≡ end_text (tally_after no_lines (verdicts ls))
@@ -100,7 +100,7 @@ ended_lines_reported bytes line a b now e reported =
     subst (λ (zs : List (List ℕ)). Ended zs a b now) (sym (lines_are bytes))
     (ended_last (ended_lines bytes) part a b now (subst (λ (vs : List Verdict). AreWrittenAndCounted no_lines vs a b now) same reported) (nat_eq (length part) 0) refl)
 
--- what is known of the last line and the end that were told behind a tally
+-- what is known of the last line and the end that were reported after a tally
 abbrev pub LastReported : Tally → List ℕ → Option (List ℕ) → Option (List ℕ) → Bool → Type 0
 LastReported mid line b c bad = (now : Tally) × (between : Option (List ℕ)) × AreWrittenAndCounted mid (verdict_of line ∷ []) b between now × Appends between c (end_text now) × (bad ≡ now.bad)
 

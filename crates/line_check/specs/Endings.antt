@@ -3,7 +3,7 @@ use Rattle.std.specs.Prelude.{ℕ, Bool, true, false, Result, Ok, Err}
 use Rattle.desk_cli.specs.CheckFaults.{fault_status}
 use Rattle.desk_cli.specs.declared.check_fault.CheckFault.{CheckFault}
 
--- the exit status, of a check that told all whether some line is bad
+-- the exit status, of a check that reported all: whether some line is bad
 abbrev pub status_of : Result Bool CheckFault → ℕ
 status_of (Ok false) = 0
 status_of (Ok true) = 1

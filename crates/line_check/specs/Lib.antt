@@ -1,3 +1,4 @@
 pub mod Endings
 pub mod Report
 pub mod Verdicts
+pub mod Words

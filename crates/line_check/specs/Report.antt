@@ -1,4 +1,4 @@
--- What is told of the lines of an input.
+-- What is reported of the lines of an input.
 use Rattle.std.specs.Prelude.{◌≡◌, ℕ, ◌+◌, ◌==◌, List, [], ◌∷◌, ◌++◌, map, Bool, true, false, if◌then◌else◌, codes, decimal, Option}
 use Rattle.std.specs.Str.Lines.{lines}
 use Rattle.std.specs.Io.KnownBytes.{Appends}
@@ -18,18 +18,18 @@ use Rattle.line_check.specs.Verdicts.{verdict_of}
 abbrev pub verdicts : List (List ℕ) → List Verdict
 verdicts ls = map verdict_of ls
 
--- what is told of the line of a number, without its LF
+-- what is reported of the line of a number, without its LF
 abbrev pub answer_lines : ℕ → Reason → List ℕ
 answer_lines number reason = codes "line " ++ decimal number ++ codes ": " ++ reason_text reason
 
--- a bad line is told, and no other
+-- a bad line is reported, and no other
 abbrev pub line_text : ℕ → Verdict → List ℕ
 line_text number verdict.Nothing = []
 line_text number verdict.Command = []
 line_text number verdict.Question = []
 line_text number (verdict.Bad reason) = with_lf (answer_lines number reason)
 
--- what is told of the lines behind so many
+-- what is reported of the lines after so many
 abbrev pub texts : ℕ → List Verdict → List ℕ
 texts before [] = []
 texts before (v ∷ vs) = line_text (before + 1) v ++ texts (before + 1) vs
@@ -48,7 +48,7 @@ tally_after t (v ∷ vs) = tally_after (tally_with t v) vs
 abbrev pub counts_text : Tally → List ℕ
 counts_text t = decimal t.commands ++ codes " commands, " ++ decimal t.questions ++ codes " questions"
 
--- the counts are told where no line is bad
+-- the counts are written where no line is bad
 abbrev pub end_text : Tally → List ℕ
 end_text t = if t.bad then [] else with_lf (counts_text t)
 
@@ -70,7 +70,7 @@ some_bad bytes = (tally_after no_lines (verdicts (lines bytes))).bad
 abbrev pub verdicts_after : List ℕ → List ℕ → List Verdict
 verdicts_after held bs = verdicts (ended_after held bs)
 
--- these verdicts were told and counted
+-- these verdicts were reported and counted
 pub record AreWrittenAndCounted (start : Tally) (vs : List Verdict) (old new : Option (List ℕ)) (now : Tally) : Type 0 where
   pub text : Appends old new (texts start.lines vs)
   pub tally : now ≡ tally_after start vs

@@ -31,7 +31,7 @@ verdict_where (Err p) = verdict.Bad (reason.Shape p)
 unfoldable pub verdict_of : List ℕ → Verdict
 verdict_of line = if length line == 0 then verdict.Nothing else verdict_where (line_says line)
 
--- of a bad line the verdict tells what is wrong with it, and not only that it is bad
+-- of a bad line the verdict says what is wrong with it, and not only that it is bad
 abbrev pub has_reason : Verdict → Bool
 has_reason (verdict.Bad (reason.Shape p)) = format_error_is_reported p
 has_reason _ = true

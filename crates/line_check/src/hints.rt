@@ -1,5 +1,6 @@
-//! Hints on bad lines: what is probably meant. A hint goes to standard error, beside the report; nothing is promised of it.
+//! Hints on bad lines: what is probably meant. A hint goes to standard error, apart from the report; nothing is promised of it.
 
+use crate::words::{command_words, question_words};
 use jiff::Timestamp;
 use plant_command_errors::Reason;
 use plant_message_schema::{FormatError, Member, ShapeError, command_kind, own_of, shared_members};
@@ -13,66 +14,6 @@ use strsim::levenshtein;
 /// Hints are given on bad lines among so many, the first of an input.
 pub(crate) const MOST_HINTED: u64 = 1000;
 
-/// The words of commands.
-const COMMANDS: [&str; 23] = [
-    "add_class",
-    "add_definition",
-    "receive",
-    "scrap",
-    "divide",
-    "split",
-    "merge",
-    "hold",
-    "unhold",
-    "recall",
-    "lift",
-    "add_recipe",
-    "approve",
-    "withdraw",
-    "import_orders",
-    "cancel_order",
-    "release",
-    "batch",
-    "settle",
-    "phase_done",
-    "close_batch",
-    "consume",
-    "produce",
-];
-
-/// The words of questions.
-const QUESTIONS: [&str; 29] = [
-    "check",
-    "desk",
-    "lot",
-    "order",
-    "batch",
-    "recall",
-    "back",
-    "forward",
-    "stands",
-    "back_edges",
-    "forward_edges",
-    "moment",
-    "definition",
-    "recipe",
-    "batch_lines",
-    "orders",
-    "orders_by_due",
-    "batches",
-    "closed_batches",
-    "lots",
-    "holds",
-    "all_holds",
-    "recalls",
-    "lifted_recalls",
-    "classes",
-    "definitions",
-    "recipes",
-    "movements",
-    "commands",
-];
-
 /// Words with more letters are taken for no slip.
 const LONGEST_SLIP: usize = 40;
 
@@ -82,7 +23,7 @@ const GREATEST_SECONDS: u64 = 253_402_300_799;
 /// What is probably meant.
 #[derive(Clone, Copy, Debug, PartialEq, Eq)]
 enum Hint {
-    /// This word, of those that may stand there.
+    /// This word, of those that may be there.
     Nearest(&'static str),
     /// A moment is in seconds.
     Seconds,
@@ -101,13 +42,13 @@ enum Hint {
 enum Break {
     /// It ends too soon.
     End,
-    /// A single quote stands there.
+    /// A single quote is there.
     SingleQuote,
     /// Nothing follows a comma.
     Comma,
     /// A second object begins.
     SecondObject,
-    /// A control character stands in a text.
+    /// A control character is in a text.
     Control,
     /// Something else.
     Other,
@@ -299,11 +240,11 @@ fn shape_hint(
     match shape_error {
         ShapeError::Breaks(Member::At) => Ok(Some(moment_hint(value))),
         ShapeError::Breaks(Member::Do) => match text_at(value, "do") {
-            Some(word) => Ok(Search::of(word).with_all(alloc, &COMMANDS)?.hint()),
+            Some(word) => Ok(Search::of(word).with_all(alloc, command_words())?.hint()),
             None => Ok(None),
         },
         ShapeError::Breaks(Member::Ask) => match text_at(value, "ask") {
-            Some(word) => Ok(Search::of(word).with_all(alloc, &QUESTIONS)?.hint()),
+            Some(word) => Ok(Search::of(word).with_all(alloc, question_words())?.hint()),
             None => Ok(None),
         },
         ShapeError::Other(Some(name)) => member_hint(alloc, value, name.as_str()),

@@ -34,7 +34,7 @@ fn judge_command(body: &Command) -> Verdict
     }
 }
 
-/// The verdict on a line, which is given without its LF and the CR before it. Of a bad one it tells what is wrong with it, and not only
+/// The verdict on a line, which is given without its LF and the CR before it. Of a bad one it says what is wrong with it, and not only
 /// that it is bad.
 pub(crate) fn judge(alloc: Global, line: &[u8]) -> Result<Verdict, MemoryError>
     ensures verdict { IfOk result (λ verdict. verdict ≡ verdict_of line.now) }

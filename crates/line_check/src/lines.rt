@@ -30,13 +30,13 @@ pub(crate) struct Tally {
     bad: bool,
 }
 
-/// The bytes of a line that are held. A longer line than may be read is told by these.
+/// The bytes of a line that are held. A longer line than may be read is known by these.
 const ROOM: usize = 262_146;
 
 /// After so many reads a check ends.
 const MOST_READS: u64 = 1_000_000_000;
 
-/// What is told of a bad line.
+/// What is reported of a bad line.
 #[derive(Clone, Copy)]
 struct NumberedVerdict {
     number: u64,
@@ -77,7 +77,7 @@ fn write_verdict<W: Write>(writer: &mut W, text: &[u8]) -> Result<(), CheckFault
     }
 }
 
-/// Tells why the line of a number is bad.
+/// Reports why the line of a number is bad.
 fn write_verdict_line<W: Write>(
     alloc: Global,
     writer: &mut W,
@@ -96,7 +96,7 @@ fn write_verdict_line<W: Write>(
     }
 }
 
-/// Tells the counts.
+/// Writes the counts.
 fn write_counts<W: Write>(alloc: Global, writer: &mut W, tally: Tally) -> Result<(), CheckFault>
     ensures text { OnOk result (Appends (W.contents writer.old) (W.contents writer.new)
         (with_lf (counts_text tally))) }
@@ -136,7 +136,7 @@ fn tally_with(tally: Tally, verdict: Verdict) -> Result<Tally, CheckFault>
     Ok(now)
 }
 
-/// Tells a line of this verdict where it is bad, and counts it.
+/// Reports a line of this verdict where it is bad, and counts it.
 fn take_verdict<W: Write>(
     alloc: Global,
     writer: &mut W,
@@ -159,7 +159,7 @@ fn take_verdict<W: Write>(
     }
 }
 
-/// Gives a hint on the line behind so many, where it is a bad one among the first.
+/// Gives a hint on the line after so many, where it is a bad one among the first.
 fn give_hint<H: Write>(alloc: Global, hints: &mut H, before: u64, line: &[u8], verdict: &Verdict) {
     if let Verdict::Bad(reason) = verdict {
         if before < MOST_HINTED {
@@ -303,7 +303,7 @@ fn take_piece<W: Write, H: Write>(
     Ok(tally)
 }
 
-/// Tells the end: the counts, where no line was bad.
+/// Writes the end: the counts, where no line was bad.
 fn write_end<W: Write>(alloc: Global, writer: &mut W, tally: Tally) -> Result<bool, CheckFault>
     ensures valid { IfOk result (λ bad. bad ≡ tally.bad) }
     ensures text { OnOk result (Appends (W.contents writer.old) (W.contents writer.new)
@@ -320,7 +320,7 @@ fn write_end<W: Write>(alloc: Global, writer: &mut W, tally: Tally) -> Result<bo
     }
 }
 
-/// Takes the last line, which no LF ended, and tells the end.
+/// Takes the last line, which no LF ended, and writes the end.
 fn end_input<W: Write, H: Write>(
     alloc: Global,
     writer: &mut W,
@@ -385,14 +385,14 @@ fn check_pieces<R: Read, W: Write, H: Write>(
 /// number and its problem, and where there was none, how many commands and questions there were. `true` where some
 /// line is bad. What may be meant by a bad line goes to `hints`, of which nothing is promised.
 ///
-/// A line ends with LF, and one CR before it is dropped; what stands behind the last LF counts as it stands. An empty
+/// A line ends with LF, and one CR before it is dropped; what follows the last LF counts as it is. An empty
 /// line is passed over. Of a line at most 262,146 bytes are held.
 ///
 /// `Read`: a read failed, or the input had not ended after 10^9 reads. `Write`: a write failed, or took no byte. `Memory`: memory was refused.
 /// At each of them a front of the report on the input was written, at `Write` not all of it. `Open` never comes.
 ///
-/// In the clauses, `bytes` are those that the reader has lost, to its end; after a fault those that it had left, where it tells them, and some bytes
-/// where it tells none.
+/// In the clauses, `bytes` are those that the reader has lost, to its end; after a fault those that it had left, where it reports them, and some bytes
+/// where it reports none.
 pub(crate) fn check_lines<R: Read, W: Write, H: Write>(
     alloc: Global,
     reader: &mut R,

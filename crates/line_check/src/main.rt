@@ -5,13 +5,14 @@ mod ending;
 mod hints;
 mod judge;
 mod lines;
+mod rules;
+mod schema;
+mod words;
 
-use desk_cli::{
-    CheckFault, CheckProgram, WordsFault, print_refused, read_arguments, read_checked_file,
-    texts_of,
-};
+use desk_cli::{CheckFault, WordsFault, print_refused, read_arguments, read_line_check, texts_of};
 use ending::status_of;
 use lines::check_lines;
+use schema::schema_of_lines;
 use std::fs::File;
 use std::io;
 use std::process::ExitCode;
@@ -24,12 +25,16 @@ fn main(rt: HostRuntime) -> ExitCode {
     ExitCode::from(status)
 }
 
-/// Checks the lines of the file that the words of the command line name, and gives the exit status.
+/// Checks the lines of the file that the words of the command line name, or prints the JSON Schema, and gives the exit status.
 fn check_named(rt: &HostRuntime) -> Result<u8, WordsFault> {
     let arguments = read_arguments(rt)?;
     let texts = texts_of(rt.alloc(), arguments.as_slice())?;
-    let file = read_checked_file(rt.alloc(), CheckProgram::Lines, texts.as_slice())?;
-    let end = check_file(rt, file);
+    let check = read_line_check(rt.alloc(), texts.as_slice())?;
+    let end = if check.wants_schema {
+        print_schema(rt)
+    } else {
+        check_file(rt, check.file)
+    };
     if let Err(fault) = &end {
         let _ = eprintln!(rt; "{fault}");
     }
@@ -46,5 +51,19 @@ fn check_file(rt: &HostRuntime, file: Option<&str>) -> Result<bool, CheckFault> 
             Ok(mut opened) => check_lines(rt.alloc(), &mut opened, &mut writer, &mut hints),
             Err(_) => Err(CheckFault::Open),
         },
+    }
+}
+
+/// Prints the JSON Schema of lines.
+fn print_schema(rt: &HostRuntime) -> Result<bool, CheckFault> {
+    let Ok(schema) = schema_of_lines(rt.alloc()) else {
+        return Err(CheckFault::Memory);
+    };
+    let Ok(text) = schema.to_string_pretty(rt.alloc()) else {
+        return Err(CheckFault::Memory);
+    };
+    match println!(rt; "{text}") {
+        Ok(()) => Ok(false),
+        Err(_) => Err(CheckFault::Write),
     }
 }

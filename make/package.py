@@ -137,7 +137,7 @@ def pages(programs, version, whole, words):
 
 def documents():
     """The documents and the examples, as they stand to one another in the repository."""
-    found = [TOP / it for it in ("README.md", "CHANGELOG.md", "CONTRIBUTING.md")] + sorted(it for it in TOP.glob("docs/*") if it.suffix in (".md", ".svg"))
+    found = [TOP / it for it in ("README.md", "CHANGELOG.md", "CONTRIBUTING.md")] + sorted(it for it in TOP.glob("docs/*") if it.suffix in (".json", ".md", ".svg"))
     found += sorted(it for it in TOP.glob("examples/**/*") if it.is_file() and "__pycache__" not in it.parts)
     return {f"{DOC}/{it.relative_to(TOP)}": (it.read_bytes(), 0o755 if it.stat().st_mode & 0o100 else 0o644) for it in found}
 

@@ -93,6 +93,9 @@ class CheckTests:
     # An input, and how the check ends over it.
     INPUT, STATUS, OUTPUT = b"", 0, b""
 
+    # What follows the name of the program in its help.
+    USAGE = "[FILE]"
+
     # An input that is short.
     SHORT = b""
 
@@ -124,7 +127,7 @@ class CheckTests:
         name = self.program.path.name
         for word in "--help", "-h":
             status, output, errors = self.program.run(word)
-            self.check(word, (status, f"\nUsage: {name} [FILE]\n".encode() in output, errors), (0, True, b""))
+            self.check(word, (status, f"\nUsage: {name} {self.USAGE}\n".encode() in output, errors), (0, True, b""))
         for word in "--version", "-V":
             self.check(word, self.program.run(word), (0, f"{name} 1.0.0\n".encode(), b""))
 
@@ -202,6 +205,7 @@ class LineCheck(CheckTests, ProgramTestCase):
     """The check of lines."""
 
     PROGRAMS = ("line_check",)
+    USAGE = "[OPTIONS] [FILE]"
     INPUT, STATUS, OUTPUT = GOOD_LINES, 0, b"1 commands, 2 questions\n"
     SHORT = b"{}\n"
 

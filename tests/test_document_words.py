@@ -1,4 +1,4 @@
-"""make/words.py, which counts the words of the documents."""
+"""make/words.py, which counts the words of the documents and of comments."""
 from __future__ import annotations
 
 import subprocess
@@ -14,10 +14,11 @@ TOOL = "make/words.py"
 class DocumentWords(FolderTestCase):
     """What is counted, and what is above a limit."""
 
-    def run_over(self, readme, *options, guide="a\n"):
-        """Returns how the tool ends over a repository with these documents."""
-        for name, text in {"README.md": readme, "CONTRIBUTING.md": "", "CHANGELOG.md": "", "bench/README.md": "", "docs/GUIDE.md": guide}.items():
-            (self.folder / name).parent.mkdir(exist_ok=True)
+    def run_over(self, readme, *options, guide="a\n", sources=()):
+        """Returns how the tool ends over a repository with these documents and these files of crates."""
+        documents = {"README.md": readme, "CONTRIBUTING.md": "", "CHANGELOG.md": "", "bench/README.md": "", "docs/GUIDE.md": guide}
+        for name, text in {**documents, **dict(sources)}.items():
+            (self.folder / name).parent.mkdir(parents=True, exist_ok=True)
             (self.folder / name).write_text(text)
         (self.folder / "make").mkdir(exist_ok=True)
         (self.folder / TOOL).write_bytes((TOP / TOOL).read_bytes())
@@ -47,7 +48,25 @@ class DocumentWords(FolderTestCase):
         self.check("the limit", self.run_over("word " * 29_999, "--check"), (0, ""))
         self.check("one more", self.run_over("word " * 30_000, "--check"), (1, "all documents: 30001 words, above 30000\n"))
 
-    def test_documents_of_the_repository_keep_the_limits(self):
+    def test_comments_of_a_crate_are_counted_and_its_code_is_not(self):
+        sources = {
+            "crates/desk/src/lib.rt": "//! One two\n//\nlet told = \"http://behind\"; // three told\n/// four\n",
+            "crates/desk/src/page.rt": "const PAGE: &[u8] = br##\"\n// beside\n\"##;\n",
+            "crates/desk/specs/A.antt": "-- five stands\ntold = x -- six\nx = y--z\n--\n-- ---- seven\n",
+            "crates/desk/proofs/a/b/C.antt": "  -- eight\n",
+            "crates/desk/README.md": "told\n",
+            "crates/desk/must-fail/a.edit": "// told\n",
+        }
+        status, output = self.run_over("one\n", sources=sources)
+        self.check("the status", status, 0)
+        self.check("the last line", output.splitlines()[-1].split(), ["10", "200.0", "crates/desk,", "comments"])
+
+    def test_comments_of_200_words_are_judged_and_fewer_are_not(self):
+        for words, expected in ((199, (0, "")), (200, (1, "crates/desk: 5.0 of 1,000 words of comments blur\n")), (201, (0, ""))):
+            sources = {"crates/desk/src/lib.rt": "// told" + " word" * (words - 1) + "\n"}
+            self.check(f"{words} words", self.run_over("a\n", "--check", sources=sources), expected)
+
+    def test_documents_and_comments_of_the_repository_keep_the_limits(self):
         ended = subprocess.run([sys.executable, TOP / TOOL, "--check"], capture_output=True, text=True, timeout=60)
         self.check("what is above a limit", (ended.returncode, ended.stdout), (0, ""))
 

@@ -29,7 +29,7 @@ PLAIN = {"PATH": "/usr/bin:/bin", "LC_ALL": "C"}
 BASH = 'source "$0"; COMP_WORDS=("$@"); COMP_CWORD=$(($# - 1)); _desk; printf "%s\\n" "${COMPREPLY[@]}"'
 
 # Programs that have no words, each with an option of its help.
-ALONE = [("order_check", "--version"), ("line_check", "--version"), ("desk_check", "--json"), ("genealogy_picture", "--dot")]
+ALONE = [("order_check", "--version"), ("line_check", "--schema"), ("desk_check", "--json"), ("genealogy_picture", "--dot")]
 
 # The documents of a package.
 DOC = "share/doc/desk"

@@ -48,6 +48,7 @@ def loaded(place):
         sys.path.insert(0, str(path.parent))
     spec = importlib.util.spec_from_file_location(f"loaded_{path.stem}", path)
     module = importlib.util.module_from_spec(spec)
+    sys.modules[spec.name] = module
     spec.loader.exec_module(module)
     return module
 

@@ -31,7 +31,7 @@ fn main(rt: HostRuntime) -> ExitCode {
     }
 }
 
-/// Tells a fault on standard error, and gives its exit status.
+/// Prints a fault on standard error, and gives its exit status.
 fn fails(rt: &impl Eprint, fault: &str, status: u8) -> ExitCode {
     let _ = eprintln!(rt; "fault: {fault}");
     ExitCode::from(status)

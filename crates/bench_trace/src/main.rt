@@ -1,5 +1,5 @@
 //! A bench of traces over edges in memory. `SHAPE N` makes N edges of a shape, traces forward from where they begin, and
-//! prints how many nodes the trace has; the shapes are `chain`, `fan` and `mesh`. Without words each shape is traced over
+//! prints how many nodes the trace has; the shapes are `chain`, `fan` and `mesh`. Without arguments each shape is traced over
 //! a few edges.
 #![tactic(auto)]
 
@@ -14,7 +14,7 @@ use std::alloc::{AllocError, Global};
 use std::process::ExitCode;
 use std::{env, io};
 
-/// How many edges are traced without words.
+/// How many edges are traced without arguments.
 const FEW: u64 = 100;
 
 /// The exit status where nothing was traced.
@@ -99,7 +99,7 @@ fn shape_of(word: &str) -> Option<Shape> {
     }
 }
 
-/// The words of the command line, the program's name first.
+/// The arguments of the command line, the program's name first.
 fn words(rt: &HostRuntime) -> io::Result<Vec<String>> {
     let mut words = Vec::new(rt.alloc());
     for word in env::args(rt)? {

@@ -1,4 +1,4 @@
--- The exit status that an outcome is told with.
+-- The exit status of an outcome.
 use Rattle.std.proofs.Common.{◌≡◌, ℕ, Bool, true, false, List, Option, Result, Ok, Err}
 use Rattle.desk_program.specs.Performs.{Exits}
 use Rattle.desk_program.specs.declared.fault.Fault.{Fault}

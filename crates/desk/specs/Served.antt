@@ -1,4 +1,4 @@
--- What the serving of requests is told as.
+-- How the outcome of serving requests is reported.
 use Rattle.std.specs.Prelude.{Bool, false, Result, Ok, Err}
 use Rattle.desk_program.specs.declared.fault.Fault.{Fault}
 use Rattle.desk_program.specs.declared.fault.Fault.TheVariants as fault

@@ -1,4 +1,4 @@
--- What comes of the work that the words name, over a store that was opened.
+-- What comes of the work that the arguments name, over a store that was opened.
 use Rattle.std.specs.Prelude.{◌≡◌, ◌≢◌, ◌⊎◌, ℕ, Bool, true, false, Option, None, Some, Result, Ok, Err, ⊤}
 use Rattle.sqlite.specs.declared.error.Error.{Error}
 use Rattle.sqlite.specs.declared.error.Error.TheVariants.{SqliteFailure}
@@ -43,7 +43,7 @@ EndsDesk serving from after done = (profile : Profile) × IsProfileOf serving.pa
     × (served : Result (Unit {0}) ServingFault) × (done ≡ outcome_of served)
     × ((shut : Bool) × EndsServing shut served × from (λ s. HasServedFrom profile serving.count s after shut))
 
--- an open desk served, from each state that it stood at
+-- an open desk served, from each state that it represented
 abbrev pub DeskServes : Serving → store.State → store.State → Result Bool Fault → Type 0
 DeskServes serving before after done =
     EndsDesk serving (λ holds. HasCleanDisk after → (s : State) → IsDurablyAt before s → holds s) after done
@@ -67,7 +67,7 @@ exit_status (Ok false) = 0
 exit_status (Ok true) = 1
 exit_status (Err f) = status_of f
 
--- the exit status where the work was done over a store of this kind, which had just been opened, and which was closed behind it or couldn't be
+-- the exit status where the work was done over a store of this kind, which had just been opened, and which was closed after it or couldn't be
 pub record ExitsDone {S : Type 0} (g : Ghosts S) (work : Work) (status : ℕ) : Type 0 where
   pub outcome : Result Bool Fault
   pub is_closed : Bool

@@ -1,4 +1,4 @@
-//! The desk: its words tell what to do with which file. Lines of JSON or an order file come in on standard input, replies and
+//! The desk: its arguments say what to do with which file. Lines of JSON or an order file come in on standard input, replies and
 //! records go out on standard output; requests of HTTP come in on a port of 127.0.0.1.
 #![tactic(auto)]
 
@@ -20,7 +20,7 @@ fn main(rt: HostRuntime) -> ExitCode {
     ExitCode::from(status)
 }
 
-/// Does what the words of the command line tell, and gives the exit status.
+/// Does what the arguments of the command line ask for, and gives the exit status.
 fn perform_words(rt: &HostRuntime) -> Result<u8, WordsFault> {
     let arguments = read_arguments(rt)?;
     let texts = texts_of(rt.alloc(), arguments.as_slice())?;

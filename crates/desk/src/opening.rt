@@ -1,4 +1,4 @@
-//! What the words tell, done over the file that they name.
+//! The work of the arguments, done over the file that they name.
 ghost use Rattle.std.specs.Prelude.{◌≡◌, ◌≢◌};
 ghost use Rattle.sqlite.specs.Steps.{over_memory};
 ghost use Rattle.desk_file.specs.Working.{in_memory};
@@ -12,7 +12,7 @@ use desk_program::{Fault, Performed, after_closing, write_opening, write_outcome
 use sqlite::{Alter, Connection, FileFrom, FileStore, Start};
 use sqlite_trees::store::Store;
 
-/// The work that the words tell.
+/// The work of the arguments.
 #[derive(Clone, Copy)]
 struct DeskWork(Work);
 
@@ -39,15 +39,15 @@ impl StoreWork for DeskWork {
     }
 }
 
-/// Opens the file that the words name, does over it what they tell, and closes it. Gives the exit status.
+/// Opens the file that the arguments name, does their work over it, and closes it. Gives the exit status.
 ///
-/// `start` stands for what the file holds before it is opened, whatever that is.
+/// `start` represents what the file holds before it is opened, whatever that is.
 pub(crate) fn perform_over<S: Start>(rt: &HostRuntime, words: &Words<'_>, start: S) -> u8
     ensures memory { words.now.file.now ≡ in_memory → ExitsOver over_memory words.now.work result }
     ensures file { words.now.file.now ≢ in_memory
         → ExitsOver ⟦<FileStore<FileFrom<S>> as Store>⟧ words.now.work result }
 {
-    // That a file is made by another word may come of a slip in its name.
+    // That a file is made by another subcommand may come of a slip in its name.
     let is_wanted = matches!(words.work, Work::Task(Task::Init));
     match work_over(rt, words.file, is_wanted, start, DeskWork(words.work)) {
         Ok(ended) => write_outcome(outcome_of(ended), &mut rt.stderr()),

@@ -74,7 +74,7 @@ fn serve_desk<S: Alter + Drop>(
     }
 }
 
-/// What is told of the requests that were served, of which none counts as a refusal, or of the fault that ended it.
+/// The outcome of the requests that were served, of which none counts as a refusal, or the fault that ended it.
 fn outcome_of(served: Result<(), ServingFault>) -> Result<bool, Fault>
     ensures { result ≡ outcome_of served }
 {
@@ -107,7 +107,7 @@ fn profile_of(page: &Option<Hosts>) -> Profile<'_>
     }
 }
 
-/// Tells that the port is listened on: of the page under its address, and else where requests are noted.
+/// Notes that the port is listened on: with the address of the web page, and else where requests are noted.
 fn note_listening(rt: &HostRuntime, serving: &Serving, log: AccessLog<'_>) {
     let port = serving.port;
     if serving.page.is_some() {

@@ -10,7 +10,7 @@ use Rattle.plant_check_rows.specs.declared.finding.Tested.{Tested}
 use Rattle.desk_check.specs.Objects.{each_data, found_data}
 use Rattle.desk_check.specs.Reports.{found_in}
 
--- what is told of one rule more
+-- what is reported of one rule more
 pub each_data_more : (t : Tested) (rs : List Rule) (r : Rule) → each_data t (rs ++ r ∷ []) ≡ each_data t rs ++ found_data (found_in t r)
 each_data_more t [] r = append-nil (found_data (found_in t r))
 each_data_more t (q ∷ rs) r = ap (λ ds. found_data (found_in t q) ++ ds) (each_data_more t rs r) ∙ sym (append_assoc (found_data (found_in t q)) (each_data t rs) (found_data (found_in t r)))
@@ -19,7 +19,7 @@ each_data_more t (q ∷ rs) r = ap (λ ds. found_data (found_in t q) ++ ds) (eac
 pub listed : (v : Vec Value Global) (ds : List Data) → map view v.items ≡ ds → view (Array v) ≡ array (items_of ds)
 listed v ds shown = view-Array v ∙ ap (λ shows. array (items_of shows)) shown
 
--- a rule more is told
+-- a rule more is reported
 pub each_data_reported : (t : Tested) (rs : List Rule) (i : ℕ) (d : Rule) (before now : List Data) → i < length rs → before ≡ each_data t (take i rs)
     → now ≡ before ++ found_data (found_in t (get_or rs i d)) → now ≡ each_data t (take (i + 1) rs)
 each_data_reported t rs i d before now within so_far added =

@@ -1,4 +1,4 @@
--- What is told of an opened store.
+-- The report on an opened store is right.
 use Rattle.std.proofs.Common.{◌≡◌, ◌∙◌, ◌<◌, ◌≤◌, ℕ, ℤ, pos, Option, Some, None, Result, Ok, Err, IfOk, IfSome, refl, sym, subst, inl, inr, arith}
 use Rattle.std.specs.Prelude.{◌↔◌, ◌≢◌, All}
 use Rattle.sqlite.specs.Effect.{Database}
@@ -30,7 +30,7 @@ use Rattle.desk_check.specs.declared.file_report.FileReport.TheVariants as file_
 pos_same : (m n : ℕ) → pos m ≡ pos n → m ≡ n
 pos_same m n e = cc
 
--- no version above the newest is told where one is that isn't
+-- no version above the newest is reported where there is one that isn't
 pub only_known : (db : Database) (version : ℕ) → IsVersion db (pos version) → version ≤ newest_schema → (n : ℕ) → newest_schema < n → ¬ IsVersion db (pos n)
 only_known db version reported known n above other = let same : n ≡ version = pos_same n version (one_version db (pos n) (pos version) other reported) in absurd (omega (arith, same, above, known))
 
@@ -100,7 +100,7 @@ keeps_both a b c one two = record {
   committed = λ live. two.committed live ∙ one.committed (two.was_open live);
 }
 
--- ---- what is told, by what is held
+-- ---- the report, by what is held
 
 pub reported_on : (db : Database) (h : Held) (s : FileReport) → IsHeldIn db h → IsReportOf h s → IsFileReportOf db s
 reported_on db (held.Nothing barred) s held reported = subst (IsFileReportOf db) (sym reported) held

@@ -27,8 +27,8 @@ use Rattle.desk_check.specs.declared.file_report.FileReport.TheVariants as file_
 
 -- ---- what is held
 
--- there is something of the desk, of a version that is known, whose tables stand as they are declared, these are all of its rows, and this is the first index that can't be made as
--- they are raised
+-- there is something of the desk, of a version that is known, whose tables are declared as their definitions say, these are all of its rows, and this is
+-- the first index that can't be made as they are raised
 pub record HoldsRows (db : Database) (x : Loaded) (barred : Option DeskIndex) : Type 0 where
   pub version : ℕ
   pub taken : ¬ All (IsFree db.schema) desk_table_defs
@@ -46,7 +46,7 @@ IsHeldIn db (held.Newer n) = IsVersion db (pos n) × (newest_schema < n)
 IsHeldIn db held.Lacking = IsDamaged db rule.Tables
 IsHeldIn db (held.Tables x barred) = HoldsRows db x barred
 
--- the same where table meta tells this schema, as was read before: it is later than the newest; its tables don't stand; or these are
+-- the same where table meta has this schema, as was read before: it is later than the newest; its tables aren't as declared; or these are
 -- all of their rows
 abbrev pub IsReadAt : Database → ℕ → Held → Type 0
 IsReadAt db schema (held.Nothing barred) = ⊥
@@ -64,7 +64,7 @@ IsHeldBy db tables.Nothing h = h ≡ held.Nothing (barred_index db.schema 0)
 IsHeldBy db tables.NoMeta h = h ≡ held.Lacking
 IsHeldBy db (tables.Version v) h = IsReadAs db v h
 
--- ---- what is told
+-- ---- the report
 
 abbrev pub summary_of : Option Meta → Loaded → DeskSummary
 summary_of meta x = record {
@@ -77,7 +77,7 @@ summary_of meta x = record {
   movements = length (contents_loaded x 11);
 }
 
--- where the desk of these rows stands, and each rule that they break
+-- the position of the desk of these rows, and each rule that they break
 pub record IsDesk (x : Loaded) (summary : DeskSummary) (found : Findings) : Type 0 where
   pub represents : summary ≡ summary_of (only_meta (contents_loaded x 0)) x
   pub breaks : AreFindingsOf x found
@@ -88,7 +88,7 @@ ReportsDesk x bars (file_report.Newer n) = ⊥
 ReportsDesk x bars (file_report.Lacking b) = ⊥
 ReportsDesk x bars (file_report.Desk summary barred found) = IsDesk x summary found × (barred ≡ bars)
 
--- this is told of what is held
+-- this is the report on what is held
 abbrev pub IsReportOf : Held → FileReport → Type 0
 IsReportOf (held.Nothing barred) s = s ≡ file_report.Nothing barred
 IsReportOf (held.Newer n) s = s ≡ file_report.Newer n
@@ -101,14 +101,14 @@ pub record HoldsDesk (db : Database) (summary : DeskSummary) (barred : Option De
   pub rows : HoldsRows db loaded barred
   pub reported : IsDesk loaded summary found
 
--- what is told of a database is so
+-- the report on a database is right
 abbrev pub IsFileReportOf : Database → FileReport → Type 0
 IsFileReportOf db (file_report.Nothing barred) = AreFree desk_table_defs db.schema × (barred ≡ barred_index db.schema 0)
 IsFileReportOf db (file_report.Newer n) = IsVersion db (pos n) × (newest_schema < n)
 IsFileReportOf db (file_report.Lacking b) = IsDamaged db rule.Tables
 IsFileReportOf db (file_report.Desk summary barred found) = HoldsDesk db summary barred found
 
--- the first rule that is told
+-- the first rule of the report
 abbrev pub first_reported : FileReport → Option Rule
 first_reported (file_report.Nothing barred) = None
 first_reported (file_report.Newer n) = None

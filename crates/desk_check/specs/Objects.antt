@@ -1,4 +1,4 @@
--- What is told of a file, as one JSON object.
+-- The report on a file, as one JSON object.
 use Rattle.std.specs.Prelude.{ℕ, Bool, List, [], ◌∷◌, ◌++◌, codes, Option, Some, None, is_none}
 use Rattle.serde_json.specs.Data.{Data, Members, null, boolean, number, unsigned, string, array, object, member, no_members}
 use Rattle.serde_json.specs.View.{items_of}
@@ -35,7 +35,7 @@ list ds = array (items_of ds)
 
 -- ---- rows
 
--- the values of a key, in the order of its columns; or the place of the row
+-- the values of a key, in the order of its columns; or the position of the row
 abbrev pub key_data : Key → Data
 key_data (key.Id id) = list (string id ∷ [])
 key_data (key.Number n) = list (count n ∷ [])
@@ -94,7 +94,7 @@ desk_data s found = object
     (member (codes "schema") (count s.schema)
     (member (codes "seq") (count s.seq) no_members))))))))
 
--- the name of what keeps a table from standing
+-- the name of what keeps a table from being as declared
 abbrev pub bound_data : Option Binder → Data
 bound_data None = null
 bound_data (Some b) = string b.name

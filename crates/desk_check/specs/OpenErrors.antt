@@ -133,7 +133,7 @@ open_error_at kind.NotADirectory = open_error.NoFolder
 open_error_at kind.OutOfMemory = open_error.Memory
 open_error_at _ = open_error.Unread
 
--- as a file is made beside and a page written to it
+-- as a file is made next to it and a page written to that
 abbrev pub open_error_of_sibling : ErrorKind → OpenError
 open_error_of_sibling kind.StorageFull = open_error.Closed (SqliteFailure code.DiskFull)
 open_error_of_sibling kind.QuotaExceeded = open_error.Closed (SqliteFailure code.DiskFull)

@@ -74,7 +74,7 @@ abbrev pub IsFirstSentence : Option OpenError → List ℕ → Type 0
 IsFirstSentence None sentence = sentence ≡ []
 IsFirstSentence (Some o) sentence = (text : List ℕ) × IsErrorText (error_of o) text × (sentence ≡ with_lf text)
 
--- whether the file opens, and why not, was written behind what there was
+-- whether the file opens, and why not, was written after what there was
 abbrev pub WritesOpening : Option OpenError → Option (List ℕ) → Option (List ℕ) → Type 0
 WritesOpening o old new = (sentence : List ℕ) × IsFirstSentence o sentence × Appends old new (sentence ++ opening_text o)
 

@@ -1,4 +1,4 @@
--- What is told of a file, in sentences.
+-- The report on a file, in sentences.
 use Rattle.std.specs.Prelude.{ℕ, List, [], ◌∷◌, ◌++◌, codes, decimal, Option, Some, None}
 use Rattle.plant_text.specs.Writes.{with_lf}
 use Rattle.plant_check.specs.Numbered.{rule_number}

@@ -16,7 +16,7 @@ pub(crate) struct Copied {
     pub(crate) hindered: Option<OpenError>,
 }
 
-/// The folder of a file, as the name tells it.
+/// The folder of a file, by the name.
 fn folder_of(file: &str) -> &str {
     match file.rsplit_once('/') {
         None => ".",
@@ -54,7 +54,7 @@ fn open_there(rt: &HostRuntime, file: &str) -> Result<(File, bool), OpenError> {
     }
 }
 
-/// An open file that isn't in the place of a standard stream: what is written to a stream that was closed must not land in it.
+/// An open file that hasn't the number of a standard stream: what is written to a stream that was closed must not land in it.
 fn apart(file: File) -> Result<File, OpenError> {
     if file.as_raw_fd() > 2 {
         return Ok(file);
@@ -95,7 +95,7 @@ fn begins_with_something(bytes: &[u8]) -> bool {
     }
 }
 
-/// The name of what stands beside a file.
+/// The name of a file next to a file.
 fn sibling(rt: &HostRuntime, file: &str, end: &str) -> Result<String, OpenError> {
     format!(in rt.alloc(); "{file}{end}").map_err(|_| OpenError::Memory)
 }
@@ -139,7 +139,7 @@ fn log_of(rt: &HostRuntime, file: &str) -> Result<Log, OpenError> {
     })
 }
 
-/// Whether this user may make a file in a folder, as far as its mode tells.
+/// Whether this user may make a file in a folder, as far as its mode says.
 fn may_make(rt: &HostRuntime, folder: &str) -> bool {
     match fs::metadata(rt, folder) {
         Ok(found) => {
@@ -167,7 +167,7 @@ fn hindered(
     hindrance(writable && log.writable, grows, logs)
 }
 
-/// What keeps the desk from a file where nothing was found to: whether a page can be written beside it, where that is tried.
+/// What keeps the desk from a file where nothing was found to: whether a page can be written next to it, where that is tried.
 fn tried(
     rt: &HostRuntime,
     real: &str,
@@ -181,7 +181,7 @@ fn tried(
 }
 
 /// Reads a file and its log into memory, while no other program has them open, and asks whether they may be written and grow; and
-/// tries whether the disk has room beside them, where that is asked for.
+/// tries whether the disk has room next to them, where that is asked for.
 ///
 /// `Missing`, `NoFolder`, `NoFile`, `Linked`, `Unreadable`, `Locked`, `Journal`: as these say; `Unread` where a read failed;
 /// `Memory` where there is none.

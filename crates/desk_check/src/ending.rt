@@ -1,11 +1,11 @@
-//! How a check ends: why what came of it isn't told whole, and the exit status.
+//! How a check ends: why its report isn't whole, and the exit status.
 ghost use Rattle.std.specs.Prelude.{◌≡◌, Some};
 ghost use Rattle.desk_check.specs.Endings.{status_of, report_error_text};
 
 use crate::outcome::Outcome;
 use std::fmt;
 
-/// Why what came of a check isn't told whole.
+/// Why the report of a check isn't whole.
 #[derive(Clone, Copy, Debug, PartialEq, Eq)]
 pub(crate) enum ReportError {
     /// A text couldn't be written whole.
@@ -25,7 +25,7 @@ impl fmt::Display for ReportError {
     }
 }
 
-/// The exit status of a check of this outcome, which was told whole or not.
+/// The exit status of a check of this outcome, which was reported whole or not.
 pub(crate) fn status_of(outcome: &Outcome, reported: &Result<(), ReportError>) -> u8
     ensures { result ≡ status_of outcome.now reported.now }
 {

@@ -23,13 +23,14 @@ pub(crate) enum Held {
     Nothing(Option<DeskIndex>),
     /// Those of this schema, which is above the newest.
     Newer(u64),
-    /// Some, but table meta tells no schema, or not all of that stand as they are declared, or one of a later schema stands.
+    /// Some, but table meta has no schema, or not all of its tables are declared as their definitions say, or one of a
+    /// later schema exists.
     Lacking,
     /// Those of a schema, with all their rows; and the first index that can't be made as they are raised, where there is one.
     Tables(Loaded, Option<DeskIndex>),
 }
 
-/// Where a desk stands, and how much it holds.
+/// The desk's position, and how much it holds.
 #[derive(Clone, Copy, Debug, PartialEq, Eq)]
 pub(crate) struct DeskSummary {
     /// The schema of its tables, how many commands were accepted, and the moment of the last.
@@ -42,15 +43,15 @@ pub(crate) struct DeskSummary {
     pub(crate) movements: usize,
 }
 
-/// What is told of a store.
+/// The report on a store.
 #[derive(Drop)]
 pub(crate) enum FileReport {
     /// It holds no desk; and this index of one can't be made, where there is such.
     Nothing(Option<DeskIndex>),
     /// It holds one in tables of this schema, which is above the newest.
     Newer(u64),
-    /// It holds some of a desk's tables: not all are there that its schema asks for, or they don't stand as they are declared; and what keeps one
-    /// from standing, where that is known.
+    /// It holds some of a desk's tables: not all are there that its schema asks for, or they aren't declared as their
+    /// definitions say; and why one isn't, where that is known.
     Lacking(Option<Binder>),
     /// It holds a desk, which breaks these rules; and this index can't be made as it is raised, where there is such.
     Desk {
@@ -94,7 +95,7 @@ fn held_by<S: Alter>(
     }
 }
 
-/// What a store holds whose table meta tells this version. Store where the version is below 0, and where the store fails;
+/// What a store holds whose table meta has this version. Store where the version is below 0, and where the store fails;
 /// Memory where there is none. Nothing is changed.
 fn read_version<S: Alter>(
     alloc: Global,
@@ -113,7 +114,7 @@ fn read_version<S: Alter>(
     }
 }
 
-/// What a store holds whose table meta tells this schema. Store where the store fails, Memory where there is none. Nothing is
+/// What a store holds whose table meta has this schema. Store where the store fails, Memory where there is none. Nothing is
 /// changed.
 fn read_schema<S: Alter>(
     alloc: Global,
@@ -137,7 +138,7 @@ fn read_schema<S: Alter>(
     }
 }
 
-/// Where the desk of these rows stands, by table meta, and how many rows it has of some tables.
+/// The position of the desk of these rows, by table meta, and how many rows it has of some tables.
 fn summary_by(meta: &Option<Meta>, loaded: &Loaded) -> DeskSummary
     ensures { result ≡ summary_of meta.now loaded.now }
 {
@@ -156,7 +157,7 @@ fn summary_by(meta: &Option<Meta>, loaded: &Loaded) -> DeskSummary
     }
 }
 
-/// What is told of rows that were loaded. The only error is that memory was refused.
+/// The report on rows that were loaded. The only error is that memory was refused.
 fn report_on_rows(
     alloc: Global,
     loaded: &Loaded,
@@ -174,7 +175,7 @@ fn report_on_rows(
     })
 }
 
-/// What is told of a store that holds this. The only fault is that memory was refused.
+/// The report on a store that holds this. The only fault is that memory was refused.
 fn file_report_of(alloc: Global, held: &Held) -> Result<FileReport, Fault>
     ensures { IfOk result (IsReportOf held.now) }
 {
@@ -189,10 +190,10 @@ fn file_report_of(alloc: Global, held: &Held) -> Result<FileReport, Fault>
     }
 }
 
-/// What is told of an opened store: what its tables are, where the desk stands, and which rules it breaks. Store where the store
+/// The report on an opened store: what its tables are, the desk's position, and which rules it breaks. Store where the store
 /// fails, Memory where there is none. Nothing is changed.
 ///
-/// The first rule that is told is the one that the word `verify` names (`refused` of `Desk::adopt`).
+/// The first rule of the report is the one that the subcommand `verify` names (`refused` of `Desk::adopt`).
 pub(crate) fn report_on_store<S: Alter>(
     alloc: Global,
     connection: &mut Connection<S>,

@@ -1,4 +1,4 @@
-//! What is told of a file, as one JSON object.
+//! The report on a file, as one JSON object.
 ghost use Rattle.std.specs.Prelude.{◌≡◌, ◌∷◌, ◌++◌, [], ℕ, List, Option, IfOk, OnOk, Some, map, string_bytes};
 ghost use Rattle.std.specs.Io.KnownBytes.{Appends};
 ghost use Rattle.serde_json.specs.View.{view};
@@ -23,7 +23,7 @@ use sqlite::Error;
 use std::alloc::{AllocError, Global};
 use std::io::Write;
 
-/// The values of a key, in the order of its columns; or the place of the row.
+/// The values of a key, in the order of its columns; or the position of the row.
 fn key_value(alloc: Global, key: Key) -> Result<Value, AllocError>
     ensures { IfOk result (λ v. view v ≡ spec.key_data key) }
 {
@@ -87,7 +87,7 @@ fn alone(alloc: Global, value: Value) -> Result<Value, AllocError>
     Ok(Value::Array(list))
 }
 
-/// Puts a rule that is broken behind the others.
+/// Adds a rule that is broken to the others.
 fn add_broken(
     alloc: Global,
     list: &mut Vec<Value>,
@@ -101,7 +101,7 @@ fn add_broken(
     Ok(())
 }
 
-/// Puts what is found of a rule behind the others, where something is.
+/// Adds what is found of a rule to the others, where something is.
 fn add_found(
     alloc: Global,
     list: &mut Vec<Value>,
@@ -156,7 +156,7 @@ fn desk_value(
     })
 }
 
-/// What is told of a desk whose tables don't stand.
+/// The report on a desk whose tables aren't as declared.
 fn lacking_value(alloc: Global, binder: Option<Binder>) -> Result<Value, AllocError>
     ensures { IfOk result (λ v. view v ≡ spec.file_report_data (Some (FileReport.Lacking binder))) }
 {
@@ -165,7 +165,7 @@ fn lacking_value(alloc: Global, binder: Option<Binder>) -> Result<Value, AllocEr
     json!(in alloc; {"bound": bound, "broken": broken})
 }
 
-/// The name of what keeps a table from standing, where that is known.
+/// The name of what keeps a table from being as declared, where that is known.
 fn bound_value(alloc: Global, binder: Option<Binder>) -> Result<Value, AllocError>
     ensures { IfOk result (λ v. view v ≡ spec.bound_data binder) }
 {
@@ -270,7 +270,7 @@ fn object_text(alloc: Global, outcome: &Outcome) -> Result<String, AllocError>
     value.to_string(alloc)
 }
 
-/// Tells an outcome as one JSON object, in a line.
+/// Writes an outcome as one JSON object, in a line.
 pub(crate) fn write_object<W: Write>(
     alloc: Global,
     writer: &mut W,

@@ -25,7 +25,7 @@ pub(crate) enum OpenError {
     Limited,
     /// It or its log has a second name.
     Linked,
-    /// SQLite left a journal beside it, which only SQLite can play back.
+    /// SQLite left a journal next to it, which only SQLite can play back.
     Journal,
     /// Another program has it open.
     Locked,
@@ -40,7 +40,7 @@ pub(crate) enum OpenError {
 }
 
 impl OpenError {
-    /// The name of the cause, as `--json` tells it.
+    /// The name of the cause, as with `--json`.
     pub(crate) fn name(self) -> &'static str
         ensures { result.now ≡ spec.open_error_name self }
     {
@@ -226,7 +226,7 @@ fn open_error_at(kind: ErrorKind) -> OpenError
     }
 }
 
-/// The obstacle that an error of the system is, as a file is made beside and a page written to it.
+/// The obstacle that an error of the system is, as a file is made next to it and a page written to that.
 pub(crate) fn open_error_of_sibling(kind: ErrorKind) -> OpenError
     ensures { result ≡ spec.open_error_of_sibling kind }
 {

@@ -1,4 +1,4 @@
-//! A store over the bytes of a file and of its log, which stand in memory.
+//! A store over the bytes of a file and of its log, which are in memory.
 ghost use Rattle.std.specs.Prelude.{IfOk, IsTrue};
 ghost use Rattle.sqlite_disk.specs.Memory.{memory_is_usable};
 
@@ -38,7 +38,7 @@ fn store_over(
     }
 }
 
-/// What is told of the store that these bytes of a log and of a file hold, or why it doesn't open.
+/// The report on the store that these bytes of a log and of a file hold, or why it doesn't open.
 pub(crate) fn report_on_bytes(
     alloc: Global,
     log: &[u8],

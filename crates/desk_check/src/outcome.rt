@@ -38,8 +38,8 @@ fn outcome_of(reported_on: Result<FileReport, OpenError>, hindered: Option<OpenE
     }
 }
 
-/// Checks a file, and whether the disk has room, where that is to be tried by a page that is written beside it. Nothing else is made or
-/// written.
+/// Checks a file, and whether the disk has room, where that is to be tried by a page that is written next to it. Nothing
+/// else is made or written.
 pub(crate) fn check_file(rt: &HostRuntime, file: &str, tries_room: bool) -> Outcome {
     match copy_file(rt, file, tries_room) {
         Err(open_error) => outcome_of(Err(open_error), None),
@@ -122,14 +122,14 @@ impl Outcome {
     }
 }
 
-/// Tells that the file opens.
+/// Writes that the file opens.
 fn write_opens<W: Write>(writer: &mut W) -> Result<(), ReportError>
     ensures { OnOk result (spec.WritesOpening None (W.contents writer.old) (W.contents writer.new)) }
 {
     write_report(writer, b"The file opens.")
 }
 
-/// Tells whether the file opens, and why not.
+/// Writes whether the file opens, and why not.
 fn write_opening<W: Write>(
     alloc: Global,
     writer: &mut W,
@@ -157,7 +157,7 @@ fn write_held<W: Write>(
     }
 }
 
-/// Tells an outcome in sentences: whether the file opens, and why not, then what it holds, and which rules that breaks.
+/// Writes an outcome in sentences: whether the file opens, and why not, then what it holds, and which rules that breaks.
 fn write_sentences<W: Write>(
     alloc: Global,
     writer: &mut W,
@@ -169,7 +169,7 @@ fn write_sentences<W: Write>(
     write_held(alloc, writer, &outcome.file_report)
 }
 
-/// Tells an outcome, in sentences or as one JSON object.
+/// Writes an outcome, in sentences or as one JSON object.
 pub(crate) fn write_outcome<W: Write>(
     alloc: Global,
     writer: &mut W,

@@ -1,4 +1,4 @@
-//! What is told of a file, in sentences.
+//! The report on a file, in sentences.
 ghost use Rattle.std.specs.Prelude.{◌≡◌, ℕ, List, ◌++◌, IfOk, IfSome, OnOk, Some, codes, string_bytes};
 ghost use Rattle.std.specs.Io.KnownBytes.{Appends};
 ghost use Rattle.plant_text.specs.Writes.{with_lf};
@@ -150,7 +150,7 @@ impl fmt::Display for Cause {
     }
 }
 
-/// Tells a rule that is broken, and its row where one is told.
+/// Writes a rule that is broken, and its row where one is known.
 fn write_broken<W: Write>(
     alloc: Global,
     writer: &mut W,
@@ -167,7 +167,7 @@ fn write_broken<W: Write>(
     }
 }
 
-/// Tells what is found of a rule, where something is.
+/// Writes what is found of a rule, where something is.
 fn write_rule<W: Write>(
     alloc: Global,
     writer: &mut W,
@@ -184,7 +184,7 @@ fn write_rule<W: Write>(
     }
 }
 
-/// Tells the rules that are broken, each with its row.
+/// Writes the rules that are broken, each with its row.
 fn write_each_rule<W: Write>(
     alloc: Global,
     writer: &mut W,
@@ -200,7 +200,7 @@ fn write_each_rule<W: Write>(
     Ok(())
 }
 
-/// Tells which rules rows break that were tested, or that they break none.
+/// Writes which rules rows break that were tested, or that they break none.
 fn write_tested<W: Write>(alloc: Global, writer: &mut W, tested: &Tested) -> Result<(), ReportError>
     ensures { OnOk result (Appends (W.contents writer.old) (W.contents writer.new)
         (spec.tested_text tested.now tested.now.rules.items)) }
@@ -211,7 +211,7 @@ fn write_tested<W: Write>(alloc: Global, writer: &mut W, tested: &Tested) -> Res
     }
 }
 
-/// Tells which rules a desk breaks, or that it breaks none.
+/// Writes which rules a desk breaks, or that it breaks none.
 fn write_findings<W: Write>(
     alloc: Global,
     writer: &mut W,
@@ -227,7 +227,7 @@ fn write_findings<W: Write>(
     }
 }
 
-/// Tells of an index that can't be made, where there is one.
+/// Writes of an index that can't be made, where there is one.
 fn write_barred<W: Write>(
     alloc: Global,
     writer: &mut W,
@@ -242,7 +242,7 @@ fn write_barred<W: Write>(
     }
 }
 
-/// Tells that a file holds no desk, and whether one can be made in it.
+/// Writes that a file holds no desk, and whether one can be made in it.
 fn write_nothing<W: Write>(
     alloc: Global,
     writer: &mut W,
@@ -263,7 +263,7 @@ fn write_nothing<W: Write>(
     }
 }
 
-/// Tells what keeps a table of the desk from standing, where that is known.
+/// Writes what keeps a table of the desk from being as declared, where that is known.
 fn write_bound<W: Write>(
     alloc: Global,
     writer: &mut W,
@@ -278,7 +278,7 @@ fn write_bound<W: Write>(
     }
 }
 
-/// Tells that a desk's tables don't stand, and what keeps one from it.
+/// Writes that a desk's tables aren't as declared, and what keeps one from it.
 fn write_lacking<W: Write>(
     alloc: Global,
     writer: &mut W,
@@ -291,7 +291,7 @@ fn write_lacking<W: Write>(
     write_bound(alloc, writer, binder)
 }
 
-/// Tells where a desk stands, and how many rows it has.
+/// Writes a desk's position, and how many rows it has.
 fn write_summary<W: Write>(
     alloc: Global,
     writer: &mut W,
@@ -304,7 +304,7 @@ fn write_summary<W: Write>(
     write_shown(alloc, writer, &Counts(*summary))
 }
 
-/// Tells what a desk breaks, and of an index that can't be made.
+/// Writes what a desk breaks, and an index that can't be made.
 fn write_wrong<W: Write>(
     alloc: Global,
     writer: &mut W,
@@ -318,7 +318,7 @@ fn write_wrong<W: Write>(
     write_barred(alloc, writer, barred)
 }
 
-/// Tells what a file holds that opens.
+/// Writes what a file holds that opens.
 pub(crate) fn write_file_report<W: Write>(
     alloc: Global,
     writer: &mut W,
@@ -365,7 +365,7 @@ fn error_text(alloc: Global, error: Option<Error>) -> Result<String, AllocError>
     }
 }
 
-/// Tells that a file doesn't open.
+/// Writes that a file doesn't open.
 fn write_error<W: Write>(
     alloc: Global,
     writer: &mut W,
@@ -380,7 +380,7 @@ fn write_error<W: Write>(
     }
 }
 
-/// Tells why a file doesn't open: in the toolkit's words where it has some, then in plain ones, and what to do.
+/// Writes why a file doesn't open: in the toolkit's words where it has some, then in plain ones, and what to do.
 pub(crate) fn write_open_error<W: Write>(
     alloc: Global,
     writer: &mut W,

@@ -1,4 +1,4 @@
-//! Whether a file may grow, and a log be made beside it.
+//! Whether a file may grow, and a log be made next to it.
 ghost use Rattle.std.specs.Prelude.{◌≡◌};
 ghost use Rattle.desk_check.specs.Rooms as spec;
 
@@ -50,8 +50,8 @@ fn allows(mode: u32, rights: u32) -> bool
     mode & rights == rights
 }
 
-/// Whether this user may make a file in a folder, as far as its mode tells. Of which groups the user is isn't asked: of a folder of
-/// somebody else's either the group's rights or those of others are the user's.
+/// Whether this user may make a file in a folder, as far as its mode says. Of which groups the user is isn't asked: of a
+/// folder of somebody else's either the group's rights or those of others are the user's.
 pub(crate) fn lets_make(folder: Rights, user: u32) -> bool
     ensures { result ≡ spec.lets_make folder user }
 {

@@ -1,4 +1,4 @@
-//! A page that is written beside a file: whether the disk has room for it only a write tells.
+//! A page that is written next to a file: only a write shows whether the disk has room for it.
 use crate::open_error::{OpenError, open_error_of_sibling};
 use std::fs::{self, File};
 use std::io::{self, Write};
@@ -12,8 +12,8 @@ fn write_page(file: &mut File) -> io::Result<()> {
     file.sync_all()
 }
 
-/// Makes a file of this name, writes a page to it, and removes it again; that the page can't be written is told first. Where something of
-/// this name is there, that stays as it is.
+/// Makes a file of this name, writes a page to it, and removes it again; that the page can't be written is reported first.
+/// Where something of this name is there, that stays as it is.
 fn make_page(rt: &HostRuntime, name: &str) -> io::Result<()> {
     let mut file = File::create_new(rt, name)?;
     let written = write_page(&mut file);
@@ -22,7 +22,7 @@ fn make_page(rt: &HostRuntime, name: &str) -> io::Result<()> {
     removed
 }
 
-/// What keeps a page from being written beside a file, where something does.
+/// What keeps a page from being written next to a file, where something does.
 pub(crate) fn tried_sibling(rt: &HostRuntime, file: &str) -> Option<OpenError> {
     let number = libc::getpid();
     let Ok(name) = format!(in rt.alloc(); "{file}-{number}-room") else {

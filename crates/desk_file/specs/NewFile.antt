@@ -1,4 +1,4 @@
--- What stands in a file that is made new.
+-- The content of a file that is made new.
 use Rattle.std.specs.Prelude.{ℕ, List}
 use Rattle.sqlite_pool.specs.Header.{first_page}
 

@@ -1,4 +1,4 @@
--- What a terminal is told while a file is opened.
+-- What is written to a terminal while a file is opened.
 use Rattle.std.specs.Prelude.{ℕ, ◌^◌, List, codes, Bool, nat_le}
 use Rattle.desk_file.specs.declared.timing.Stage.{Stage}
 use Rattle.desk_file.specs.declared.timing.Stage.TheVariants.{Pages, Tables}

@@ -1,4 +1,4 @@
-//! What a terminal is told while a file is opened, which takes long where the file is large.
+//! What is written to a terminal while a file is opened, which takes long where the file is large.
 ghost use Rattle.std.specs.Prelude.{◌≡◌};
 ghost use Rattle.desk_file.specs.Timing.{stage_text, is_large, is_long};
 
@@ -15,7 +15,7 @@ enum Stage {
     Tables,
 }
 
-/// What is told of a stage.
+/// The text of a stage.
 fn stage_text(stage: Stage) -> &'static str
     ensures { result.now ≡ stage_text stage }
 {
@@ -25,7 +25,7 @@ fn stage_text(stage: Stage) -> &'static str
     }
 }
 
-/// Whether the opening of a file of so many bytes takes long whatever stands in it, so that it is told before it is begun.
+/// Whether the opening of a file of so many bytes takes long whatever it contains, so that a note is written before it is begun.
 fn is_large(size: u64) -> bool
     ensures { result ≡ is_large size }
 {
@@ -39,8 +39,8 @@ fn is_long(seconds: u64) -> bool
     seconds >= 1
 }
 
-/// The opening of a file, of which a terminal is told how far it is: each stage that is begun where it is known to take long, or has taken
-/// long so far. Where standard error is no terminal nothing is told.
+/// The opening of a file, whose progress a terminal shows: each stage that is begun where it is known to take long, or has taken
+/// long so far. Where standard error is no terminal nothing is written.
 #[derive(Clone, Copy)]
 pub(crate) struct Progress<'a> {
     rt: &'a HostRuntime,
@@ -60,7 +60,7 @@ impl<'a> Progress<'a> {
         progress
     }
 
-    /// Tells that the file is open, where that took long; and that it was made, where that may come of a slip in its name.
+    /// Notes that the file is open, where that took long; and that it was made, where that may come of a slip in its name.
     pub(crate) fn note_opened(self, file: &str, is_slip: bool) {
         let rt = self.rt;
         if is_slip && rt.stderr().is_terminal() {
@@ -71,7 +71,7 @@ impl<'a> Progress<'a> {
         }
     }
 
-    /// Tells a stage, where standard error is a terminal. What can't be written is lost.
+    /// Notes a stage, where standard error is a terminal. What can't be written is lost.
     fn write_report(self, stage: Stage) {
         let rt = self.rt;
         if rt.stderr().is_terminal() {
@@ -81,7 +81,7 @@ impl<'a> Progress<'a> {
     }
 }
 
-/// How many bytes a file has, 0 where the system tells none.
+/// How many bytes a file has, 0 where the system gives none.
 fn size_of(rt: &HostRuntime, file: &str) -> u64 {
     match fs::metadata(rt, file) {
         Ok(metadata) => metadata.len(),
@@ -89,7 +89,7 @@ fn size_of(rt: &HostRuntime, file: &str) -> u64 {
     }
 }
 
-/// The seconds since an instant, 0 where the clock tells none.
+/// The seconds since an instant, 0 where the clock gives none.
 fn seconds_since(rt: &HostRuntime, instant: Option<Instant>) -> u64 {
     match instant {
         Some(began) => match began.elapsed(rt) {

@@ -78,8 +78,8 @@ fn is_in_memory(file: &str) -> bool
 }
 
 /// Opens the file, which is made where it isn't there, does the work over it, and closes it: what its log holds is copied into it, so that
-/// the file alone holds what the work left. The file `:memory:` is a new store in memory. Where the opening takes long a terminal is told how far it is,
-/// and where a file is made that isn't wanted new, that it is.
+/// the file alone holds what the work left. The file `:memory:` is a new store in memory. Where the opening takes long a terminal
+/// shows its progress, and where a file is made that isn't wanted new, that it is made.
 ///
 /// `start` represents what the file holds before it is opened, whatever that is. The error is that of a store that didn't open, and
 /// gives the work back: it wasn't done.

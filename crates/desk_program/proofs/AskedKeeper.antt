@@ -14,7 +14,7 @@ use Rattle.desk_program.specs.Faults.{summary_of}
 use Rattle.desk_program.specs.declared.fault.Fault.{Fault}
 use Rattle.desk_program.specs.declared.summary.DeskSummary.{DeskSummary}
 
--- it stands where it stood
+-- it represents what it represented
 pub asked_stays : (k : ℕ) (s : State) (represents : States) (q : Question) (asked : Result Answer DeskFault) → Asks k s represents q asked → represents s
 asked_stays k s represents q (Ok a) h = h.1
 asked_stays k s represents q (Err Store) h = h
@@ -36,7 +36,7 @@ represents_where k s represents (Ok (A.Desk schema seq)) h = at_of k s schema se
 represents_where k s represents (Ok _) h = tt
 represents_where k s represents (Err f) h = tt
 
--- where it stands by its answer, it does
+-- its summary by its answer is its own
 pub asked_summary : (k : ℕ) (s : State) (represents : States) (asked : Result Answer DeskFault) (reported : Result DeskSummary Fault)
     → Asks k s represents Q.Desk asked → reported ≡ summary_of asked → IfOk reported (λ at. (at.schema ≡ k) × (at.seq ≡ s.seq))
 asked_summary k s represents asked reported h e =

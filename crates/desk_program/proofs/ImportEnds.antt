@@ -16,7 +16,7 @@ pub given_of : (unread : Option (List ℕ)) (given : Result (List OrderRow) Orde
 given_of unread (Ok orders) says reports = says
 given_of unread (Err f) says reports = reports
 
--- what holds of an input's bytes, where its reader tells them
+-- what holds of an input's bytes, where its reader knows them
 pub known_bytes : (known : Option (List ℕ)) (P : List ℕ → Type 0) → ((bytes : List ℕ) × Agrees known bytes × P bytes) → IfSome known P
 known_bytes None P h = tt
 known_bytes (Some whole) P h = subst P h.1 h.2

@@ -14,7 +14,7 @@ pub line_is : {A : Type 0} (r : Result A Fault) (old new : Option (List ℕ)) (l
     → OnOk r (Appends old new (with_lf line)) → OnOk r (Appends old new (with_lf wanted))
 line_is r old new line wanted e h = subst (λ (text : List ℕ). OnOk r (Appends old new (with_lf text))) e h
 
--- a line that is one of these was printed, or a front of it
+-- a line that is one of these was printed, or a prefix of it
 pub one_printed : {A : Type 0} (r : Result A Fault) (lines : Lines) (line : List ℕ) (old new : Option (List ℕ)) → lines line
     → OnOk r (Appends old new (with_lf line)) → IfErr r (λ f. f ≡ fault.Write) → IfErr r (λ _. AppendsPrefix old new (with_lf line))
     → MatchResult r (λ _. Printed lines old new) (Unprinted lines old new)

@@ -1,4 +1,4 @@
--- What the words `trace` and `record` print of an answer.
+-- What the subcommands `trace` and `record` print of an answer.
 use Rattle.std.specs.Prelude.{◌≡◌, ◌⊎◌, ℕ, List, ◌++◌, Bool, Option, Result, Ok, Err, IfOk, flat_map}
 use Rattle.std.specs.Io.KnownBytes.{Appends}
 use Rattle.sqlite.specs.State as store
@@ -30,19 +30,19 @@ answer_lines (A.Batch view) = record_text view
 answer_lines (A.Trace nodes) = trace_text nodes
 answer_lines a = with_lf (text_of_answer a)
 
--- how the printing of an answer ended: its text was written, or a front of it where the writer failed; or memory was
+-- how the printing of an answer ended: its text was written, or a prefix of it where the writer failed; or memory was
 -- refused for it, and nothing was written
 abbrev pub AnswerPrinted : Answer → Option (List ℕ) → Option (List ℕ) → Result Bool Fault → Type 0
 AnswerPrinted a old new (Ok refused) = Appends old new (answer_lines a) × (refused ≡ is_unknown a)
 AnswerPrinted a old new (Err f) = ((f ≡ fault.Write) × AppendsPrefix old new (answer_lines a))
     ⊎ ((f ≡ fault.Memory) × (new ≡ old))
 
--- how it was told what a keeper answered: the answer was printed; or the keeper's fault is told, and nothing was written
+-- how a keeper's answer was printed: it was; or the keeper's fault is returned, and nothing was written
 abbrev pub AskedWritten : Result Answer DeskFault → Option (List ℕ) → Option (List ℕ) → Result Bool Fault → Type 0
 AskedWritten (Ok a) old new done = AnswerPrinted a old new done
 AskedWritten (Err f) old new done = (done ≡ Err (desk_fault f)) × (new ≡ old)
 
--- how it was told what a keeper answered, which was this answer or a fault
+-- how a keeper's answer was printed, which was this answer or a fault
 abbrev pub AnswerWritten : Answer → Option (List ℕ) → Option (List ℕ) → Result Bool Fault → Type 0
 AnswerWritten a old new done = (asked : Result Answer DeskFault) × IfOk asked (λ answered. answered ≡ a) × AskedWritten asked old new done
 

@@ -18,14 +18,14 @@ abbrev pub status_of : Fault → ℕ
 status_of fault.Memory = 4
 status_of _ = 3
 
--- the fault that one of an adoption is told as
+-- the fault as which one of an adoption is reported
 abbrev pub adopt_fault : AdoptFault → Fault
 adopt_fault adopt.Store = fault.Store
 adopt_fault (adopt.Newer schema) = fault.Newer schema
 adopt_fault (adopt.Damaged rule) = fault.Damaged rule
 adopt_fault adopt.Memory = fault.Memory
 
--- the fault that one of a keeper is told as
+-- the fault as which one of a keeper is reported
 abbrev pub desk_fault : DeskFault → Fault
 desk_fault desk.Store = fault.Store
 desk_fault desk.Memory = fault.Memory
@@ -45,7 +45,7 @@ outcome_of_turn (Ok refused) = Ok refused
 outcome_of_turn (Err stop.Write) = Err fault.Write
 outcome_of_turn (Err (stop.Fault f)) = Err (desk_fault f)
 
--- where a keeper stands by what it answered when it was asked for that; an answer of another kind is a fault of the store
+-- the summary of a keeper by what it answered when it was asked for that; an answer of another kind is a fault of the store
 abbrev pub summary_of : Result Answer DeskFault → Result DeskSummary Fault
 summary_of (Ok (A.Desk schema seq)) = Ok (record { schema = schema; seq = seq })
 summary_of (Ok _) = Err fault.Store

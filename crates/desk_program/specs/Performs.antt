@@ -1,4 +1,4 @@
--- What is written as the program does its words, and the exit status.
+-- What is written as the program does what its arguments ask for, and the exit status.
 use Rattle.std.specs.Prelude.{◌≡◌, ◌⊎◌, ℕ, List, Bool, true, false, Option, Result, Ok, Err, string_bytes}
 use Rattle.std.specs.Io.KnownBytes.{Appends}
 use Rattle.plant_text.specs.Writes.{with_lf, AppendsPrefix}
@@ -23,7 +23,7 @@ IsGoodLine line = (schema : ℕ) × (seq : ℕ) × (line ≡ good_text schema se
 abbrev pub Printed : Lines → Option (List ℕ) → Option (List ℕ) → Type 0
 Printed lines old new = (line : List ℕ) × lines line × Appends old new (with_lf line)
 
--- at this fault nothing was written, or, where the writer failed, a front of one of the lines
+-- at this fault nothing was written, or, where the writer failed, a prefix of one of the lines
 abbrev pub Unprinted : Lines → Option (List ℕ) → Option (List ℕ) → Fault → Type 0
 Unprinted lines old new f = NothingBut ((line : List ℕ) × lines line × AppendsPrefix old new (with_lf line)) old new f
 
@@ -32,7 +32,7 @@ abbrev pub PrintsLine : Lines → Option (List ℕ) → Option (List ℕ) → Re
 PrintsLine lines old new (Ok refused) = (refused ≡ false) × Printed lines old new
 PrintsLine lines old new (Err f) = Unprinted lines old new f
 
--- the text was written, or a front of it where the writer failed
+-- the text was written, or a prefix of it where the writer failed
 abbrev pub Written : Option (List ℕ) → Option (List ℕ) → List ℕ → Type 0
 Written old new text = Appends old new text ⊎ AppendsPrefix old new text
 
@@ -40,19 +40,19 @@ Written old new text = Appends old new text ⊎ AppendsPrefix old new text
 abbrev pub WritesFault : Fault → Option (List ℕ) → Option (List ℕ) → ℕ → Type 0
 WritesFault f old new status = (status ≡ status_of f) × Written old new (with_lf (fault_text f))
 
--- what stands on standard error, and the exit status
+-- what is on standard error, and the exit status
 abbrev pub Exits : Option (List ℕ) → Option (List ℕ) → ℕ → Result Bool Fault → Type 0
 Exits old new status (Ok false) = (status ≡ 0) × (new ≡ old)
 Exits old new status (Ok true) = (status ≡ 1) × (new ≡ old)
 Exits old new status (Err f) = WritesFault f old new status
 
--- what came of words whose store was closed behind them, or couldn't be
+-- what came of a task whose store was closed after it, or couldn't be
 abbrev pub after_closing : Result Bool Fault → Bool → Result Bool Fault
 after_closing outcome true = outcome
 after_closing (Ok refused) false = Err fault.Store
 after_closing (Err f) false = Err f
 
--- what is written where the words of the command line give nothing to do, and the exit status
+-- what is written where the arguments of the command line give nothing to do, and the exit status
 abbrev pub WritesWordsFault : WordsFault → Option (List ℕ) → Option (List ℕ) → Option (List ℕ) → Option (List ℕ) → ℕ → Type 0
 WritesWordsFault (unmeant.Usage text) old new old_errors new_errors status = (status ≡ 2) × (new ≡ old) × Written old_errors new_errors (string_bytes text)
 WritesWordsFault (unmeant.Help text) old new old_errors new_errors status = ((status ≡ 0) × Appends old new (string_bytes text) × (new_errors ≡ old_errors))

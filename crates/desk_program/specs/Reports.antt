@@ -1,4 +1,4 @@
--- What comes of the words `init` and `verify`, which print one line of the state at which a store was adopted.
+-- What comes of the subcommands `init` and `verify`, which print one line of the state at which a store was adopted.
 use Rattle.std.specs.Prelude.{◌≡◌, ◌⊎◌, ℕ, List, Bool, false, Option, Result, Ok, Err}
 use Rattle.std.specs.Io.KnownBytes.{Appends}
 use Rattle.sqlite.specs.State as store
@@ -22,19 +22,19 @@ ready_line s = ready_text newest_schema
 abbrev pub good_line : LineOf
 good_line s = good_text newest_schema s.seq
 
--- at this fault a line wasn't written: nothing was, or, where the writer failed, a front of it
+-- at this fault a line wasn't written: nothing was, or, where the writer failed, a prefix of it
 abbrev pub LineStops : List ℕ → Option (List ℕ) → Option (List ℕ) → Fault → Type 0
 LineStops line old new f = NothingBut (AppendsPrefix old new (with_lf line)) old new f
 
--- The word stopped at this fault: the store was adopted, and is at that state, but its line wasn't written; or it wasn't
+-- The subcommand stopped at this fault: the store was adopted, and is at that state, but its line wasn't written; or it wasn't
 -- adopted, and nothing was written.
 abbrev pub ReportStops : LineOf → store.State → store.State → Option (List ℕ) → Option (List ℕ) → Fault → Type 0
 ReportStops line before after old new f =
     (IsPrintFault f × AdoptedIfHonest before after (λ s. IsDurablyAt after s × LineStops (line s) old new f))
     ⊎ (IsRefused before after f × (new ≡ old))
 
--- What came of the word, in which nothing is refused: the store was adopted, is at that state, and its line was written; or
--- the word stopped.
+-- What came of the subcommand, in which nothing is refused: the store was adopted, is at that state, and its line was written; or
+-- the subcommand stopped.
 abbrev pub ReportGives : LineOf → store.State → store.State → Option (List ℕ) → Option (List ℕ) → Result Bool Fault → Type 0
 ReportGives line before after old new (Ok refused) =
     (refused ≡ false) × AdoptedIfHonest before after (λ s. IsDurablyAt after s × Appends old new (with_lf (line s)))

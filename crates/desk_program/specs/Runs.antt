@@ -15,11 +15,11 @@ use Rattle.plant_text.specs.declared.run.RunEnd.{RunEnd}
 use Rattle.desk_program.specs.Faults.{adopt_fault, outcome_of}
 use Rattle.desk_program.specs.declared.fault.Fault.{Fault}
 
--- a store that has kept its word until it was given back had kept it before
+-- a store that has kept its specification until it was given back had kept it before
 abbrev pub WasHonest : store.State → store.State → Type 0
 WasHonest before after = HasCleanDisk after → HasCleanDisk before
 
--- The store had just been opened, and kept its word until it was given back: then it was adopted, at a state of which this
+-- The store had just been opened, and kept its specification until it was given back: then it was adopted, at a state of which this
 -- holds.
 abbrev pub AdoptedIfHonest : store.State → store.State → States → Type 0
 AdoptedIfHonest before after holds = HasCleanDisk after → IsNewlyOpened before → AdoptedFrom before holds

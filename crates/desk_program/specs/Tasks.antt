@@ -22,7 +22,7 @@ trace_question direction lot = question.Trace direction (node.Lot lot)
 abbrev pub record_question : List ℕ → Question
 record_question batch = question.Batch batch
 
--- orders that a file tells are noted with nothing
+-- orders of a file have an empty note
 abbrev pub metadata_of_import : ℕ → List ℕ → Option (List ℕ) → ImportMetadata
 metadata_of_import at by reference = record { stamp = record { at = at; by = by; note = [] }; reference = reference }
 

@@ -10,7 +10,7 @@ ready_text schema = codes "ready schema " ++ decimal schema
 abbrev pub good_text : ℕ → ℕ → List ℕ
 good_text schema seq = codes "good schema " ++ decimal schema ++ codes " seq " ++ decimal seq
 
--- what stands behind `fault: `
+-- what comes after `fault: `
 unfoldable pub fault_name : Fault → List ℕ
 fault_name fault.Store = codes "store"
 fault_name (fault.Newer schema) = codes "newer " ++ decimal schema

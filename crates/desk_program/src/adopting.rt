@@ -1,4 +1,4 @@
-//! The adoption of the program's store, and a store that a word stopped at.
+//! The adoption of the program's store, and a store at which a subcommand stopped.
 ghost use Rattle.std.specs.Prelude.{◌≡◌, ◌≢◌, false, Err, IfOk, IfErr, MatchResult};
 ghost use Rattle.sqlite.specs.Held.{state};
 ghost use Rattle.sqlite.specs.State.{HasCleanDisk};
@@ -13,10 +13,10 @@ use plant_desk_store::{AdoptRefused, Desk};
 use sqlite::{Alter, Connection};
 use std::alloc::Global;
 
-/// A store that a word of the program stopped at a fault, for who opened it to close.
+/// A store at which a subcommand stopped by a fault, for who opened it to close.
 #[derive(Drop)]
 pub struct TaskError<S: Alter> {
-    /// Why the word isn't done.
+    /// Why the subcommand isn't done.
     pub fault: Fault,
     /// The store.
     pub connection: Connection<S>,
@@ -42,7 +42,7 @@ pub fn performed_of<S: Alter + Drop>(stopped: TaskError<S>) -> Performed<S>
     }
 }
 
-/// What is told of a store that wasn't adopted.
+/// The error for a store that wasn't adopted.
 fn task_error<S: Alter + Drop>(refused: AdoptRefused<S>) -> TaskError<S>
     ensures fault { result.fault ≡ adopt_fault refused.fault }
     ensures store { result.connection ≡ refused.connection }
@@ -53,8 +53,8 @@ fn task_error<S: Alter + Drop>(refused: AdoptRefused<S>) -> TaskError<S>
     }
 }
 
-/// The desk, with the indexes that its tables lacked, where they can be made: they are there for speed alone, so that it stands where it
-/// stood without them, too.
+/// The desk, with the indexes that its tables lacked, where they can be made: they are there for speed alone, so that it
+/// represents what it represented without them, too.
 fn with_indexes<S: Alter>(mut desk: Desk<S>) -> Desk<S>
     requires { desk.is_shut ≡ false }
     ensures honest { HasCleanDisk (state S.Store result.connection)

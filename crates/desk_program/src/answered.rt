@@ -1,4 +1,4 @@
-//! The words `trace` and `record`: a question, and its answer in lines.
+//! The subcommands `trace` and `record`: a question, and its answer in lines.
 ghost use Rattle.std.specs.Prelude.{◌≡◌, false, IfOk, Some, string_bytes};
 ghost use Rattle.sqlite.specs.Held.{state};
 ghost use Rattle.sqlite.specs.State.{HasCleanDisk};
@@ -58,7 +58,7 @@ fn answer_lines(alloc: Global, answer: &Answer) -> Result<String, AllocError>
     }
 }
 
-/// Prints an answer. `true` where it tells that the id isn't known.
+/// Prints an answer. `true` where it says that the id isn't known.
 fn print_answer<W: Write>(alloc: Global, writer: &mut W, answer: &Answer) -> Result<bool, Fault>
     ensures { AnswerPrinted answer.now (W.contents writer.old) (W.contents writer.new) result }
 {
@@ -85,10 +85,10 @@ fn print_asked<W: Write>(
     }
 }
 
-/// Asks an open keeper a question, and prints the answer. `true` where it tells that the id isn't known.
+/// Asks an open keeper a question, and prints the answer. `true` where it says that the id isn't known.
 ///
-/// The keeper stays open, and where it was. At `Write` a front of the answer may stand there; at every other fault nothing
-/// does.
+/// The keeper stays open, in the same state. At `Write` a prefix of the answer may have been written; at every other fault
+/// nothing was.
 pub fn write_answer<W: Write, K: Keeper>(
     alloc: Global,
     writer: &mut W,

@@ -1,4 +1,4 @@
-//! Why the program doesn't do what it is told.
+//! Why the program doesn't do its work.
 
 ghost use Rattle.std.specs.Prelude.{◌≡◌, ◌≢◌};
 ghost use Rattle.desk_program.specs.Faults as spec;
@@ -9,7 +9,7 @@ use plant_messages::DeskFault;
 use plant_text::{RunEnd, TurnError};
 use sqlite::{Error, ErrorCode};
 
-/// Why the program doesn't do what it is told.
+/// Why the program doesn't do its work.
 #[derive(Clone, Copy, Debug, PartialEq, Eq, thiserror::Error)]
 pub enum Fault {
     /// The store failed.

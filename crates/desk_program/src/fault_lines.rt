@@ -1,4 +1,4 @@
-//! How the program tells why it ends.
+//! How the program reports why it ends.
 ghost use Rattle.std.specs.Prelude.{◌≡◌, ◌≢◌};
 ghost use Rattle.sqlite.specs.declared.error.ErrorCode.TheVariants as code;
 ghost use Rattle.desk_program.specs.Performs.{WritesFault, WritesWordsFault};
@@ -10,7 +10,7 @@ use plant_text::{write_line, write_text};
 use sqlite::Error;
 use std::io::Write;
 
-/// The exit status where the words of the command line aren't understood.
+/// The exit status where the arguments of the command line aren't understood.
 const USAGE: u8 = 2;
 
 /// Writes a fault's line to standard error. Gives its exit status, whether or not the line could be written.
@@ -21,7 +21,7 @@ pub(crate) fn write_fault<E: Write>(fault: Fault, errors: &mut E) -> u8
     fault.status()
 }
 
-/// Tells why the words of the command line give nothing to do, and gives the exit status.
+/// Prints why the arguments of the command line give nothing to do, and gives the exit status.
 ///
 /// - `Help`: its text goes to standard output, and the status is 0; where it can't be written, `fault: write` and 3.
 /// - `Usage`: its text goes to standard error, and the status is 2.
@@ -47,7 +47,7 @@ pub fn write_words_fault<W: Write, E: Write>(
     }
 }
 
-/// Tells on standard error why FILE doesn't open, and gives the exit status: `fault: memory` and 4 for want of memory,
+/// Prints on standard error why FILE doesn't open, and gives the exit status: `fault: memory` and 4 for want of memory,
 /// `fault: store` and 3 for every other error of the store.
 pub fn write_opening<E: Write>(error: &Error, errors: &mut E) -> u8
     ensures memory { error.now ≡ Error.SqliteFailure code.OutOfMemory

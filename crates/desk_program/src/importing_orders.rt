@@ -1,4 +1,4 @@
-//! The word `import`: an order file, executed as one command.
+//! The subcommand `import`: an order file, executed as one command.
 ghost use Rattle.std.specs.Prelude.{◌≡◌, Bool, false, IfSome};
 ghost use Rattle.sqlite.specs.Held.{state};
 ghost use Rattle.sqlite.specs.State.{HasCleanDisk};
@@ -24,14 +24,14 @@ use sqlite::{Alter, Connection};
 use std::alloc::Global;
 use std::io::{Read, Write};
 
-/// Tells want of memory, as a run does.
+/// Prints want of memory, as a run does.
 fn write_no_memory<W: Write>(writer: &mut W) -> Result<bool, Fault>
     ensures { MemoryFaultWritten (W.contents writer.old) (W.contents writer.new) result }
 {
     outcome_of_turn(Err(write_fault(writer, DeskFault::Memory)))
 }
 
-/// Tells the first fault of an order file, which is a refusal. It takes no memory, so that no want of it is told in its place.
+/// Prints the first fault of an order file, which is a refusal. It takes no memory, so that no want of it is reported instead.
 fn write_csv_fault<W: Write>(writer: &mut W, fault: CsvFault) -> Result<bool, Fault>
     ensures { CsvFaultWritten fault (W.contents writer.old) (W.contents writer.new) result }
 {
@@ -41,7 +41,7 @@ fn write_csv_fault<W: Write>(writer: &mut W, fault: CsvFault) -> Result<bool, Fa
     }
 }
 
-/// Tells why a reader gave no orders.
+/// Prints why a reader gave no orders.
 fn write_no_orders<W: Write>(writer: &mut W, fault: OrdersFault) -> Result<bool, Fault>
     ensures { NoOrdersWritten fault (W.contents writer.old) (W.contents writer.new) result }
 {
@@ -52,7 +52,7 @@ fn write_no_orders<W: Write>(writer: &mut W, fault: OrdersFault) -> Result<bool,
     }
 }
 
-/// Has an open keeper execute the orders that a reader gave, as one command, and prints the reply; or tells why it gave
+/// Has an open keeper execute the orders that a reader gave, as one command, and prints the reply; or prints why it gave
 /// none.
 fn take_orders<W: Write, K: Keeper>(
     writer: &mut W,
@@ -80,12 +80,12 @@ fn take_orders<W: Write, K: Keeper>(
 /// Has an open keeper execute the orders of an order file, which a reader gives to its end, as one command, and prints the
 /// reply and an LF, as a run does. `true` where it is a refusal.
 ///
-/// Where the file is none, its first fault is printed in place of a reply, `csv row R KIND` and an LF, which counts as a
+/// Where the file is none, its first fault is printed instead of a reply, `csv row R KIND` and an LF, which counts as a
 /// refusal, and nothing is executed.
 ///
 /// `Read`: the reader failed; nothing was executed and nothing written. `Memory`: memory was refused for the file, or by the
 /// keeper. `Store`: the keeper's fault. The line of these two faults was written, `{"fault":N}` and an LF. `Write`: a
-/// front of the line was written, and not all of it; what was executed stays.
+/// prefix of the line was written, and not all of it; what was executed stays.
 pub fn take_file<R: Read, W: Write, K: Keeper>(
     alloc: Global,
     reader: &mut R,

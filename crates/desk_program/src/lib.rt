@@ -1,4 +1,4 @@
-//! What the words of the program do over an opened store and the three standard streams, and how the program ends.
+//! What the subcommands of the program do over an opened store and the three standard streams, and how the program ends.
 #![tactic(auto)]
 
 mod adopting;

@@ -76,7 +76,7 @@ fn one_word(word: &str) -> ShortLine
     line
 }
 
-/// What stands behind `fault: `.
+/// What comes after `fault: `.
 #[tactic(auto, unfolding(crate::specs::Texts::fault_name))]
 pub(crate) fn fault_name(fault: Fault) -> ShortLine
     ensures text { result.bytes ≡ spec.fault_name fault }

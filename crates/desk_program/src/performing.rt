@@ -1,4 +1,4 @@
-//! What the program does for its words.
+//! What the program does for its arguments.
 ghost use Rattle.std.specs.Prelude.{◌≡◌, false, Bool, Result};
 ghost use Rattle.sqlite.specs.Held.{Held, state};
 ghost use Rattle.desk_program.specs.AnswersWritten.{AskGives};
@@ -140,9 +140,10 @@ fn perform_question<S: Alter + Drop, W: Write>(
 
 /// Does a task over a store that was just opened, and gives it back to be closed.
 ///
-/// The clause says what came of the task by the store that is given back, where that has kept its word until then: of a run
-/// what [`run`] does, of an import what [`take_file`] does, of a trace and a record what [`write_answer`] does, and of the
-/// other words what [`init`] and [`verify`] do. Where the store wasn't adopted, it says so in any case, with the fault's cause.
+/// The clause says what came of the task by the store that is given back, where that has kept its specification until
+/// then: of a run what [`run`] does, of an import what [`take_file`] does, of a trace and a record what [`write_answer`]
+/// does, and of the other subcommands what [`init`] and [`verify`] do. Where the store wasn't adopted, it says so in any
+/// case, with the fault's cause.
 pub fn perform_task<S: Alter + Drop, R: Read, W: Write>(
     alloc: Global,
     task: &Task,
@@ -175,7 +176,7 @@ pub fn perform_task<S: Alter + Drop, R: Read, W: Write>(
     }
 }
 
-/// What came of a task whose store was closed behind it, or couldn't be: a close that fails is a fault of the store, unless
+/// What came of a task whose store was closed after it, or couldn't be: a close that fails is a fault of the store, unless
 /// another fault came before it.
 pub fn after_closing(outcome: Result<bool, Fault>, is_closed: bool) -> Result<bool, Fault>
     ensures { result ≡ after_closing outcome is_closed }
@@ -189,7 +190,7 @@ pub fn after_closing(outcome: Result<bool, Fault>, is_closed: bool) -> Result<bo
     }
 }
 
-/// Tells how a task ended, and gives the exit status: 0; 1 where something was refused; 3 or 4 at a fault, whose line is
+/// Prints how a task ended, and gives the exit status: 0; 1 where something was refused; 3 or 4 at a fault, whose line is
 /// then the one line on standard error.
 pub fn write_outcome<E: Write>(outcome: Result<bool, Fault>, errors: &mut E) -> u8
     ensures { Exits (E.contents errors.old) (E.contents errors.new) result outcome }

@@ -8,7 +8,7 @@ use crate::lines::ShortLine;
 use plant_text::write_line;
 use std::io::Write;
 
-/// Writes a line and an LF. At the fault `Write` a front of both was written, and not all of it.
+/// Writes a line and an LF. At the fault `Write` a prefix of both was written, and not all of it.
 pub(crate) fn print_line<W: Write>(writer: &mut W, line: &ShortLine) -> Result<(), Fault>
     ensures ok { OnOk result (Appends (W.contents writer.old) (W.contents writer.new)
         (with_lf line.now.bytes)) }

@@ -1,4 +1,4 @@
-//! The word `run`.
+//! The subcommand `run`.
 ghost use Rattle.std.specs.Prelude.{◌≡◌, false, IfOk, IfErr, OnErr, MatchResult};
 ghost use Rattle.sqlite.specs.Held.{state};
 ghost use Rattle.desk_program.specs.Runs.{HasRun, IsRefused, WasHonest};

@@ -1,4 +1,4 @@
-//! Where a keeper stands.
+//! How far a keeper is.
 ghost use Rattle.std.specs.Prelude.{◌≡◌, ◌≢◌, false, IfOk, IfErr};
 ghost use Rattle.desk_program.specs.Faults.{IsPrintFault};
 ghost use Rattle.plant_base.specs.State.{State};
@@ -16,7 +16,7 @@ pub(crate) struct DeskSummary {
     pub(crate) seq: u64,
 }
 
-/// Where a keeper stands by what it answered, or its fault.
+/// The summary of a keeper by what it answered, or its fault.
 fn summary_of(asked: Result<Answer, DeskFault>) -> Result<DeskSummary, Fault>
     ensures is { result ≡ spec.summary_of asked }
     ensures fault { IfErr result IsPrintFault }
@@ -24,13 +24,13 @@ fn summary_of(asked: Result<Answer, DeskFault>) -> Result<DeskSummary, Fault>
 {
     match asked {
         Ok(Answer::Desk { schema, seq }) => Ok(DeskSummary { schema, seq }),
-        // No keeper that keeps its word answers anything else.
+        // No keeper that keeps its contract answers anything else.
         Ok(_) => Err(Fault::Store),
         Err(fault) => Err(Fault::from(fault)),
     }
 }
 
-/// Asks an open keeper where it stands. It stays open, and where it was.
+/// Asks an open keeper for its summary. It stays open, in the same state.
 pub(crate) fn ask_summary<K: Keeper>(keeper: &mut K) -> Result<DeskSummary, Fault>
     requires { K.shut keeper.old ≡ false }
     ensures same { IsSameDesk K.honest K.schema K.foreign_tables keeper.old keeper.new }

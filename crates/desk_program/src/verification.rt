@@ -1,4 +1,4 @@
-//! The word `verify`.
+//! The subcommand `verify`.
 ghost use Rattle.std.specs.Prelude.{◌≡◌, false, IfOk, IfErr, OnOk, MatchResult};
 ghost use Rattle.std.specs.Io.KnownBytes.{Appends};
 ghost use Rattle.sqlite.specs.Held.{state};
@@ -49,7 +49,7 @@ fn write_good<W: Write, K: Keeper>(writer: &mut W, keeper: &mut K) -> Result<(),
 /// the number of commands that were accepted.
 ///
 /// Nothing is printed before the store is adopted. A store that isn't adopted is given back with the fault of the adoption.
-/// An adopted one is given back at its state with a fault of the store, of memory or of the writer. At `Write` a front of the
+/// An adopted one is given back at its state with a fault of the store, of memory or of the writer. At `Write` a prefix of the
 /// line was written; at every other fault nothing was.
 pub fn verify<S: Alter + Drop, W: Write>(
     alloc: Global,

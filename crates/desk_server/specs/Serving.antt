@@ -35,21 +35,21 @@ pub record Asked (profile : Profile) : Type 0 where
 abbrev pub entries : {profile : Profile} → List (Asked profile) → List Entry
 entries {profile} jobs = map (λ (a : Asked profile). entry_of a.job) jobs
 
--- A keeper that stood at s has served at most so many connections, as this profile says. It stands where the jobs lead that it has done, each once
--- and in their order, and a stop leaves that state and no other; jobs in whose place a fault was answered are not among them.
+-- A keeper that represented s has served at most so many connections, as this profile says. It represents where the jobs lead that it has done, each
+-- once and in their order, and a stop leaves that state and no other; jobs for which a fault was answered are not among them.
 -- Where it is shut, a fault of its store came at a further job: a stop leaves the state before it or the state after it.
 abbrev pub HasServed : Profile → ℕ → State → States → Bool → (States → Type 0) → Type 0
 HasServed profile most s represents false crash_states = (jobs : List (Asked profile)) × (length jobs ≤ most) × RepresentsDurably represents crash_states (fold s (entries jobs))
 HasServed profile most s represents true crash_states =
     (jobs : List (Asked profile)) × (last : Asked profile) × (length jobs < most) × RepresentsEither represents crash_states (fold s (entries jobs)) (entry_of last.job)
 
--- the same of a desk over a store that has kept its word, at each state that it stood at
+-- the same of a desk over a store that has kept its specification, of each state that it represented
 abbrev pub ServesAtMost : {S : Type 0} (g : Ghosts S) → Profile → ℕ → Desk S g → Desk S g → Type 0
 ServesAtMost {S} g profile most old new =
     HasCleanDisk (state g new.connection) → (s : State) → Represents (state g old.connection) old.is_shut s
     → HasServed profile most s (Represents (state g new.connection) new.is_shut) new.is_shut (λ states. HasCrashStates (state g new.connection) states)
 
--- the desk is one and the same: what it stood on has kept its word, and what stands beside its tables stands there still
+-- the desk is one and the same: its store has kept its specification, and the foreign tables are as they were
 abbrev pub IsSameStore : {S : Type 0} (g : Ghosts S) → Desk S g → Desk S g → Type 0
 IsSameStore {S} g old new =
     IsSameDesk (λ (d : Desk S g). HasCleanDisk (state g d.connection)) (λ _. newest_schema)

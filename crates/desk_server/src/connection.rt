@@ -17,7 +17,7 @@ use std::net::{Shutdown, TcpStream};
 use std::rt::Clock;
 use std::time::Duration;
 
-/// How many pieces are read at most of what a client sends behind its answer.
+/// How many pieces are read at most of what a client sends after its answer.
 const MOST_PIECES: u32 = 64;
 
 /// How many bytes a piece has at most.
@@ -30,7 +30,7 @@ fn most_write_wait() -> Duration
     Duration::from_secs(10)
 }
 
-/// How long a read behind an answer waits at most: a second.
+/// How long a read after an answer waits at most: a second.
 fn most_wait_behind() -> Duration
     ensures { as_nanos result ≡ 1_000_000_000 }
 {
@@ -44,7 +44,7 @@ fn bound_writes(stream: &TcpStream) {
     let _ = stream.set_write_timeout(Some(most_write_wait()));
 }
 
-/// Reads on behind an answer until the client ends its side, for a while.
+/// Reads on after an answer until the client ends its side, for a while.
 ///
 /// A socket that is closed with unread bytes in it resets the connection, and a reset can destroy an answer on its way.
 /// So the connection is closed in stages (RFC 9112, section 9.6).
@@ -63,15 +63,16 @@ pub(crate) fn read_on(stream: &TcpStream) {
     }
 }
 
-/// Reads on behind an answer what has come, and waits for no more.
+/// Reads on after an answer what has come, and waits for no more.
 pub(crate) fn read_rest(stream: &TcpStream) {
     if stream.set_nonblocking(true).is_ok() {
         read_on(stream);
     }
 }
 
-/// Tells the client that no more comes than its answer, which has this status. The connection comes back where nothing has to be read
-/// on: a request that is answered 200 or 409 was read to its end, but for the body of a GET or HEAD, which is never read.
+/// Lets the client know that no more comes than its answer, which has this status. The connection comes back where nothing
+/// has to be read on: a request that is answered 200 or 409 was read to its end, but for the body of a GET or HEAD, which
+/// is never read.
 fn end_answer(stream: TcpStream, status: u16) -> Option<TcpStream> {
     if stream.shutdown(Shutdown::Write).is_err() {
         return None;
@@ -93,9 +94,10 @@ fn status_of(served: &Result<Served, ServeFault>) -> Option<u16>
     }
 }
 
-/// Serves the request of one connection. What becomes of it is the connection's affair: the keeper is what it is told of.
+/// Serves the request of one connection. The clauses are about the keeper, and say nothing of the connection.
 ///
-/// A socket doesn't tell its bytes, so that no clause says which request it was: the keeper does the job of one request, once, or nothing.
+/// A socket's bytes aren't known, so that no clause says which request it was: the keeper does the job of one request,
+/// once, or nothing.
 ///
 /// The request has to be whole within its time by the clock (`Timed`).
 ///

@@ -95,7 +95,7 @@ impl AccessLog<'_> {
     }
 }
 
-/// The seconds since 1970-01-01T00:00:00Z, 0 where the clock tells none.
+/// The seconds since 1970-01-01T00:00:00Z, 0 where the clock gives none.
 fn seconds_now(rt: &HostRuntime) -> u64 {
     match SystemTime::now(rt) {
         Ok(now) => match now.duration_since(UNIX_EPOCH) {
@@ -106,7 +106,7 @@ fn seconds_now(rt: &HostRuntime) -> u64 {
     }
 }
 
-/// The microseconds since an instant, 0 where the clock told none.
+/// The microseconds since an instant, 0 where the clock gave none.
 fn microseconds_since(rt: &HostRuntime, instant: Option<Instant>) -> u128 {
     match instant {
         Some(began) => match began.elapsed(rt) {
@@ -117,7 +117,7 @@ fn microseconds_since(rt: &HostRuntime, instant: Option<Instant>) -> u128 {
     }
 }
 
-/// The milliseconds since an instant, 0 where the clock told none.
+/// The milliseconds since an instant, 0 where the clock gave none.
 pub(crate) fn milliseconds_since<R: Clock>(clock: &R, instant: Option<Instant>) -> u64 {
     match instant {
         Some(began) => match began.elapsed(clock) {
@@ -138,7 +138,7 @@ fn is_printable(b: u8) -> bool
     (b' '..=b'~').contains(&b) && b != b'"'
 }
 
-/// The front of the bytes up to the first that isn't noted.
+/// The prefix of the bytes up to the first that isn't noted.
 fn printable_prefix(heard: &[u8]) -> &[u8] {
     for (index, b) in heard.iter().enumerate() {
         if !is_printable(*b) {

@@ -1,4 +1,4 @@
-//! Where connections come in, and what the system tells of them.
+//! Where connections come in, and what the system reports of them.
 ghost use Rattle.std.specs.Prelude.{◌≡◌, ◌≢◌, IfErr};
 
 use crate::fault::ServingFault;
@@ -11,7 +11,7 @@ use std::net::{Net, TcpListener, TcpStream};
 use std::os::fd::{AsRawFd, RawFd};
 use std::time::Duration;
 
-/// How many things the system tells of at once at most: of each connection that waits, and of the listener.
+/// How many things the system reports at once at most: of each connection that waits, and of the listener.
 const MOST_EVENTS: usize = 65;
 
 /// A listener, and what is known of it and of the connections that wait.
@@ -38,7 +38,7 @@ fn most_wait(step: Step) -> Option<Duration> {
 }
 
 impl<'a> Reception<'a> {
-    /// Has the system tell of connections that come in. `Net`: it doesn't. `Memory`: memory was refused for what it tells.
+    /// Has the system report connections that come in. `Net`: it doesn't. `Memory`: memory was refused for what it reports.
     pub(crate) fn new<N: Net>(
         alloc: Global,
         net: &N,
@@ -94,8 +94,8 @@ impl<'a> Reception<'a> {
         }
     }
 
-    /// Has the system tell when there is something to be read on a connection, under the token that comes back. Where it doesn't, none
-    /// comes back.
+    /// Has the system report when there is something to be read on a connection, under the token that comes back. Where it
+    /// doesn't, none comes back.
     pub(crate) fn follow(&self, stream: &TcpStream) -> Option<usize> {
         let fd = stream.as_raw_fd();
         let token = token_of(fd);
@@ -109,14 +109,14 @@ impl<'a> Reception<'a> {
         }
     }
 
-    /// Has the system tell no more of a connection.
+    /// Has the system report no more of a connection.
     pub(crate) fn leave(&self, stream: &TcpStream) {
         let fd = stream.as_raw_fd();
         let _ = self.poll.registry().deregister(&mut SourceFd(&fd));
     }
 
     /// Asks the system what is there: at once, or, where nothing is to be done, when something comes or the time is over.
-    /// `Net`: it doesn't tell. No other fault comes.
+    /// `Net`: it doesn't say. No other fault comes.
     pub(crate) fn ask(&mut self, step: Step, waiting: &mut Waiting) -> Result<(), ServingFault>
         ensures { IfErr result (λ fault. fault ≡ ServingFault.Net) }
     {

@@ -127,7 +127,7 @@ impl Waiting {
         next_step(self.waiters.as_slice(), now, may_take)
     }
 
-    /// Has a connection wait behind the others.
+    /// Has a connection wait after the others.
     pub(crate) fn add(&mut self, waiter: Waiter)
         requires { length self.old.waiters.items ≤ MOST_WAITING }
         ensures { self.new.waiters.items ≡ self.old.waiters.items ++ waiter ∷ [] }

@@ -39,7 +39,7 @@ borders true true = 2
 
 -- ---- nodes and edges
 
--- what stands below a lot's id: its definition, and how much is in stock
+-- the text below a lot's id: its definition, and how much is in stock
 abbrev pub stock_text : PictureLot → List ℕ
 stock_text lot = lot.definition ++ (codes " " ++ (decimal lot.stock ++ (codes " " ++ lot.unit)))
 

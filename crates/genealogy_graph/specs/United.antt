@@ -1,4 +1,4 @@
--- What is told, put together: the maps and the set that it makes, and the picture of these.
+-- What is reported, put together: the maps and the set that it makes, and the picture of these.
 use Rattle.std.specs.Prelude.{◌≡◌, ℕ, ◌&&◌, ◌==◌, List, [], ◌∷◌, ◌++◌, Bool, true, false, if◌then◌else◌, Option, Some, None, Result, Ok, Err, ⊤}
 use Rattle.std.specs.List.{list_any}
 use Rattle.std.specs.Ordering.{nat_cmp, ordering_then}
@@ -33,13 +33,13 @@ ReportsAs seen (Ok a) r = r ≡ Ok (seen a)
 ReportsAs seen (Err (fault.Reported p)) r = r ≡ Err p
 ReportsAs seen (Err fault.Memory) r = ⊤
 
--- ---- what is told more than once
+-- ---- what is reported more than once
 
 abbrev pub noted_where : {K X : Type 0} → (K → K → Ordering) → (X → X → Bool) → List (K × X) → K → X → Option X → Option (List (K × X))
 noted_where cmp eq es key value None = Some (insert_entry cmp es key value)
 noted_where cmp eq es key value (Some known) = if eq known value then Some es else None
 
--- the entries of a map with this one; none where another value stands at its key
+-- the entries of a map with this one; none where its key has another value
 abbrev pub noted : {K X : Type 0} → (K → K → Ordering) → (X → X → Bool) → List (K × X) → K → X → Option (List (K × X))
 noted cmp eq es key value = noted_where cmp eq es key value (lookup (is_at (cmp key)) es)
 
@@ -87,7 +87,7 @@ abbrev pub lot_unit : Node → Option PictureLot → Result (Option (List ℕ)) 
 lot_unit node None = Err (graph_error.Lost node)
 lot_unit node (Some lot) = Ok (Some lot.unit)
 
--- the unit of a lot, none of a batch; each has to be told
+-- the unit of a lot, none of a batch; each has to be reported
 abbrev pub unit_at : Lots → List (List ℕ) → Node → Result (Option (List ℕ)) GraphError
 unit_at lots batches (Lot id) = lot_unit (Lot id) (lookup (is_at (id_cmp id)) lots)
 unit_at lots batches (Batch id) = if list_any (is_at (id_cmp id)) batches then Ok None else Err (graph_error.Lost (Batch id))
@@ -108,7 +108,7 @@ edge_in lots batches e =
     unit_at lots batches e.0.1 >>= (λ last.
     measured e.0 e.1 first last))
 
--- the edges with their units, behind these
+-- the edges with their units, after these
 abbrev pub edges_in : Lots → List (List ℕ) → List PictureEdge → Edges → Result (List PictureEdge) GraphError
 edges_in lots batches done [] = Ok done
 edges_in lots batches done (e ∷ more) = edge_in lots batches e >>= (λ edge. edges_in lots batches (done ++ edge ∷ []) more)
@@ -119,7 +119,7 @@ abbrev pub picture_with : Lots → List (List ℕ) → Edges → Result Picture 
 picture_with lots batches edges =
     edges_in lots batches [] edges >>= (λ drawn. Ok (record { lots = values_of lots; batches = batches; edges = drawn }))
 
--- the picture of what is told, or the first thing that is wrong with it: lots before edges, and an edge's amounts before its ends
+-- the picture of what is reported, or the first thing that is wrong with it: lots before edges, and an edge's amounts before its ends
 unfoldable pub picture_of : Reported → Result Picture GraphError
 picture_of reported =
     lots_from [] reported.lots >>= (λ lots.

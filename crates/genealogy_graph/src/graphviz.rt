@@ -49,7 +49,7 @@ fn borders(is_held: bool, is_recalled: bool) -> u8
     if is_held || is_recalled { 2 } else { 1 }
 }
 
-/// What stands below a lot's id: its definition, and how much is in stock.
+/// The text below a lot's id: its definition, and how much is in stock.
 #[derive(Clone, Copy)]
 pub struct StockText(pub PictureLot);
 

@@ -1,4 +1,4 @@
-//! What answers tell, before it is put together, and what may be wrong with it.
+//! What answers report, before it is put together, and what may be wrong with it.
 ghost use Rattle.std.specs.Prelude.{◌≡◌, Some};
 ghost use Rattle.genealogy_graph.specs.Reported.{graph_error_text};
 ghost use Rattle.genealogy_graph.specs.declared.reported.UnitedFault.TheVariants as fault;
@@ -10,7 +10,7 @@ use std::alloc::AllocError;
 use std::fmt;
 use thiserror::Error;
 
-/// An edge, as an answer tells it.
+/// An edge, as an answer reports it.
 #[derive(Clone, Copy, Debug, PartialEq, Eq)]
 pub struct ReportedEdge {
     /// Where it begins.
@@ -21,7 +21,7 @@ pub struct ReportedEdge {
     pub amount: u64,
 }
 
-/// What answers tell, in the order of the telling: anything may be told more than once.
+/// What answers report, in their order: anything may be reported more than once.
 #[derive(Debug, Drop)]
 pub struct Reported {
     /// The lots.
@@ -32,14 +32,14 @@ pub struct Reported {
     pub edges: Items<ReportedEdge>,
 }
 
-/// Why what is told makes no picture.
+/// Why what is reported makes no picture.
 #[derive(Clone, Copy, Debug, PartialEq, Eq)]
 pub enum GraphError {
-    /// A lot is told twice, and not alike.
+    /// A lot is reported twice, with differences.
     Lot(Id),
-    /// An edge is told twice, with two amounts.
+    /// An edge is reported twice, with two amounts.
     Amounts(Node, Node),
-    /// An edge begins or ends at a node that isn't told.
+    /// An edge begins or ends at a node that isn't reported.
     Lost(Node),
     /// An edge leads from a batch to a batch, so it has no unit.
     Batches(Id, Id),
@@ -80,7 +80,7 @@ impl fmt::Display for GraphError {
 /// Why no picture was made.
 #[derive(Clone, Copy, Debug, PartialEq, Eq, Error)]
 pub enum UnitedFault {
-    /// What is told makes none.
+    /// What is reported makes none.
     #[error("{0}")]
     Reported(GraphError),
     /// Memory was refused.

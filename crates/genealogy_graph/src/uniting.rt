@@ -1,4 +1,4 @@
-//! What is told, put together: each lot, each batch and each edge once, in their order.
+//! What is reported, put together: each lot, each batch and each edge once, in their order.
 ghost use Rattle.std.specs.Prelude.{◌≡◌, [], Some, None, IfOk, OnOk, if◌then◌else◌};
 ghost use Rattle.std.specs.BTreeSet.{insert_key};
 ghost use Rattle.std.specs.Map.{values_of};
@@ -19,9 +19,9 @@ type Lots = BTreeMap<Id, PictureLot>;
 /// The amounts of the edges by where they begin and where they end.
 type Amounts = BTreeMap<(Node, Node), u64>;
 
-// ---- what is told more than once
+// ---- what is reported more than once
 
-/// Notes the value of a key, and tells whether no other stands there.
+/// Notes the value of a key, and returns whether there is no other.
 fn note<K: Ord + Copy, V: PartialEq + Copy>(
     map: &mut BTreeMap<K, V>,
     key: K,
@@ -221,12 +221,13 @@ fn picture_with(
     })
 }
 
-/// The picture of what is told: each lot, each batch and each edge once, in their order, and of each edge its unit.
+/// The picture of what is reported: each lot, each batch and each edge once, in their order, and of each edge its unit.
 ///
 /// Each edge of a picture that is made begins and ends at one of its lots or batches.
 ///
-/// `Reported` comes where it makes none, and tells the first thing that is wrong with it: a lot that is told twice and not alike, then an edge that is told
-/// with two amounts, then an edge that begins or ends at a node that isn't told, or leads from a batch to a batch. `Memory` comes where memory was refused.
+/// `Reported` comes where it makes none, with the first thing that is wrong with it: a lot that is reported twice with
+/// differences, then an edge that is reported with two amounts, then an edge that begins or ends at a node that isn't
+/// reported, or leads from a batch to a batch. `Memory` comes where memory was refused.
 #[tactic(auto, unfolding(crate::specs::United::picture_of))]
 pub fn united(alloc: Global, reported: &Reported) -> Result<Picture, UnitedFault>
     ensures picture { ReportsAs (λ picture. picture) result (picture_of reported.now) }

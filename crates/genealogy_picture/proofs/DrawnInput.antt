@@ -15,7 +15,7 @@ pub read_into_nothing : (known : Option (List ℕ)) (old new prefix : List ℕ) 
 read_into_nothing None old new prefix empty is says = tt
 read_into_nothing (Some text) old new prefix empty is says = is ∙ says ∙ ap (λ room. room ++ text) empty
 
--- where no error is told of a reading it has none
+-- a reading that isn't reported as failed didn't fail
 pub was_read : (r : Result ℕ Error) (n : ℕ) (P : Type 0) → read_count r ≡ Ok n → OnOk r P → P
 was_read (Ok m) n P reported is = is
 was_read (Err e) n P reported is = cc reported
@@ -26,7 +26,7 @@ pub holds_of_input : (P : List ℕ → Type 0) (known : Option (List ℕ)) (read
 holds_of_input P None read holds is = (read, tt, holds)
 holds_of_input P (Some text) read holds is = (read, is, holds)
 
--- a failed read and want of memory may be told of any bytes
+-- a failed read and want of memory may be reported of any bytes
 of_kind : (format : Format) (asked : Option Node) (bytes : List ℕ) (kind : ErrorKind) → IsRefused format asked bytes (draw_error_of_kind kind)
 of_kind format asked bytes io.OutOfMemory = tt
 of_kind format asked bytes _ = tt

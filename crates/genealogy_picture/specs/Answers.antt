@@ -1,4 +1,4 @@
--- What the lines of an input tell.
+-- What the lines of an input report.
 use Rattle.std.specs.Prelude.{◌≡◌, ℕ, ◌+◌, ◌==◌, ◌||◌, List, [], ◌∷◌, ◌++◌, length, Bool, if◌then◌else◌, codes, decimal, Option, Some, None, option_and_then, is_some, Result, Ok, Err, ⊤}
 use Rattle.std.specs.Str.{is_utf8, bytes_eq}
 use Rattle.serde_json.specs.Data.{Data, Items, no_items, item}
@@ -20,7 +20,7 @@ abbrev pub ◌>>=◌ : {A B E : Type 0} → Result A E → (A → Result B E) �
 Ok a >>= f = f a
 Err e >>= f = Err e
 
--- this is told now, or else this is wrong; nothing is said where memory was refused
+-- this is reported now, or else this is wrong; nothing is said where memory was refused
 abbrev pub Reports : Reported → Result Unit LineFault → Result Reported LineError → Type 0
 Reports now (Ok u) r = r ≡ Ok now
 Reports now (Err (fault.Reported w)) r = r ≡ Err w
@@ -83,6 +83,6 @@ text_into t (Some d) = answer_into t d
 abbrev pub is_blank : List ℕ → Bool
 is_blank line = length line == 0 || bytes_eq line (13 ∷ [])
 
--- a blank line tells nothing, and any other has to be an answer
+-- a blank line reports nothing, and any other has to be an answer
 unfoldable pub line_into : Reported → List ℕ → Result Reported LineError
 line_into t line = if is_blank line then Ok t else text_into t (if is_utf8 line then read line else None)

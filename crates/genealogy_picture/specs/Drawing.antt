@@ -31,7 +31,7 @@ use Rattle.genealogy_picture.specs.declared.ending.DrawError.TheVariants as stop
 use Rattle.genealogy_picture.specs.Answers.{◌>>=◌}
 use Rattle.genealogy_picture.specs.Reading.{reported_of}
 
--- what a picture that wasn't made is told as
+-- how a picture that wasn't made is reported
 abbrev pub of_whole : Result Picture UnitedFault → Result Picture DrawError
 of_whole (Ok p) = Ok p
 of_whole (Err (united.Reported p)) = Err (stop.Refused (refusal.Whole p))
@@ -47,7 +47,7 @@ picture_in bytes = reported_of bytes >>= (λ reported. whole (picture_of reporte
 
 -- ---- texts
 
--- what a layout that wasn't made is told as
+-- how a layout that wasn't made is reported
 abbrev pub of_layout : Result Drawing LayoutFault → Result Drawing DrawError
 of_layout (Ok d) = Ok d
 of_layout (Err layout.Circle) = Err (stop.Refused refusal.Circle)
@@ -105,12 +105,12 @@ abbrev pub Draws : Format → Option Node → List ℕ → Result (String Global
 Draws format asked bytes (Ok text) = (p : Picture) × (picture_in bytes ≡ Ok p) × IsTextOf format asked p (string_bytes text)
 Draws format asked bytes (Err stop) = IsRefused format asked bytes stop
 
--- an error of a reading for want of memory is told as that, and every other as a read that failed
+-- an error of a reading for want of memory is reported as that, and every other as a read that failed
 abbrev pub draw_error_of_kind : ErrorKind → DrawError
 draw_error_of_kind io.OutOfMemory = stop.Memory
 draw_error_of_kind _ = stop.Read
 
--- how many bytes a reading gave, or what its error is told as
+-- how many bytes a reading gave, or how its error is reported
 abbrev pub read_count : Result ℕ Error → Result ℕ DrawError
 read_count (Ok count) = Ok count
 read_count (Err error) = Err (draw_error_of_kind (error_kind error))

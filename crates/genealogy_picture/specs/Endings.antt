@@ -14,7 +14,7 @@ refusal_text (refusal.Whole p) = graph_error_text p
 refusal_text refusal.Circle = codes "the edges lead in a circle"
 refusal_text refusal.Absent = codes "the lot or batch that was asked for isn't there"
 
--- what is told on standard error, without its LF
+-- what is written to standard error, without its LF
 abbrev pub draw_error_text : DrawError → List ℕ
 draw_error_text (stop.Refused r) = refusal_text r
 draw_error_text stop.Open = codes "fault: open"

@@ -1,4 +1,4 @@
--- What is told, one after the other.
+-- What is reported, one after the other.
 use Rattle.std.specs.Prelude.{ℕ, List, [], ◌∷◌, ◌++◌}
 use Rattle.genealogy_graph.specs.declared.model.PictureLot.{PictureLot}
 use Rattle.genealogy_graph.specs.declared.reported.Reported.{Reported}

@@ -1,4 +1,4 @@
--- What all lines of an input tell.
+-- What all lines of an input report.
 use Rattle.std.specs.Prelude.{◌≡◌, ℕ, ◌+◌, ◌==◌, List, [], ◌∷◌, ◌++◌, if◌then◌else◌, Result, Ok, Err, ⊤}
 use Rattle.genealogy_graph.specs.declared.reported.Reported.{Reported}
 use Rattle.genealogy_picture.specs.declared.answers.LineFault.{LineFault}
@@ -21,7 +21,7 @@ ReportsAs seen (Err stop.Read) r = ⊥
 ReportsAs seen (Err stop.Write) r = ⊥
 ReportsAs seen (Err stop.Memory) r = ⊤
 
--- what a line of a number is told as
+-- how a line of a number is reported
 abbrev pub numbered : ℕ → Result Unit LineFault → Result Unit DrawError
 numbered number (Ok u) = Ok u
 numbered number (Err (line.Reported line_error)) = Err (stop.Refused (refusal.Line number line_error))
@@ -48,6 +48,6 @@ abbrev pub read_from : ReadingState → List ℕ → Result ReadingState Refusal
 read_from s [] = Ok s
 read_from s (b ∷ bs) = taken s b >>= (λ now. read_from now bs)
 
--- what the input tells, or its first line that is no answer; what stands behind the last LF is a line too
+-- what the input reports, or its first line that is no answer; what comes after the last LF is a line too
 unfoldable pub reported_of : List ℕ → Result Reported Refusal
 reported_of bytes = read_from start bytes >>= (λ s. line_ended s >>= (λ last. Ok last.reported))

@@ -3,7 +3,7 @@ use Rattle.std.specs.Prelude.{ℕ, List}
 use Rattle.genealogy_graph.specs.declared.reported.Reported.{Reported}
 
 pub record ReadingState : Type 0 where
-  -- what its lines told
+  -- what its lines reported
   pub reported : Reported
   -- the number of the line that is coming, counted from 1
   pub number : ℕ

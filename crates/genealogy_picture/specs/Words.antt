@@ -1,4 +1,4 @@
--- The command line of the program, and what its words mean.
+-- The command line of the program, and what its arguments mean.
 use Rattle.std.specs.Prelude.{ℕ, List, Option, codes, true, Some, None, if◌then◌else◌}
 use Rattle.clap.specs.declared.builder.action.ArgAction.TheVariants.{SetTrue}
 use Rattle.clap.specs.Words.{App, Row, Rule, Text, first_of, new_app, new_rule, with_rule}

@@ -1,4 +1,4 @@
-//! What a line tells: the nodes and the edges of an answer.
+//! What a line reports: the nodes and the edges of an answer.
 ghost use Rattle.std.specs.Prelude.{◌≡◌, Some, false, true, option_map};
 ghost use Rattle.serde_json.specs.Errors.{IsMemory};
 ghost use Rattle.serde_json.specs.View.{view, items_view};
@@ -164,7 +164,8 @@ fn is_blank(line: &[u8]) -> bool
 ///
 /// The line is a JSON text (RFC 8259) in UTF-8: an object with exactly `edges` and `nodes`, lists of objects. Of members with one name the last counts.
 ///
-/// - `Reported`: it is no such answer, and this is the first thing that is wrong with it, nodes before edges. What stands before it may have been taken.
+/// - `Reported`: it is no such answer, and this is the first thing that is wrong with it, nodes before edges. What comes
+///   before it may have been taken.
 /// - `Memory`: memory was refused.
 #[tactic(auto, unfolding(crate::specs::Answers::line_into))]
 pub(crate) fn line_into(

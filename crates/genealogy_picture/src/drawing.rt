@@ -20,7 +20,7 @@ use std::alloc::Global;
 use std::io;
 use std::io::{ErrorKind, Read};
 
-/// What a picture that wasn't made is told as.
+/// How a picture that wasn't made is reported.
 fn of_whole(made: Result<Picture, UnitedFault>) -> Result<Picture, DrawError>
     ensures { result ≡ of_whole made }
 {
@@ -41,7 +41,7 @@ fn picture_in(alloc: Global, bytes: &[u8]) -> Result<Picture, DrawError>
     of_whole(united(alloc, &reported))
 }
 
-/// What a layout that wasn't made is told as.
+/// How a layout that wasn't made is reported.
 fn of_layout(made: Result<Drawing, LayoutFault>) -> Result<Drawing, DrawError>
     ensures { result ≡ of_layout made }
 {
@@ -160,7 +160,7 @@ fn drawn(alloc: Global, format: Format, asked: Asked<'_>, bytes: &[u8]) -> Resul
     text_of(alloc, format, asked, &picture)
 }
 
-/// What a failed reading to the end is told as.
+/// How a failed reading to the end is reported.
 fn draw_error_of(error: &io::Error) -> DrawError
     ensures { result ≡ draw_error_of_kind (error_kind error.now) }
 {
@@ -170,7 +170,7 @@ fn draw_error_of(error: &io::Error) -> DrawError
     }
 }
 
-/// How many bytes a reading to the end gave, or what its error is told as.
+/// How many bytes a reading to the end gave, or how its error is reported.
 fn read_count(reading: io::Result<usize>) -> Result<usize, DrawError>
     ensures { result ≡ read_count reading }
 {
@@ -186,7 +186,7 @@ fn read_count(reading: io::Result<usize>) -> Result<usize, DrawError>
 ///
 /// `Refused` reports why they make none; of a picture that they make it comes in SVG alone, where its edges lead in a circle or the node that is asked for is none of it. `Read` comes where a read failed, and `Memory` where memory was refused. No other stop comes.
 ///
-/// In the clause, `bytes` are those that the reader has left, where it tells them, and some bytes where it tells none.
+/// In the clause, `bytes` are those that the reader has left, where it knows them, and some bytes where it knows none.
 pub(crate) fn draw<R: Read>(
     alloc: Global,
     format: Format,

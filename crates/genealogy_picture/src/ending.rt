@@ -12,7 +12,7 @@ use std::fmt;
 pub(crate) enum Refusal {
     /// The line of this number is no answer with edges, and this is why.
     Line(u64, LineError),
-    /// What its answers tell makes none.
+    /// What its answers report makes none.
     Whole(GraphError),
     /// Its edges lead in a circle, so that it has no layers: only in SVG.
     Circle,

@@ -1,4 +1,4 @@
-//! What the answers told so far.
+//! What the answers reported so far.
 ghost use Rattle.std.specs.Prelude.{◌≡◌, OnOk};
 ghost use Rattle.genealogy_picture.specs.Gathering.{nothing, with_lot, with_batch, with_node, with_edge};
 
@@ -9,7 +9,7 @@ use plant_trace::Node;
 use std::alloc::{AllocError, Global};
 use std::marker::Model;
 
-/// What the answers told so far, in the order of the telling.
+/// What the answers reported so far, in their order.
 #[derive(Debug, Drop)]
 pub(crate) struct Gathered {
     lots: Vec<PictureLot>,
@@ -69,7 +69,7 @@ impl Gathered {
         Ok(())
     }
 
-    /// All that was told.
+    /// All that was reported.
     pub(crate) fn into_reported(self) -> Reported
         ensures { result ≡ self }
     {

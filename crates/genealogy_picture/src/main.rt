@@ -1,4 +1,4 @@
-//! Draws the genealogy that answers of the desk tell.
+//! Draws the genealogy that answers of the desk report.
 #![tactic(auto)]
 
 mod answers;
@@ -24,7 +24,7 @@ fn main(rt: HostRuntime) -> ExitCode {
     ExitCode::from(status)
 }
 
-/// Draws what the words of the command line ask for, and gives the exit status.
+/// Draws what the arguments of the command line ask for, and gives the exit status.
 fn draw_named(rt: &HostRuntime) -> Result<u8, WordsFault> {
     let arguments = read_arguments(rt)?;
     let texts = texts_of(rt.alloc(), arguments.as_slice())?;
@@ -36,7 +36,7 @@ fn draw_named(rt: &HostRuntime) -> Result<u8, WordsFault> {
     Ok(status_of(&end))
 }
 
-/// Prints the picture that the words ask for.
+/// Prints the picture that the arguments ask for.
 fn print_drawn(rt: &HostRuntime, words: Words<'_>) -> Result<(), DrawError> {
     let text = draw_file(rt, words)?;
     match print!(rt; "{text}") {

@@ -10,7 +10,7 @@ use plant_base::{Id, Unit};
 use plant_trace::Node;
 use serde_json::Value;
 
-/// A node, as an answer tells it.
+/// A node, as an answer reports it.
 #[derive(Clone, Copy, Debug, PartialEq, Eq)]
 pub(crate) enum ReportedNode {
     /// A lot.

@@ -1,4 +1,4 @@
-//! What all lines of an input tell.
+//! What all lines of an input report.
 ghost use Rattle.std.specs.Prelude.{◌≡◌, IfOk};
 ghost use Rattle.genealogy_picture.specs.Reading.{start, numbered, line_ended, taken, read_from, reported_of, ReportsAs};
 
@@ -27,7 +27,7 @@ impl Model for Reading {
     ghost view = { λ r. record { reported = r.gathered; number = r.number; held = r.held.items } };
 }
 
-/// What a line of a number is told as, where it isn't taken.
+/// How a line of a number is reported, where it isn't taken.
 fn numbered(number: u64, taken: Result<(), LineFault>) -> Result<(), DrawError>
     ensures { result ≡ numbered number taken }
 {
@@ -94,7 +94,7 @@ fn read_from(alloc: Global, bytes: &[u8]) -> Result<Reading, DrawError>
     Ok(reading)
 }
 
-/// What the lines tell, each ended by an LF but the last, which may be empty.
+/// What the lines report, each ended by an LF but the last, which may be empty.
 ///
 /// `Refused` comes where a line is no answer with edges, with its number and why. `Memory` comes where memory was refused. No other stop comes.
 #[tactic(auto, unfolding(crate::specs::Reading::reported_of))]

@@ -1,4 +1,4 @@
-//! The words of the command line.
+//! The arguments of the command line.
 ghost use Rattle.std.specs.Prelude.{◌≡◌, IfErr, IfOk, [], codes, false, map, option_map};
 ghost use Rattle.clap.specs.Words.{app_of, fault_of, first_of, found_of, matches_of, rows_of, rule_of, with_rule};
 ghost use Rattle.desk_cli.specs.Meaning.{IsRefusalOf, is_set};
@@ -31,7 +31,7 @@ pub(crate) enum Asked<'a> {
     Batch(&'a str),
 }
 
-/// What the program is told to do.
+/// The arguments of the program.
 #[derive(Clone, Copy)]
 pub(crate) struct Words<'a> {
     /// The name of the file, none for standard input.
@@ -146,7 +146,7 @@ fn is_set(matches: &ArgMatches<'_>, name: &str) -> bool
     }
 }
 
-/// Which node the words name.
+/// Which node the arguments name.
 fn asked_of<'a>(matches: &ArgMatches<'a>) -> Asked<'a>
     ensures { names result ≡ asked_of (rows_of (found_of matches.now)) }
 {
@@ -159,7 +159,7 @@ fn asked_of<'a>(matches: &ArgMatches<'a>) -> Asked<'a>
     }
 }
 
-/// The format that the words ask for: SVG, where they don't ask for DOT.
+/// The format that the arguments ask for: SVG, where they don't ask for DOT.
 fn format_of(matches: &ArgMatches<'_>) -> Format
     ensures { result ≡ format_of (rows_of (found_of matches.now)) }
 {
@@ -170,7 +170,7 @@ fn format_of(matches: &ArgMatches<'_>) -> Format
     }
 }
 
-/// Reads the words of a command line, the program's name first.
+/// Reads the arguments of a command line, the program's name first.
 ///
 /// `Usage` comes where they aren't understood, `Help` where they ask for help or for the version, and `Memory` for want of memory.
 pub(crate) fn read_words<'a>(alloc: Global, words: &'a [&'a str]) -> Result<Words<'a>, WordsFault>

@@ -1,4 +1,4 @@
--- How nodes get their places, one after the other.
+-- How nodes get their positions, one after the other.
 use Rattle.std.proofs.Common.{◌≡◌, ◌∙◌, ℕ, Bool, true, false, cond, List, [], ◌∷◌, ◌++◌, Option, Some, refl, sym, ap, subst, ⊎_elim, Contains}
 use Rattle.std.specs.Prelude.{IsSome}
 use Rattle.std.specs.Ordering.{is_eq}
@@ -16,7 +16,7 @@ use Rattle.plant_trace.proofs.NodeOrder.{node_exact}
 use Rattle.genealogy_svg.specs.declared.drawing.BoxPosition.{BoxPosition}
 use Rattle.genealogy_svg.specs.Positions.{position_cmp, ArePositioned}
 
--- these nodes are placed, and their places are taken
+-- these nodes are placed, and their positions are taken
 pub record Placing (layers : BTreeMap Node ℕ) (nodes : List Node) (taken : BTreeSet BoxPosition) (positions : BTreeMap Node BoxPosition) : Type 0 where
   pub placed : ArePositioned layers nodes positions
   pub noted : (v : Node) (p : BoxPosition) → get node_cmp positions v ≡ Some p → contains position_cmp taken p ≡ true
@@ -35,7 +35,7 @@ cond_true false c h = h
 module _ (layers : BTreeMap Node ℕ) (nodes : List Node) (taken taken' : BTreeSet BoxPosition) (old new : BTreeMap Node BoxPosition) (v : Node) (p : BoxPosition)
     (take : sets.Updates position_cmp taken taken' p true) (put : maps.Updates node_cmp old new v (Some p))
     (free : contains position_cmp taken p ≡ false) (layer : p.layer ≡ rank_of layers v) (was : Placing layers nodes taken old) where
-  -- what stands at a node now: this place, or what stood there
+  -- the position of a node now: this one, or what it was before
   now_at : (x : Node) (q : BoxPosition) (b : Bool) → is_eq (node_cmp v x) ≡ b → get node_cmp new x ≡ Some q → cond b (Some p) (get node_cmp old x) ≡ Some q
   now_at x q b e h = ap (λ c. cond c (Some p) (get node_cmp old x)) (sym e) ∙ (sym (put.0 x) ∙ h)
 
@@ -62,7 +62,7 @@ module _ (layers : BTreeMap Node ℕ) (nodes : List Node) (taken taken' : BTreeS
   apart_at x y q false true e f h k = absurd (not_here x (h ∙ ap (λ r. Some r) (sym (some_exact p q k))))
   apart_at x y q false false e f h k = was.placed.apart x y q h k
 
-  -- one more node has its place
+  -- one more node has its position
   pub placed_more : Placing layers (nodes ++ v ∷ []) taken' new
   placed_more = record {
     placed = record {

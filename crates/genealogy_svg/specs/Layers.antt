@@ -1,4 +1,4 @@
--- Layers: a node stands one to the right of the rightmost of those that lead to it, so that each edge leads to the right.
+-- Layers: a node is one to the right of the rightmost of those that lead to it, so that each edge leads to the right.
 use Rattle.std.specs.Prelude.{◌≡◌, ℕ, ◌+◌, max, Bool, true, List, Some, IsSome, ⊤}
 use Rattle.std.specs.BTreeMap.{BTreeMap, get}
 use Rattle.std.specs.List.{All, list_any, fold}
@@ -26,7 +26,7 @@ Leads edges u v = leads edges u v ≡ true
 abbrev pub HasCircle : List PictureEdge → Type 0
 HasCircle edges = (v : Node) × Reach (Leads edges) v v
 
--- no node is told as lost
+-- no node is reported as lost
 abbrev pub HasNode : LayoutFault → Type 0
 HasNode fault.Circle = ⊤
 HasNode (fault.Lost node) = ⊥
@@ -40,7 +40,7 @@ height layer edges = fold (λ highest e. max highest (layer e.from + 1)) 0 edges
 abbrev pub IsLayered : BTreeMap Node ℕ → Node → Type 0
 IsLayered layers v = IsSome (get node_cmp layers v)
 
--- each node that has a layer stands one to the right of the rightmost of those that lead to it, all of which have theirs
+-- each node that has a layer is one to the right of the rightmost of those that lead to it, all of which have theirs
 pub record AreSettled (edges : List PictureEdge) (layers : BTreeMap Node ℕ) : Type 0 where
   pub highest : (v : Node) → IsLayered layers v → rank_of layers v ≡ height (rank_of layers) (edges_to edges v)
   pub before : (v : Node) → IsLayered layers v → All (λ e. IsLayered layers e.from) (edges_to edges v)

@@ -1,4 +1,4 @@
--- The layout of a picture: its nodes and edges in their places.
+-- The layout of a picture: its nodes and edges at their positions.
 use Rattle.std.specs.Prelude.{◌≡◌, ◌<◌, ◌⊎◌, ℕ, List, [], ◌∷◌, ◌++◌, map, Any, Contains, Option, Some, None, Result, Ok, Err, ⊤}
 use Rattle.std.specs.BTreeMap.{BTreeMap, get}
 use Rattle.genealogy_graph.specs.declared.model.Picture.{Picture}
@@ -32,17 +32,17 @@ abbrev pub placed : Node → Option BoxPosition → Result BoxPosition LayoutFau
 placed node None = Err (fault.Lost node)
 placed node (Some position) = Ok position
 
--- the place of a node
+-- the position of a node
 abbrev pub position_at : BTreeMap Node BoxPosition → Node → Result BoxPosition LayoutFault
 position_at positions node = placed node (get node_cmp positions node)
 
--- why the drawing of a picture isn't made: a node has none of these places, or memory was refused
+-- why the drawing of a picture isn't made: a node has none of these positions, or memory was refused
 abbrev pub IsUnpositioned : BTreeMap Node BoxPosition → LayoutFault → Type 0
 IsUnpositioned positions fault.Circle = ⊥
 IsUnpositioned positions (fault.Lost node) = get node_cmp positions node ≡ None
 IsUnpositioned positions fault.Memory = ⊤
 
--- a node that is told as lost is none of these
+-- a node that is reported as lost is none of these
 abbrev pub IsOutside : List Node → LayoutFault → Type 0
 IsOutside nodes fault.Circle = ⊤
 IsOutside nodes (fault.Lost node) = ¬ Contains nodes node
@@ -64,7 +64,7 @@ IsErrorOf r fault.Circle = r ≡ Err fault.Circle
 IsErrorOf r (fault.Lost node) = r ≡ Err (fault.Lost node)
 IsErrorOf r fault.Memory = ⊤
 
--- ---- lots, batches and edges in their places, behind these
+-- ---- lots, batches and edges at their positions, after these
 
 abbrev pub lots_in : BTreeMap Node BoxPosition → List DrawnLot → List PictureLot → Result (List DrawnLot) LayoutFault
 lots_in positions done [] = Ok done
@@ -81,7 +81,7 @@ edges_in positions done (e ∷ more) =
     position_at positions e.to >>= (λ to.
     edges_in positions (done ++ record { from = from; to = to; amount = e.amount; unit = e.unit; row = None } ∷ []) more))
 
--- the picture, with its nodes in these places, and without its amounts
+-- the picture, with its nodes at these positions, and without its amounts
 abbrev pub drawing_in : BTreeMap Node BoxPosition → Picture → Result Drawing LayoutFault
 drawing_in positions p =
     lots_in positions [] p.lots >>= (λ lots.
@@ -95,8 +95,8 @@ LeadsRight e = e.from.layer < e.to.layer
 
 -- ---- the layout
 
--- the nodes stand in layers, and each in a place of its own there; the drawing is the picture in these places, with its amounts, each in a row of
--- its own, where it is small enough
+-- the nodes are in layers, and each at a position of its own there; the drawing is the picture with these positions and with
+-- its amounts, each in a row of its own, where it is small enough
 pub record IsLaidOut (picture : Picture) (drawing : Drawing) : Type 0 where
   pub layers : BTreeMap Node ℕ
   pub positions : BTreeMap Node BoxPosition

@@ -1,4 +1,4 @@
--- Places: each node has one, in its layer, and no two nodes share one.
+-- Positions: each node has one, in its layer, and no two nodes share one.
 use Rattle.std.specs.Prelude.{◌≡◌, ℕ, List, Contains, Some, IsSome}
 use Rattle.std.specs.BTreeMap.{BTreeMap, get}
 use Rattle.std.specs.declared.cmp.Ordering.{Ordering}
@@ -12,7 +12,7 @@ use Rattle.plant_trace.specs.declared.node.Node.{Node}
 abbrev pub position_cmp : BoxPosition → BoxPosition → Ordering
 position_cmp = order.cmp
 
--- each of these nodes has a place, in its layer, and no other node has one; no two nodes have the same
+-- each of these nodes has a position, in its layer, and no other node has one; no two nodes have the same
 pub record ArePositioned (layers : BTreeMap Node ℕ) (nodes : List Node) (positions : BTreeMap Node BoxPosition) : Type 0 where
   pub each : (v : Node) → Contains nodes v → IsSome (get node_cmp positions v)
   pub only : (v : Node) (p : BoxPosition) → get node_cmp positions v ≡ Some p → Contains nodes v

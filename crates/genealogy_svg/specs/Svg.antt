@@ -13,7 +13,7 @@ use Rattle.plant_trace.specs.Nodes.{node_eq, node_text}
 use Rattle.plant_trace.specs.declared.node.Node.{Node}
 use Rattle.plant_trace.specs.declared.node.Node.TheVariants.{Lot, Batch}
 
--- ---- where a box stands: it is 180 wide and 56 high, and before each column is a gap of 260, in which the amounts stand
+-- ---- where a box is: it is 180 wide and 56 high, and before each column is a gap of 260, which has the amounts
 
 abbrev pub left_of : BoxPosition → ℕ
 left_of p = 20 + 440 * p.layer

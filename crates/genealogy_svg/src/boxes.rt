@@ -32,7 +32,7 @@ impl fmt::Display for BoxText<'_> {
     }
 }
 
-/// The line of a box that tells a lot's definition and stock.
+/// The line of a box with a lot's definition and stock.
 #[derive(Clone, Copy)]
 struct StockLine(DrawnLot);
 
@@ -140,7 +140,7 @@ impl fmt::Display for LotTitle {
     }
 }
 
-/// The line of a box that tells that a lot is held or recalled: nothing of another.
+/// The line of a box that says that a lot is held or recalled: nothing of another.
 #[derive(Clone, Copy)]
 struct MarkText(DrawnLot);
 

@@ -7,34 +7,34 @@ use plant_trace::Node;
 use std::alloc::AllocError;
 use thiserror::Error;
 
-/// A place in a drawing.
+/// A position in a drawing.
 #[derive(Clone, Copy, Debug, PartialEq, Eq, PartialOrd, Ord)]
 pub struct BoxPosition {
-    /// How many columns stand to the left of it.
+    /// How many columns are to the left of it.
     pub layer: u32,
-    /// How many places of its column are above it.
+    /// How many positions of its column are above it.
     pub slot: u32,
 }
 
-/// A lot in its place.
+/// A lot at its position.
 #[derive(Clone, Copy, Debug, PartialEq, Eq)]
 pub struct DrawnLot {
     /// The lot.
     pub lot: PictureLot,
-    /// Where it stands.
+    /// The position of its box.
     pub position: BoxPosition,
 }
 
-/// A batch in its place.
+/// A batch at its position.
 #[derive(Clone, Copy, Debug, PartialEq, Eq)]
 pub struct DrawnBatch {
     /// The batch.
     pub batch: Id,
-    /// Where it stands.
+    /// The position of its box.
     pub position: BoxPosition,
 }
 
-/// An edge between two places.
+/// An edge between two positions.
 #[derive(Clone, Copy, Debug, PartialEq, Eq)]
 pub struct DrawnEdge {
     /// Where it begins.
@@ -49,7 +49,7 @@ pub struct DrawnEdge {
     pub row: Option<u32>,
 }
 
-/// A picture whose nodes stand in their places.
+/// A picture with the positions of its nodes.
 #[derive(Debug, Drop)]
 pub struct Drawing {
     /// Its lots, in the order of the picture.

@@ -80,7 +80,7 @@ fn note(layers: &mut Layers, node: Node, layer: u32) -> Result<(), AllocError>
     Ok(())
 }
 
-/// Gives a node its layer, where all that lead to it have theirs, and tells whether it has one now.
+/// Gives a node its layer, where all that lead to it have theirs, and returns whether it has one now.
 pub(crate) fn settle(
     ends: &Grouped<'_, ByEnd>,
     layers: &mut Layers,

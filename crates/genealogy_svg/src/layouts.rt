@@ -31,7 +31,7 @@ fn nodes_of(alloc: Global, picture: &Picture) -> Result<Vec<Node>, AllocError>
     Ok(nodes)
 }
 
-/// The place of a node.
+/// The position of a node.
 fn position_at(positions: &BoxPositions, node: Node) -> Result<BoxPosition, LayoutFault>
     ensures position { result ≡ position_at positions.now node }
     ensures unpositioned { IfErr result (IsUnpositioned positions.now) }
@@ -152,7 +152,7 @@ fn with_amounts(alloc: Global, picture: &Picture, bare: Drawing) -> Result<Drawi
     })
 }
 
-/// The drawing of a picture: each node has one place, no two nodes have the same, and each edge leads to the right: a node stands
+/// The drawing of a picture: each node has one position, no two nodes have the same, and each edge leads to the right: a node is
 /// one to the right of the rightmost of those that lead to it, and at the left where none does. In a column nodes are wished in the order of the middle of
 /// what leads to them, then of their names. Where there are at most [`MOST_WITH_AMOUNTS`](crate::MOST_WITH_AMOUNTS) nodes, each amount has a row in the gap in front of the
 /// column where its edge ends, and no two in one gap have the same; in a larger picture they are left out.

@@ -1,4 +1,4 @@
-//! The drawing of a picture: where its nodes stand, and its text in SVG.
+//! The drawing of a picture: the positions of its nodes, and its text in SVG.
 #![tactic(auto)]
 
 mod boxes;

@@ -1,4 +1,4 @@
-//! The places of nodes, no two of them alike.
+//! The positions of nodes, no two of them alike.
 ghost use Rattle.std.specs.Prelude.{◌≡◌, true, false, Some, IfOk, IfSome, OnOk};
 ghost use Rattle.std.specs.BTreeMap.{Updates};
 ghost use Rattle.std.specs.BTreeSet as sets;
@@ -13,10 +13,10 @@ use plant_trace::Node;
 use std::alloc::{AllocError, Global};
 use std::collections::{BTreeMap, BTreeSet};
 
-/// The places of nodes.
+/// The positions of nodes.
 pub(crate) type BoxPositions = BTreeMap<Node, BoxPosition>;
 
-/// The first free place of a layer from the wished one on.
+/// The first free position of a layer from the wished one on.
 pub(crate) fn free_from(
     taken: &BTreeSet<BoxPosition>,
     layer: u32,
@@ -58,7 +58,8 @@ fn number_of(numbers: &BTreeMap<Node, u32>, node: Node) -> u32
     numbers.get(&node).copied().unwrap_or(0)
 }
 
-/// The places of nodes: each in its layer, at the first free place from the wished one on. The only error is that memory was refused.
+/// The positions of nodes: each in its layer, at the first free position from the wished one on. The only error is that
+/// memory was refused.
 pub(crate) fn positions_of(
     alloc: Global,
     layers: &Layers,

@@ -281,10 +281,11 @@ impl fmt::Display for WholeDrawing<'_> {
     }
 }
 
-/// A drawing in SVG, which a browser shows: a box for each lot and each batch in its place, and an arrow for each edge from the right side of one
-/// box to the left side of the other. An amount stands on a level part of its arrow in the gap in front of the column where it ends; where amounts are
-/// left out the drawing says so. A lot that is held or recalled is filled and says so. The heading names the node that was asked for, where one is given,
-/// and its box has a thick border. All numbers are whole.
+/// A drawing in SVG, which a browser shows: a box for each lot and each batch at its position, and an arrow for each edge
+/// from the right side of one box to the left side of the other. An amount is on a level part of its arrow in the gap in
+/// front of the column where it ends; where amounts are left out the drawing says so. A lot that is held or recalled is
+/// filled and says so. The heading names the node that was asked for, where one is given, and its box has a thick border.
+/// All numbers are whole.
 ///
 /// It is meant for some 300 nodes; a bigger one is drawn too. The only error is that memory was refused.
 pub fn svg(alloc: Global, drawing: &Drawing, asked: Option<Node>) -> Result<String, AllocError>

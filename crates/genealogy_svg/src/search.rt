@@ -39,7 +39,7 @@ impl Way {
         self.waiting.pop()
     }
 
-    /// Has a node wait, behind all others.
+    /// Has a node wait, after all others.
     fn push(&mut self, node: &Node, looked_up: usize) -> Result<(), AllocError> {
         self.waiting.push(Waiting {
             node: *node,
@@ -54,7 +54,7 @@ impl Way {
         self.nodes.contains(node)
     }
 
-    /// The nodes that wait behind this one, the last first, and this one after them.
+    /// The nodes that wait after this one, the last first, and this one as the last.
     fn back_to(&self, alloc: Global, node: &Node) -> Result<Vec<Node>, AllocError> {
         let mut nodes = Vec::new(alloc);
         for waiting in self.waiting.iter().rev() {
@@ -81,7 +81,7 @@ fn is_circle(ends: &Grouped<'_, ByEnd>, first: &Node, later: &[Node]) -> bool
     !later.is_empty() && last == *first
 }
 
-/// The first edge, from a place on, whose beginning has no layer yet: its place, and where it begins.
+/// The first edge, from a position on, whose beginning has no layer yet: its position, and where it begins.
 fn first_waiting(layers: &Layers, edges: &[PictureEdge], from: usize) -> Option<(usize, Node)> {
     for index in from..edges.len() {
         if !is_layered(layers, &edges[index].from) {

@@ -28,7 +28,7 @@ le_down Greater Less h e = absurd (omega arith)
 le_down Greater Equal h e = absurd (omega arith)
 le_down Greater Greater h e = cc
 
--- a row's key beside this one
+-- how a row's key compares with this one
 abbrev pub adjacent : {R K : Type 0} → (K → K → Ordering) → (R → Option K) → K → R → Ordering
 adjacent cmp key_of key r = option_cmp cmp (key_of r) (Some key)
 

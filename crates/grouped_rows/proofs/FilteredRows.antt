@@ -35,7 +35,7 @@ stable_keeps {X} p lt tied xs ys stable = by (filter p ys) (filter p xs) (filter
     by (u ∷ us) vs h k same = same u (All-head (λ x. p x ≡ true) u us h)
     by [] (v ∷ vs) h k same = same v (All-head (λ x. p x ≡ true) v vs k)
 
--- what passes stands from start up to end
+-- what passes is what lies from start up to end
 pub passes_between : {X : Type 0} (p : X → Bool) (xs : List X) (start end : ℕ) → start ≤ end →
     ((k : ℕ) (d : X) → k < start → k < length xs → p (get_or xs k d) ≡ false) →
     ((k : ℕ) (d : X) → start ≤ k → k < end → k < length xs → p (get_or xs k d) ≡ true) →

@@ -24,7 +24,7 @@ before_upto Equal e = cc
 before_upto Greater e = cc
 
 module _ {R K : Type 0} (cmp : K → K → Ordering) (key_of : R → Option K) (rows : List R) (key : K) where
-  -- behind the first rows stands one that is behind the key, so they end where the first of them do
+  -- after the first rows comes one that is after the key, so they end where the first of them do
   pub ends_among : IsTotalOrder cmp → Rises cmp key_of rows → (most : ℕ) → most < length rows → (row : R) → row ≡ get_or rows most row → is_le (adjacent cmp key_of key row) ≡ false
       → (end : ℕ) → end ≤ most → EndsAt cmp key_of (take most rows) key end → EndsAt cmp key_of rows key end
   ends_among total rises most within row is behind end short ends = (
@@ -36,14 +36,14 @@ module _ {R K : Type 0} (cmp : K → K → Ordering) (key_of : R → Option K) (
       by k d low h (inl l) = ap (λ r. is_le (adjacent cmp key_of key r)) (sym (get_or-take most rows k d l)) ∙ ends.1 k d low (omega (arith, length-take most rows))
       by k d low h (inr l) = behind_still _ _ (rising cmp total key_of rows key rises most k d l h) (ap (λ r. is_le (adjacent cmp key_of key r)) (get_or-any rows most d row within ∙ sym is) ∙ behind)
 
-  -- among the first rows too those that don't come behind the key are in front
+  -- among the first rows too those that don't come after the key are first
   pub upto_among : IsTotalOrder cmp → Rises cmp key_of rows → (most : ℕ) → IsPartitionedBy (λ r. is_le (adjacent cmp key_of key r)) (take most rows)
   upto_among total rises most i j d low h e =
       let within : j < most = omega (arith, h, length-take most rows) in
       ap (λ r. is_le (adjacent cmp key_of key r)) (get_or-take most rows i d (omega arith))
       ∙ upto_first cmp total key_of rows key rises i j d low (omega (arith, h, length-take most rows)) (ap (λ r. is_le (adjacent cmp key_of key r)) (sym (get_or-take most rows j d within)) ∙ e)
 
-  -- rows that rise do so from a place on
+  -- rows that rise do so from a position on
   pub rises_from : (start : ℕ) → Rises cmp key_of rows → Rises cmp key_of (drop start rows)
   rises_from start rises k d z h =
       let next : start + (k + 1) ≡ (start + k) + 1 = omega arith in

@@ -33,10 +33,10 @@ pub record Searchable {K R : Type 0} (cmp : K → K → Ordering) (key_of : R �
   pub rises : Rises cmp key_of found
   pub same : HasRows cmp key_of rows found
 
--- the rows before this place have a lesser key, those from it on none
+-- the rows before this position have a lesser key, those from it on none
 abbrev pub StartsAt : {K R : Type 0} → (K → K → Ordering) → (R → Option K) → List R → K → ℕ → Type 0
 StartsAt cmp key_of rows key start = IsPartitionPoint (λ r. is_lt (option_cmp cmp (key_of r) (Some key)) ≡ true) (λ r. is_lt (option_cmp cmp (key_of r) (Some key)) ≡ false) rows start
 
--- the rows before this place have no greater key, those from it on have one
+-- the rows before this position have no greater key, those from it on have one
 abbrev pub EndsAt : {K R : Type 0} → (K → K → Ordering) → (R → Option K) → List R → K → ℕ → Type 0
 EndsAt cmp key_of rows key end = IsPartitionPoint (λ r. is_le (option_cmp cmp (key_of r) (Some key)) ≡ true) (λ r. is_le (option_cmp cmp (key_of r) (Some key)) ≡ false) rows end

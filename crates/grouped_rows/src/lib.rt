@@ -78,7 +78,7 @@ fn copied<G: Grouping>(alloc: Global, found: &[&G::Row]) -> Result<Vec<G::Row>, 
     Ok(rows)
 }
 
-// The rows that have a key, in its order. Only references are moved until the order stands.
+// The rows that have a key, in its order. Only references are moved until they are in order.
 fn by_key<G: Grouping>(alloc: Global, rows: &[G::Row]) -> Result<Vec<G::Row>, AllocError>
     ensures { IfOk result (λ copy. Searchable G.Key.cmp G.key_of rows.now copy.items) }
 {
@@ -112,7 +112,7 @@ fn is_upto<G: Grouping>(row: &G::Row, key: G::Key) -> bool
     G::key(row).cmp(&Some(key)).is_le()
 }
 
-// The place of the first row that doesn't come before a key, where the keys rise.
+// The position of the first row that doesn't come before a key, where the keys rise.
 fn start_of<G: Grouping>(rows: &[G::Row], key: G::Key) -> usize
     requires { Rises G.Key.cmp G.key_of rows.now }
     ensures bound { result ≤ length rows.now }

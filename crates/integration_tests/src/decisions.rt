@@ -4,7 +4,7 @@ use crate::stores::{desk_over, in_memory};
 use plant_base::Envelope;
 use plant_desk::{Keeper, ListKeeper, Reply};
 use plant_desk_store::Desk;
-use plant_keyed::{EdgeCache, Keyed};
+use plant_keyed::{Keyed, LookupCache};
 use plant_rules::decide;
 use plant_view::{Decision, RowChange, RowParts, ViewFault};
 use sql_tables::Fault;
@@ -19,8 +19,8 @@ fn decided_by_key<S: Alter>(
     connection: &mut Connection<S>,
     envelope: &Envelope,
 ) -> Result<Decision, ViewFault<Fault>> {
-    let mut edges = EdgeCache::unread(alloc);
-    let mut view = Keyed::new(alloc, connection, &mut edges);
+    let mut cache = LookupCache::unread(alloc);
+    let mut view = Keyed::new(alloc, connection, &mut cache);
     decide(alloc, &mut view, envelope)
 }
 

@@ -14,7 +14,7 @@ use std::test::Fail;
 /// No adoption has so many calls of the log.
 const FAR: u64 = 5000;
 
-/// A store over a log and a database in memory, each of which fails behind so many calls.
+/// A store over a log and a database in memory, each of which fails after so many calls.
 type Failing = FileStore<Fuse<Memory>>;
 
 fn id(bytes: &[u8]) -> Result<Id, Fail> {
@@ -93,7 +93,7 @@ fn a_run_takes_two_thousand_commands(rt: HostRuntime) -> Result<(), Fail> {
     Ok(())
 }
 
-/// A desk over a log that fails behind so many calls; none where it isn't adopted.
+/// A desk over a log that fails after so many calls; none where it isn't adopted.
 fn adopted_within(alloc: Global, calls: u64) -> Result<Option<Desk<Failing>>, Fail> {
     let files = Files {
         log: Fuse::new(Memory::new(alloc), calls),

@@ -143,7 +143,7 @@ fn ends_after(rt: &(impl Abort + AllocGlobal), most: u64, wanted: RunEnd, text: 
     assert!(rt; out.as_slice() == text);
 }
 
-/// The second read tells the end of the input. Before it the part behind the last LF isn't answered.
+/// The second read finds the end of the input. Before it the part after the last LF isn't answered.
 #[test]
 fn reads_may_run_out(rt: HostRuntime) {
     let first = b"{\"schema\":4,\"seq\":0}\n";

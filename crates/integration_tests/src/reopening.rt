@@ -8,7 +8,7 @@ use sqlite::Alter;
 use std::process::Abort;
 use std::test::Fail;
 
-/// A command behind the first ten.
+/// A command after the first ten.
 const RECEIVE: &[u8] =
     b"{\"at\":0,\"by\":\"ben\",\"do\":\"receive\",\"lot\":\"F-2\",\"def\":\"FLOUR\",\"amount\":7,\"place\":\"\"}";
 

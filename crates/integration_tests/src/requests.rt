@@ -193,7 +193,8 @@ fn accepted<K: Keeper>(keeper: &mut K) -> Result<u64, Fail> {
     }
 }
 
-/// Checks that a writer which fails after any number of writes takes a front of the answer, and that the command is executed once.
+/// Checks that a writer which fails after any number of writes takes a prefix of the answer, and that the command is
+/// executed once.
 fn check_failed_writes(rt: &(impl Abort + AllocGlobal), fails: bool) -> Result<(), Fail> {
     for writes in 0..100 {
         let mut keeper = ListKeeper::new(rt.alloc());

@@ -8,7 +8,7 @@ use plant_trace::{Direction, Edges, Listed, Node, TraceFault, closure, closure_i
 use std::alloc::Global;
 use std::test::Fail;
 
-/// What a source says in place of nodes.
+/// What a source says instead of nodes.
 #[derive(Clone, Copy, Debug, PartialEq, Eq)]
 enum SourceError {
     Stopped,

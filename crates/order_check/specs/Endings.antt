@@ -6,7 +6,7 @@ use Rattle.desk_cli.specs.CheckFaults.{fault_status}
 use Rattle.desk_cli.specs.declared.check_fault.CheckFault.{CheckFault}
 use Rattle.desk_cli.specs.declared.check_fault.CheckFault.TheVariants as fault
 
--- a verdict that couldn't be written isn't told
+-- a verdict that couldn't be written isn't returned
 abbrev pub end_of : Bool → Bool → Result Bool CheckFault
 end_of good true = Ok good
 end_of good false = Err fault.Write

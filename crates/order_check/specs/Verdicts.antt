@@ -1,4 +1,4 @@
--- What is told of an order file.
+-- The verdict on an order file.
 use Rattle.std.specs.Prelude.{ℕ, Bool, List, [], ◌∷◌, ◌++◌, length, codes, decimal, Option, None, Some, find, ◌&&◌, ◌==◌, if◌then◌else◌}
 use Rattle.plant_base.specs.State.{same}
 use Rattle.plant_orders.specs.EveryFault.{faults_of, numbered_orders_of}
@@ -35,7 +35,7 @@ abbrev pub conflicts_among : List NumberedOrder → List NumberedOrder → List 
 conflicts_among orders [] = []
 conflicts_among orders (o ∷ os) = conflict_in orders o ++ conflicts_among orders os
 
--- the orders whose id stands in an earlier row, with another value in some field
+-- the orders whose id is that of an earlier row, with another value in some field
 abbrev pub conflicts_of : List NumberedOrder → List Conflict
 conflicts_of orders = conflicts_among orders orders
 
@@ -73,7 +73,7 @@ reason_text (reason.Field f) = shape_error_text f
 reason_text reason.TooManyRows = codes "the file has more than 1000 orders"
 reason_text reason.Memory = codes "memory was refused"
 
--- what is told of a fault, before what stands there
+-- the text of a fault, before that of its field
 abbrev pub fault_text : CsvFault → List ℕ
 fault_text fault = csv_text fault ++ (codes ": " ++ reason_text (reason_of fault.kind))
 

@@ -49,7 +49,7 @@ fn is_same_order(a: &OrderRow, b: &OrderRow) -> bool
         && a.priority == b.priority
 }
 
-/// Adds the conflict of an order behind the others, where it differs from the first of its id.
+/// Adds the conflict of an order to the others, where it differs from the first of its id.
 fn add_conflict(
     conflicts: &mut Vec<Conflict>,
     orders: &[NumberedOrder],

@@ -1,4 +1,4 @@
-//! How a check ends: whether the file is good or why that isn't known, and the exit status.
+//! How a check ends: whether the file is without faults or why that isn't known, and the exit status.
 ghost use Rattle.std.specs.Prelude.{◌≡◌};
 ghost use Rattle.order_check.specs.Endings.{end_of, status_of};
 

@@ -6,10 +6,7 @@ mod ending;
 mod reason;
 mod verdict;
 
-use desk_cli::{
-    CheckFault, CheckProgram, WordsFault, print_refused, read_arguments, read_checked_file,
-    texts_of,
-};
+use desk_cli::{CheckFault, WordsFault, print_refused, read_arguments, read_order_check, texts_of};
 use ending::{end_of, status_of};
 use std::fs::File;
 use std::io;
@@ -24,11 +21,11 @@ fn main(rt: HostRuntime) -> ExitCode {
     ExitCode::from(status)
 }
 
-/// Checks the file that the words of the command line name, and gives the exit status.
+/// Checks the file that the arguments of the command line name, and gives the exit status.
 fn check_named(rt: &HostRuntime) -> Result<u8, WordsFault> {
     let arguments = read_arguments(rt)?;
     let texts = texts_of(rt.alloc(), arguments.as_slice())?;
-    let file = read_checked_file(rt.alloc(), CheckProgram::Orders, texts.as_slice())?;
+    let file = read_order_check(rt.alloc(), texts.as_slice())?;
     let end = match judge_file(rt, file) {
         Ok(verdict) => end_of(verdict.is_good(), write_verdict(rt, &verdict).is_ok()),
         Err(fault) => Err(fault),
@@ -50,7 +47,7 @@ fn judge_file(rt: &HostRuntime, file: Option<&str>) -> Result<Verdict, CheckFaul
     }
 }
 
-/// Tells a verdict: each fault and each conflict in a line, or how many orders there are.
+/// Prints a verdict: each fault and each conflict in a line, or how many orders there are.
 fn write_verdict(rt: &HostRuntime, verdict: &Verdict) -> io::Result<()> {
     if verdict.is_good() {
         let count = Count(verdict.orders);

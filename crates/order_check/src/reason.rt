@@ -11,7 +11,7 @@ use std::fmt;
 pub(crate) enum Reason {
     /// It is longer than 262,144 bytes.
     TooLong,
-    /// Its first line isn't the header: also where semicolons or tabs stand between the fields.
+    /// Its first line isn't the header: also where semicolons or tabs are between the fields.
     Header,
     /// A row hasn't six fields.
     Shape,

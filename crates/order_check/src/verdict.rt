@@ -13,7 +13,7 @@ use std::alloc::{AllocError, Global};
 use std::fmt;
 use std::io::Read;
 
-/// What is told of an order file.
+/// The verdict on an order file.
 #[derive(Drop)]
 pub(crate) struct Verdict {
     /// Its faults, in the order of its rows and of their fields.
@@ -33,7 +33,7 @@ impl Verdict {
     }
 }
 
-/// How many orders a good file has, as it is told.
+/// The line that says how many orders a valid file has.
 #[derive(Clone, Copy)]
 pub(crate) struct Count(pub(crate) usize);
 
@@ -46,7 +46,7 @@ impl fmt::Display for Count {
     }
 }
 
-/// What is wrong, as it is told.
+/// The line that says what is wrong.
 #[derive(Clone, Copy)]
 struct Wrong(CsvFault);
 
@@ -63,7 +63,7 @@ impl fmt::Display for Wrong {
 /// The most bytes of a field that are shown.
 const MOST_SHOWN: usize = 60;
 
-/// A fault, as it is told: what is wrong, and of a field also what stands there, with `\x..` for a byte that isn't printable ASCII.
+/// The text of a fault: what is wrong, and of a field also its text, with `\x..` for a byte that isn't printable ASCII.
 #[derive(Clone, Copy)]
 pub(crate) struct FaultLine<'a>(pub(crate) &'a RowFault);
 
@@ -85,7 +85,7 @@ impl fmt::Display for FaultLine<'_> {
 ///
 /// `Read` comes where a read failed, and `Memory` where memory was refused. No other fault comes.
 ///
-/// In the clauses, `bytes` are those that the reader has left, where it tells them, and some bytes where it tells none.
+/// In the clauses, `bytes` are those that the reader has left, where it knows them, and some bytes where it knows none.
 pub(crate) fn judge<R: Read>(alloc: Global, reader: &mut R) -> Result<Verdict, CheckFault>
     ensures judged { IfOk result (λ verdict. (bytes : List ℕ) × Agrees (R.remaining reader.old) bytes
         × (verdict ≡ verdict_of bytes)) }

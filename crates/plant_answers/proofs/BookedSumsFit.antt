@@ -1,4 +1,4 @@
--- What is booked along an edge of a sound state fits 64 bits: all that left a lot does, and all that entered it.
+-- What is booked along an edge of a consistent state fits 64 bits: all that left a lot does, and all that entered it.
 use Rattle.std.proofs.Common.{◌≡◌, ℕ, ◌+◌, ◌*◌, ◌≤◌, ◌<◌, ◌^◌, Bool, true, false, cond, List, [], ◌∷◌, Option, refl, sym, ap, arith, ◌∙◌}
 use Rattle.std.specs.Prelude.{sum_by}
 use Rattle.std.specs.List.{AllByRecursion}

@@ -66,7 +66,7 @@ chosen_sum false h ms = sum_zero ms
 
 -- ---- one node
 
--- the edge is between the nodes, and is told at x
+-- the edge is between the nodes, and is reported at x
 abbrev is_reported : List Node → Node → EdgeRow → Bool
 is_reported nodes x e = node_eq x (reported_at e) && is_between nodes e
 
@@ -91,7 +91,7 @@ module _ (nodes : List Node) (x : Node) (e : EdgeRow) where
 
 -- ---- all nodes
 
--- the node at which an edge between the nodes is told is one of them
+-- the node at which an edge between the nodes is reported is one of them
 pub reporter_among : (nodes : List Node) (e : EdgeRow) → is_between nodes e ≡ true → is_among nodes (reported_at e) ≡ true
 reporter_among nodes e h = by e.kind (and_parts _ _ h).0 (and_parts _ _ h).1
   where
@@ -107,7 +107,7 @@ reporter_between nodes e = by (is_between nodes e) refl
     by true is = ap (λ (b : Bool). b && true) (reporter_among nodes e is)
     by false is = and_right (is_among nodes (reported_at e)) false refl
 
--- a node doesn't stand among those that are greater
+-- a node isn't among those that are greater
 none_later : (x y : Node) → x ≡ y → (xs : List Node) → AllByRecursion (λ z. node_cmp x z ≡ Less) xs → is_among xs y ≡ false
 none_later x y is [] a = refl
 none_later x y is (z ∷ zs) a = by (node_eq z y) refl (none_later x y is zs a.1)
@@ -211,7 +211,7 @@ module _ (ms : List Movement) (nodes : List Node) where
       by true = fits e
       by false = omega arith
 
--- ---- movements that tell of edges at a node
+-- ---- movements that book edges, reported at a node
 
 abbrev name_in : Node → List ℕ
 name_in (node.Lot id) = id
@@ -244,7 +244,7 @@ lot_booked s nodes id = reported_of (booked_at nodes (node.Lot id)) (λ m. is_na
 batch_booked : (s : State) (nodes : List Node) (id : List ℕ) → filter_map (booked_at nodes (node.Batch id)) (movements_of s id) ≡ filter_map (booked_at nodes (node.Batch id)) s.movements
 batch_booked s nodes id = reported_of (booked_at nodes (node.Batch id)) (λ m. is_named id (batch_by m.kind)) (λ m e. not_at_batch nodes id m.lot m.amount m.kind e) s.movements
 
--- a node's movements tell of all that is told there
+-- a node's movements book all that is reported there
 pub all_booked : (s : State) (nodes : List Node) (x : Node) → filter_map (booked_at nodes x) (movements_at s x) ≡ filter_map (booked_at nodes x) s.movements
 all_booked s nodes (node.Lot id) = lot_booked s nodes id
 all_booked s nodes (node.Batch id) = batch_booked s nodes id

@@ -28,7 +28,7 @@ set_more nodes i x old new l at updates has y =
     ∙ ap (λ (z : Node). list_any (λ q. node_eq q y) (take i nodes) || node_eq z y) at
     ∙ sym (list_any_more (λ (q : Node). node_eq q y) nodes i x l)
 
--- a row more behind others, where one is told
+-- one more row after others, where one is reported
 pub pushed_more : {X Y : Type 0} (h : X → Option Y) (xs : List X) (i : ℕ) (x : X) (prefix ys : List Y) (o : Option Y) → i < length xs → x ≡ get_or xs i x → o ≡ h x → ys ≡ prefix ++ filter_map h (take i xs) → ys ++ option_to_list o ≡ prefix ++ filter_map h (take (i + 1) xs)
 pushed_more h xs i x prefix ys o l at is e =
     ap (λ (zs : List _). zs ++ option_to_list o) e

@@ -47,7 +47,7 @@ by_stock x a true e h =
     (sym is, subst (λ (z : StandingLot). 0 < z.known.stock) is more)
 by_stock x a false e h = absurd (cc)
 
--- a lot that is told is there
+-- a lot that is reported is there
 lot_there : (s : State) (id : List ℕ) (a : StandingLot) (o : Option Lot) → lot_at s id ≡ o → stocked_if s o ≡ Some a → (l : Lot) × ((lot_at s id ≡ Some l) × ((a.known.lot ≡ id) × ((a ≡ standing_lot s l) × (0 < a.known.stock))))
 lot_there s id a None e h = absurd (cc)
 lot_there s id a (Some l) e h =

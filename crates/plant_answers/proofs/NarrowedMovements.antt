@@ -1,4 +1,4 @@
--- What the movements of a batch, and the scraps of a lot, tell as all movements do.
+-- The movements of a batch, and the scraps of a lot, say of these what all movements do.
 use Rattle.std.proofs.Common.{◌≡◌, ◌∙◌, ℕ, ◌+◌, ◌<◌, Bool, true, false, cond, if◌then◌else◌, List, [], ◌∷◌, ◌++◌, Option, Some, None, option_to_list, length, take, filter, get_or, sum_by, refl, sym, ap, arith}
 use Rattle.std.specs.Prelude.{◌&&◌}
 use Rattle.std.specs.List.{filter_map, cons_option}
@@ -13,7 +13,7 @@ use Rattle.plant_view.specs.Genealogy.{batch_by}
 use Rattle.plant_view.specs.Views.{is_named, is_scrap, movements_of, scraps_of}
 use Rattle.plant_answers.specs.BatchViews.{is_consumed_by, is_produced_by, consumption, production, booking_in, scrapping, scrapped_of}
 
--- ---- rows of which nothing is told
+-- ---- rows of which nothing is reported
 
 -- they may be left out
 pub reported_of : {X Y : Type 0} (h : X → Option Y) (test : X → Bool) → ((x : X) → test x ≡ false → h x ≡ None) → (xs : List X) → filter_map h (filter test xs) ≡ filter_map h xs

@@ -1,4 +1,4 @@
--- The nodes around a lot or batch that is there are there in a sound state, and all are told of.
+-- The nodes around a lot or batch that is there are there in a consistent state, and all are reported.
 use Rattle.std.proofs.Common.{◌≡◌, ◌∙◌, ℕ, true, List, [], ◌∷◌, map, Option, Some, None, is_some, refl, sym, subst, ap, ⊎_elim}
 use Rattle.std.specs.Prelude.{⊤, ◌==◌, ◌&&◌, is_none, option_map}
 use Rattle.std.specs.List.{AllByRecursion, filter_map, cons_option}
@@ -80,7 +80,7 @@ module _ (s : State) (sound : DecisionInvariant s) where
   around_there : (direction : Direction) (start y : Node) → missing s start ≡ None → IsAround s direction start y → IsHoused y
   around_there direction start y e around = ⊎_elim (λ is. subst IsHoused (sym is) (start_there start e)) (λ r. reached_there direction start y r) around
 
-  -- ---- what is told of them
+  -- ---- what is reported of them
 
   abbrev IsReported : Node → Type 0
   IsReported y = option_map named (node_answer s y) ≡ Some y

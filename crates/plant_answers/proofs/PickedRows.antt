@@ -1,4 +1,4 @@
--- What is in a list of which some are told, and in which order.
+-- What is in a list of which some are picked, and in which order.
 use Rattle.std.proofs.Common.{◌≡◌, ◌∙◌, List, [], ◌∷◌, Option, Some, None, refl, sym, subst, ap, ⊎_elim, Contains}
 use Rattle.std.specs.List.{AllByRecursion, filter_map, cons_option}
 use Rattle.std.specs.List.Sorted.{IsStrictlySortedBy}
@@ -7,7 +7,7 @@ use Rattle.std.specs.declared.cmp.Ordering.TheVariants.{Less}
 use Rattle.plant_trace.proofs.LeadsIsReach.{none_in, first_in, rest_in, first_or_rest}
 
 module _ {X Y : Type 0} (f : X → Option Y) where
-  -- what is told of one of them
+  -- what is picked of one of them
   pub picked_in : (xs : List X) (x : X) (y : Y) → Contains xs x → f x ≡ Some y → Contains (filter_map f xs) y
   picked_in [] x y h e = absurd (none_in x h)
   picked_in (z ∷ zs) x y h e =

@@ -52,7 +52,7 @@ pub record StandsFrom (s : State) (start : Node) (a : StandingLot) : Type 0 wher
 abbrev pub standing_order : StandingLot → StandingLot → Ordering
 standing_order a b = id_cmp a.known.lot b.known.lot
 
--- Where the goods of a lot or batch stand that is there: what is told lists just such lots, ascending, each once, and no other.
+-- Where the goods of a lot or batch are that is there: the answer lists just such lots, ascending, each once, and no other.
 abbrev pub StandsListReached : Type 0
 StandsListReached = (k : ℕ) (s : State) (start : Node) → missing s start ≡ None
     → (lots : List StandingLot) × (answer k s (Q.Stands start) ≡ A.Stands lots) × IsStrictlySortedBy standing_order lots
@@ -75,12 +75,12 @@ EdgesAreBooked = (k : ℕ) (s : State) (direction : Direction) (start : Node) �
     → (g : Genealogy) × (answer k s (Q.Edges direction start) ≡ A.Edges g) × IsStrictlySortedBy booked_order g.edges
     × ((b : BookedEdge) → Contains g.edges b ↔ IsBooked s direction start b)
 
--- In a sound state its nodes are just the start and what the least relation reaches from it, each once, ascending.
+-- In a consistent state its nodes are just the start and what the least relation reaches from it, each once, ascending.
 abbrev pub NodesAreReached : Type 0
 NodesAreReached = (k : ℕ) (s : State) (direction : Direction) (start : Node) → DecisionInvariant s → missing s start ≡ None
     → (g : Genealogy) × (answer k s (Q.Edges direction start) ≡ A.Edges g) × Lists (IsAround s direction start) (map named g.nodes)
 
--- The stock that stands beside a sublot is the sum of what entered it less the sum of what left it.
+-- The stock in the row of a sublot is the sum of what entered it less the sum of what left it.
 abbrev pub ColumnIsStock : Type 0
 ColumnIsStock = (s : State) → DecisionInvariant s → (p : Place) → pos (sublot_row s.movements p).stock ≡ stock s.movements p.lot p.number
 
@@ -88,7 +88,7 @@ ColumnIsStock = (s : State) → DecisionInvariant s → (p : Place) → pos (sub
 abbrev pub TablesRepresentState : Type 0
 TablesRepresentState = (k : ℕ) (s : State) → IsWholeIn k s → state_without_kept (tables_of k s) ≡ s
 
--- what is told of a recall: its lot, whether it is open, and while it is just what it reaches, each such node once, ascending, and no
+-- the answer about a recall: its lot, whether it is open, and while it is just what it reaches, each such node once, ascending, and no
 -- other
 pub record AnswersRecall (s : State) (r : Recall) (a : RecallAnswer) : Type 0 where
   pub recall : a.recall ≡ r.id
@@ -97,7 +97,7 @@ pub record AnswersRecall (s : State) (r : Recall) (a : RecallAnswer) : Type 0 wh
   pub reached : is_open r ≡ true → Lists (IsRecalled (edges_of s) r.lot) a.nodes
   pub lifted : is_open r ≡ false → a.nodes ≡ []
 
--- The answer to a question about a recall that is there tells that recall.
+-- A question about a recall that is there is answered with that recall.
 abbrev pub RecallsListReached : Type 0
 RecallsListReached = (k : ℕ) (s : State) (recall : List ℕ) (r : Recall) → recall_at s recall ≡ Some r
     → (a : RecallAnswer) × (answer k s (Q.Recall recall) ≡ A.Recall a) × AnswersRecall s r a

@@ -18,7 +18,7 @@ pub record AreBookingsOf (s : State) (batch : List ℕ) (found : BatchBookings) 
   pub consumed : found.consumed.items ≡ filter_map (consumption s batch) s.movements
   pub produced : found.produced.items ≡ filter_map (production s batch) s.movements
 
--- what stands in the other tables of the batch of this id
+-- what the other tables have of the batch of this id
 pub record IsFoundOf (s : State) (batch : List ℕ) (found : FoundBatch) : Type 0 where
   pub lines : found.lines.items ≡ map (measured_line s.definitions) (control_lines_of s batch)
   pub events : found.events.items ≡ events_of s batch

@@ -81,7 +81,7 @@ abbrev pub definition_of : State → Option Lot → Option Definition
 definition_of s None = None
 definition_of s (Some l) = definition_at s l.def
 
--- the lot of a movement and its definition are there in a sound state
+-- the lot of a movement and its definition are there in a consistent state
 abbrev pub booking_in : State → ℕ → Movement → Option Booking
 booking_in s scrapped m = option_map (booking m scrapped) (definition_of s (lot_at s m.lot))
 
@@ -111,7 +111,7 @@ batch_view s b j h = record {
   produced = filter_map (production s b.id) s.movements;
 }
 
--- In a sound state the order of a batch is there, and the recipe of that order, so that only an unknown batch is refused.
+-- In a consistent state the order of a batch is there, and the recipe of that order, so that only an unknown batch is refused.
 abbrev pub answer_headed : State → Batch → Job → Option Recipe → Answer
 answer_headed s b j None = A.Unknown UnknownRecipe
 answer_headed s b j (Some r) = A.Batch (batch_view s b j r.header)

@@ -18,7 +18,7 @@ use Rattle.plant_worklists.specs.Worklists.{movements_into}
 use Rattle.plant_answers.specs.Genealogy.{is_between, is_among}
 use Rattle.plant_messages.specs.declared.genealogy.BookedEdge.{BookedEdge}
 
--- the node whose movements tell of an edge: the batch at one of its ends, or else the lot that it leads to
+-- the node whose movements book an edge: the batch at one of its ends, or else the lot that it leads to
 abbrev pub reported_by : EdgeKind → List ℕ → List ℕ → Node
 reported_by edge.LotToBatch from to = node.Batch to
 reported_by edge.BatchToLot from to = node.Batch from
@@ -27,7 +27,7 @@ reported_by edge.LotToLot from to = node.Lot to
 abbrev pub reported_at : EdgeRow → Node
 reported_at e = reported_by e.kind e.from e.to
 
--- an amount along an edge between these nodes, where that is told at this one
+-- an amount along an edge between these nodes, where that is reported at this one
 abbrev pub booked_if : List Node → Node → ℕ → Option EdgeRow → Option BookedEdge
 booked_if nodes at amount None = None
 booked_if nodes at amount (Some e) = if node_eq at (reported_at e) && is_between nodes e then Some (record { edge = e; amount = amount }) else None
@@ -45,7 +45,7 @@ movements_at s (node.Batch id) = movements_of s id
 abbrev pub IsSetOf : List Node → BTreeSet Node → Type 0
 IsSetOf nodes set = (y : Node) → contains node_cmp set y ≡ is_among nodes y
 
--- what all movements book along the edges that lead from one of the nodes to another, told node by node
+-- what all movements book along the edges that lead from one of the nodes to another, reported node by node
 abbrev pub bookings_around : List Movement → List Node → List BookedEdge
 bookings_around movements nodes = flat_map (λ x. filter_map (booked_at nodes x) movements) nodes
 
@@ -58,7 +58,7 @@ counted e b = if edge_eq b.edge e then b.amount else 0
 abbrev pub total_along : List BookedEdge → EdgeRow → ℕ
 total_along bookings e = sum_by (counted e) bookings
 
--- they fit the number that tells them
+-- the sum along each edge fits a 64-bit number
 abbrev pub Fits : List BookedEdge → Type 0
 Fits bookings = (e : EdgeRow) → total_along bookings e < 2 ^ 64
 

@@ -12,7 +12,7 @@ is_lf byte = byte == 10
 abbrev pub line_in : List ℕ → List ℕ
 line_in text = before_first is_lf text
 
--- what is behind it
+-- what comes after it
 abbrev pub behind : List ℕ → List ℕ
 behind text = after_first is_lf text
 

@@ -38,7 +38,7 @@ lot_node s l d = record {
   stock = (lot_answer s l).stock;
 }
 
--- a lot that is there, as its definition is in a sound state
+-- a lot that is there, as its definition is in a consistent state
 abbrev pub node_if : State → Option Lot → Option NodeAnswer
 node_if s None = None
 node_if s (Some l) = option_map (λ d. known.Lot (lot_node s l d)) (definition_at s l.def)
@@ -48,7 +48,7 @@ abbrev pub node_answer : State → Node → Option NodeAnswer
 node_answer s (node.Lot id) = node_if s (lot_at s id)
 node_answer s (node.Batch id) = Some (known.Batch id)
 
--- the node that is told of
+-- the node of the answer
 abbrev pub named : NodeAnswer → Node
 named (known.Lot l) = node.Lot l.lot
 named (known.Batch id) = node.Batch id

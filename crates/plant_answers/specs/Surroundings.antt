@@ -1,4 +1,4 @@
--- What lies around a lot or batch in the genealogy, and where its goods stand.
+-- What lies around a lot or batch in the genealogy, and where its goods are.
 use Rattle.std.specs.Prelude.{List, Option, Some, None}
 use Rattle.std.specs.List.{filter_map}
 use Rattle.plant_base.specs.State.{State, lot_at, put}
@@ -19,7 +19,7 @@ use Rattle.plant_messages.specs.declared.question.StandingLot.{StandingLot}
 abbrev pub nodes_around : State → Direction → Node → List Node
 nodes_around s direction start = put node_cmp start (trace_of s direction start)
 
--- ---- where goods stand
+-- ---- where goods are
 
 -- what is known of a lot that is there, where it has stock
 abbrev pub stocked_if : State → Option Lot → Option StandingLot

@@ -83,7 +83,7 @@ abbrev pub answer_definitions : State → List ℕ → Option (List ℕ) → Opt
 answer_definitions s class cursor None = A.Unknown UnknownClass
 answer_definitions s class cursor (Some c) = A.List (listed.Definitions (page_of (definitions_in s class cursor)))
 
--- a page of what comes after this id, or of the front where none is given; where what the list is of isn't there, the refusal
+-- a page of what comes after this id, or of the beginning where none is given; where what the list is of isn't there, the refusal
 abbrev pub answer_list : State → Worklist → Option (List ℕ) → Answer
 answer_list s (list.Orders state) cursor = A.List (listed.Orders (page_of (orders_in s state cursor)))
 answer_list s list.OpenBatches cursor = A.List (listed.Batches (batch_page s (page_of (batches_in s false cursor))))

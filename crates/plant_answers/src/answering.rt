@@ -26,7 +26,7 @@ use std::alloc::Global;
 
 /// Answers a question over a view, as a desk of the newest schema. Nothing is written.
 ///
-/// The answer is that of the view's state where that is sound, as every state is that commands lead to.
+/// The answer is that of the view's state where that is consistent, as every state is that commands lead to.
 /// `ViewFault::View` comes where the view failed, `ViewFault::Memory` where memory was refused.
 #[tactic(auto, unfolding(crate::specs::Answers::answer))]
 pub fn answer<V: Worklists>(

@@ -83,7 +83,7 @@ fn batch_view<V: View>(
     Ok(view_of(row, job, header, found))
 }
 
-// What stands in the other tables of a batch.
+// What the other tables have of a batch.
 #[derive(Drop)]
 struct FoundBatch {
     lines: Vec<MeasuredLine>,
@@ -125,7 +125,7 @@ fn view_of(row: &BatchRow, job: Job, header: Header, found: FoundBatch) -> Batch
     }
 }
 
-// The progress that the row of a batch tells.
+// The progress in the row of a batch.
 fn progress_in(row: &BatchRow) -> Progress
     ensures { (s : State) → IsRowOf s row.now → result ≡ progress_at s row.now.batch.id }
 {

@@ -86,7 +86,7 @@ fn movements_at<V: Worklists>(
     }
 }
 
-// Adds what the movements book along the edges between nodes of the set that are told at the node.
+// Adds what the movements book along the edges between nodes of the set that are reported at the node.
 fn push_bookings(
     rows: &mut Vec<BookedEdge>,
     among: &BTreeSet<Node>,
@@ -115,7 +115,7 @@ fn booked_at(among: &BTreeSet<Node>, at: &Node, movement: &Movement) -> Option<B
     None
 }
 
-// The node whose movements tell of the edge: the batch at one of its ends, or else the lot that it leads to.
+// The node whose movements book the edge: the batch at one of its ends, or else the lot that it leads to.
 fn reported_at(edge: &EdgeRow) -> Node
     ensures { result ≡ reported_at edge.now }
 {

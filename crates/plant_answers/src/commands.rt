@@ -85,7 +85,7 @@ fn head_of(content: &str) -> Option<CommandHead>
     })
 }
 
-// The first line of a text, and what is behind it.
+// The first line of a text, and what comes after it.
 fn cut(text: &str) -> (&str, &str)
     ensures first { result.0.now ≡ line_in text.now }
     ensures more { result.1.now ≡ behind text.now }

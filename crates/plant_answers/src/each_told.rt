@@ -1,4 +1,4 @@
-//! What is told of each of many lots or nodes, one after another.
+//! What is reported of each of many lots or nodes, one after the other.
 ghost use Rattle.std.specs.Prelude.{◌≡◌, IfOk, fold};
 ghost use Rattle.std.specs.List.{filter_map};
 ghost use Rattle.plant_trace.specs.HoldsIfHonest.{HoldsIfHonest};
@@ -11,7 +11,7 @@ use plant_view::ViewFault;
 use plant_worklists::Worklists;
 use std::alloc::Global;
 
-/// A lot or node of which a row may be told.
+/// A lot or node of which a row may be reported.
 pub(crate) trait RowOf<R>: Sized {
     ghost use Rattle.std.specs.Prelude.{◌≡◌, Option, IfOk};
     ghost use Rattle.plant_base.specs.State.{State};
@@ -20,13 +20,13 @@ pub(crate) trait RowOf<R>: Sized {
     ghost use Rattle.plant_answers.specs.KnownLots.{AreKnown};
     ghost use Rattle.plant_answers.specs.declared.known_lots.KnownLots.{KnownLots};
 
-    /// What a state tells of it.
+    /// What a state reports of it.
     ghost reported: { State → Self → Option R };
 
     /// What is known of lots after it, by what was known before.
     ghost known_after: { State → KnownLots → Self → KnownLots };
 
-    /// What is told of it, by what was read ahead of lots.
+    /// What is reported of it, by what was read ahead of lots.
     fn row_of<V: Worklists>(
         &self,
         alloc: Global,
@@ -40,7 +40,7 @@ pub(crate) trait RowOf<R>: Sized {
             × IfOk result (λ _. known.new ≡ known_after (V.state view.old) known.old self.now)) };
 }
 
-/// What is told of each that a row is told of, in their order.
+/// What is reported of each that has something to report, in their order.
 pub(crate) fn each_row<R: Drop, T: RowOf<R>, V: Worklists>(
     alloc: Global,
     view: &mut V,

@@ -9,8 +9,8 @@ pub fn trace_law()
     ensures { TracesListReached }
 {}
 
-/// Where goods stand lists exactly the lots with stock that the start is or that the least relation reaches from it, with what is
-/// known of each.
+/// The answer where goods are lists exactly the lots with stock that the start is or that the least relation reaches from it,
+/// with what is known of each.
 pub fn stands_law()
     ensures { StandsListReached }
 {}
@@ -18,18 +18,18 @@ pub fn stands_law()
 /// The genealogy around a lot or batch has exactly the edges between it and what the least relation reaches from it, each with the
 /// amounts of all movements that make it.
 ///
-/// In a sound state its nodes are exactly these.
+/// In a consistent state its nodes are exactly these.
 pub fn edges_law()
     ensures booked { EdgesAreBooked }
     ensures reached { NodesAreReached }
 {}
 
-/// The stock of a sublot in the tables of a sound state is what entered it less what left it, over all movements.
+/// The stock of a sublot in the tables of a consistent state is what entered it less what left it, over all movements.
 pub fn stock_law()
     ensures { ColumnIsStock }
 {}
 
-/// The tables of a state stand for that state and no other.
+/// The tables of a state represent that state and no other.
 pub fn tables_law()
     ensures { TablesRepresentState }
 {}

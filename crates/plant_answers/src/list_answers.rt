@@ -20,7 +20,7 @@ use plant_worklists::{
 };
 use std::alloc::Global;
 
-/// A page of a worklist: what comes after an id, or its front where none is given.
+/// A page of a worklist: what comes after an id, or its beginning where none is given.
 pub(crate) fn list_answer<V: Worklists>(
     alloc: Global,
     view: &mut V,

@@ -48,7 +48,8 @@ pub(crate) fn answer_of_lot(lot: Lot, held: bool, sublots: Vec<Sublot>) -> LotAn
     }
 }
 
-// The sum of the stocks, as far as it fits. That of a lot in a sound state does; a view that breaks its word may tell more.
+// The sum of the stocks, as far as it fits. That of a lot in a consistent state does; a view that breaks its contract may
+// give more.
 fn total_of(rows: &[Sublot]) -> u64
     ensures { sum_by (λ r. r.stock) rows.now < 2 ^ 64 → result ≡ sum_by (λ r. r.stock) rows.now }
 {

@@ -1,4 +1,4 @@
-// Where the goods of a lot or batch stand.
+// Where the goods of a lot or batch are.
 ghost use Rattle.std.specs.Prelude.{◌≡◌, IfOk};
 ghost use Rattle.plant_trace.specs.HoldsIfHonest.{HoldsIfHonest};
 ghost use Rattle.plant_view.specs.DecisionInvariant.{DecisionInvariant};

@@ -108,9 +108,9 @@ recipe_back (line.Out def amount ∷ ls) v = three_more (codes "out") def (decim
 recipe_back (line.Parameter name value ∷ ls) v = three_more (codes "par") name value (flat_map recipe_line_lines ls) refl ∙ (λ i. line.Parameter name value ∷ recipe_back ls v.1 i)
 recipe_back (line.Phase u o p ∷ ls) v = λ i. line.Phase u o p ∷ recipe_back ls v.1 i
 
--- ---- commands: what stands behind the word
+-- ---- commands: what comes after the word
 
--- stands where a text has no command's form
+-- where a text isn't that of a command
 nothing : Command
 nothing = body.Settle (record { batch = [] })
 

@@ -1,4 +1,4 @@
--- An edge is told by its key, which is all of it.
+-- Edges with equal keys are equal: an edge is all key.
 use Rattle.std.proofs.Common.{◌≡◌, ◌∙◌, ℕ, List, refl, ap}
 use Rattle.std.specs.Cmp.Lexicographic.{texts_ties}
 use Rattle.std.specs.Ordering.{nat_cmp, ordering_then, is_eq}

@@ -32,7 +32,7 @@ module _ {P R : Type 0} (po : P → P → Ordering) (ro : R → R → Ordering) 
   step_by_order x xs a e more Equal l = λ i. h p ∷ map_alike g h (λ q. is_eq (po p q) ≡ false) xs (at_rest x xs l a) e.1 i
   step_by_order x xs a e more Greater l = λ i. e.0 (ap is_eq l) i ∷ more i
 
-  -- A row whose column changes at one key alone is put in its place.
+  -- A row whose column changes at one key alone is put where it belongs.
   pub put_map : (ps : List P) → IsStrictlySortedBy po ps → AllByRecursion (λ q. is_eq (po p q) ≡ false → g q ≡ h q) ps → put ro (h p) (map g ps) ≡ map h (put po p ps)
   unfolding IsStrictlySortedBy
   put_map [] a e = refl

@@ -1,4 +1,4 @@
-//! The items of a list, shown one behind another.
+//! The items of a list, shown one after the other.
 ghost use Rattle.std.specs.Prelude.{ℕ, List, Some};
 ghost use Rattle.std.specs.List.{flat_map};
 ghost use Rattle.std.specs.Fmt.{WritesOnOk};

@@ -29,7 +29,7 @@ pub enum Checked {
     },
 }
 
-/// Says what would become of a command over a view, which is one of a sound state. Nothing is written.
+/// Says what would become of a command over a view of a consistent state. Nothing is written.
 ///
 /// `ViewFault::View` comes where the view failed, `ViewFault::Memory` where memory was refused.
 pub fn check<V: View>(

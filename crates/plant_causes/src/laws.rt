@@ -11,7 +11,7 @@ pub fn causes_law()
     ensures { CausesAreTold }
 {}
 
-/// The item that is the cause is the first that fails: it stands at its number, counted from 1, and none before it fails.
+/// The item that is the cause is the first that fails: it is the item of its number, counted from 1, and none before it fails.
 pub fn first_items_law()
     ensures orders { OrdersAreFirst }
     ensures parts { PartsAreFirst }

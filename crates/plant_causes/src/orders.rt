@@ -108,7 +108,7 @@ fn is_oversize<V: View>(view: &mut V, order: &OrderRow) -> Result<bool, ViewFaul
 
 // ---- conflicts
 
-// The order that an id stands for: that of the desk's job, or else the first of the list.
+// The order that an id names: that of the desk's job, or else the first of the list.
 fn order_named(orders: &Grouped<ListedOrders>, job: Option<Job>, id: Id) -> Option<OrderRow>
     ensures { result ≡ order_named orders.now.rows.now job id }
 {

@@ -70,7 +70,7 @@ fn is_short_of<V: View>(view: &mut V, part: &Part) -> Result<bool, ViewFault<V::
     Ok(stock_in(sublot) < part.amount.get())
 }
 
-// What stands in a sublot, and nothing where it isn't there.
+// The stock of a sublot, and 0 where it isn't there.
 fn stock_in(sublot: Option<Sublot>) -> u64
     ensures { (s : State) (lot : List ℕ) (number : ℕ) → DecisionInvariant s
         → IsSublotOf s lot number sublot → result ≡ sublot_standing s lot number }

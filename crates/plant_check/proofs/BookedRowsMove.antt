@@ -12,7 +12,7 @@ use Rattle.plant_tables_columns.specs.Booked.{booked_of, code_of}
 use Rattle.plant_tables_columns.specs.declared.booked.BookedRow.{BookedRow}
 use Rattle.plant_check.specs.Ends.{entered_by, left_by, entries, exits, total_booked}
 
--- the columns of a row tell where its movement goes, and where it comes from
+-- the columns of a row say where its movement goes, and where it comes from
 ends_booked : (m : Movement) → (entered_by (code_of m.kind) (booked_of m) ≡ goes_to m.kind m.lot m.sub) × (left_by (code_of m.kind) (booked_of m) ≡ comes_from m.kind m.lot m.sub)
 ends_booked m = by m.kind refl
   where
@@ -58,7 +58,7 @@ pub amount_left : (ms : List Movement) (lot : List ℕ) (number : ℕ) → total
 unfolding left
 amount_left = amount_at (λ m. comes_from m.kind m.lot m.sub)
 
--- one end of movements, as their rows tell it
+-- one end of movements, as their rows say it
 module _ (reported_by : BookedRow → Option (List ℕ × ℕ)) (end_of : Movement → Option (List ℕ × ℕ)) (alike : (m : Movement) → reported_by (booked_of m) ≡ end_of m) (ms : List Movement) (lot : List ℕ) (number : ℕ) where
   rows_at : filter (λ r. is_sublot_key (reported_by r) lot number) (map booked_of ms) ≡ map booked_of (filter (λ m. is_sublot_key (end_of m) lot number) ms)
   rows_at = filter_mapped (λ (r : BookedRow). is_sublot_key (reported_by r) lot number) booked_of ms ∙ (λ i. map booked_of (filter (λ (m : Movement). is_sublot_key (alike m i) lot number) ms))

@@ -11,12 +11,12 @@ use Rattle.plant_check.specs.Broken.{first_broken}
 use Rattle.plant_check.specs.declared.rule.Rule.{Rule}
 use Rattle.plant_check.specs.declared.rule.Rule.TheVariants as rule
 
--- table meta doesn't stand with one good row, or the tables of its version don't stand as they are declared, or one that a
+-- table meta isn't there with one valid row, or the tables of its version aren't declared as their definitions say, or one that a
 -- later version adds is there
 abbrev pub LacksTables : Database → Type 0
 LacksTables db = ((n : ℤ) → ¬ IsVersion db n) ⊎ ((version : ℕ) × IsVersion db (pos version) × ¬ HasTablesOf version db.schema)
 
--- the tables of the version that meta tells stand as they are declared, with none of a later one, and their rows break this rule first
+-- the tables of the version in meta are declared as their definitions say, with none of a later one, and their rows break this rule first
 abbrev pub AreFirstBroken : Database → Rule → Type 0
 AreFirstBroken db r = (version : ℕ) × IsVersion db (pos version) × HasTablesOf version db.schema × ((x : Loaded) × AreLoaded version db x × (first_broken x ≡ Some r))
 
@@ -24,7 +24,7 @@ AreFirstBroken db r = (version : ℕ) × IsVersion db (pos version) × HasTables
 abbrev pub IsFirstBroken : Database → Rule → Type 0
 IsFirstBroken db r = ((r ≡ rule.Tables) × LacksTables db) ⊎ AreFirstBroken db r
 
--- There is something of the desk, for not all of its tables' names are free; table meta tells no version above the
+-- There is something of the desk, for not all of its tables' names are free; table meta has no version above the
 -- newest; and this is the first rule that the tables break.
 pub record IsDamaged (db : Database) (r : Rule) : Type 0 where
   pub taken : ¬ All (IsFree db.schema) desk_table_defs

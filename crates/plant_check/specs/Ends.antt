@@ -7,7 +7,7 @@ use Rattle.plant_tables_columns.specs.declared.booked.BookedRow.{BookedRow}
 use Rattle.plant_tables_columns.specs.declared.booked.MovementKindCode.{MovementKindCode}
 use Rattle.plant_tables_columns.specs.declared.booked.MovementKindCode.TheVariants as kind_code
 
--- the sublot that the columns name besides the row's own
+-- the sublot that the columns name other than the row's own
 abbrev pub other_end : Option (List ℕ) → Option ℕ → Option (List ℕ × ℕ)
 other_end None sub = None
 other_end (Some lot) None = None

@@ -19,7 +19,7 @@ use plant_check_stock::{
 use plant_tables_read::{DeskRows, Loaded, has_meta, rows_of};
 use std::alloc::{AllocError, Global};
 
-/// The first of the rules of good tables that the loaded rows break, if they break one. The only error is that memory
+/// The first of the rules of valid tables that the loaded rows break, if they break one. The only error is that memory
 /// was refused.
 #[tactic(auto, unfolding(crate::specs::Broken::first_broken))]
 pub fn check(alloc: Global, loaded: &Loaded) -> Result<Option<Rule>, AllocError>

@@ -1,4 +1,4 @@
-//! What was done, as rows of table movement tell it.
+//! What was done, as rows of table movement report it.
 
 ghost use Rattle.std.specs.Prelude.{◌≡◌, ◌↔◌, IfOk, IsTrue, true};
 ghost use Rattle.plant_trace.specs.Reach.{IsAcyclic};

@@ -1,4 +1,4 @@
-//! Whether tables are those of a desk: the first of the rules of good tables that they break.
+//! Whether tables are those of a desk: the first of the rules of valid tables that they break.
 #![tactic(auto)]
 
 pub mod checking;

@@ -1,4 +1,4 @@
-//! The recalls that rows of table recall tell of.
+//! The recalls that are decoded from rows of table recall.
 
 ghost use Rattle.std.specs.Prelude.{◌≡◌, IfOk};
 ghost use Rattle.plant_check.specs.Broken.{are_fitting, recalls_read};

@@ -1,4 +1,4 @@
-//! The rules of good tables.
+//! The rules of valid tables.
 
 ghost use Rattle.std.specs.Prelude.{◌≡◌};
 ghost use Rattle.plant_check.specs.Numbered.{rule_number};
@@ -6,7 +6,7 @@ ghost use Rattle.plant_check.specs.Numbered.{rule_number};
 /// A rule that the tables of a desk obey, in the order in which they are tested.
 #[derive(Clone, Copy, Debug, PartialEq, Eq)]
 pub enum Rule {
-    /// Each table stands with its columns, and none of a later schema; meta has one row, which tells a schema, a number
+    /// Each table is declared with its columns, and none of a later schema exists; meta has one row, with a schema, a number
     /// of accepted commands and a moment.
     Tables,
     /// Each value obeys its rule, and each line has the columns of its kind.

@@ -20,7 +20,7 @@ abbrev pub is_run : Result Progress Refusal → Progress → Bool
 is_run (Err refusal) p = false
 is_run (Ok q) p = equal.eq q p
 
--- each event of the batch was allowed at its place, and the kept columns are the fold of them
+-- each event of the batch was allowed where it comes, and the kept columns are the fold of them
 unfoldable pub has_right_run : List ControlLine → List BatchEvent → BatchRow → Bool
 has_right_run control events b = is_run (run_of (phases_among control b.batch.id) (events_among events b.batch.id)) (kept_progress b)
 

@@ -14,8 +14,8 @@ use plant_base::{BatchEvent, BatchRow, ControlLine, Event, Id, Refusal};
 use plant_recipe::{GREATEST_PHASES, Progress, is_phase};
 use std::alloc::{AllocError, Global};
 
-/// Whether each event of each batch was allowed at its place, the batch's state, attempt, next phase and ending are
-/// what its events make of it, and no event is without its batch. The events stand by their seq. The only error is
+/// Whether each event of each batch was allowed where it comes, the batch's state, attempt, next phase and ending are
+/// what its events make of it, and no event is without its batch. The events are in the order of their seq. The only error is
 /// that memory was refused.
 pub fn are_events(
     alloc: Global,

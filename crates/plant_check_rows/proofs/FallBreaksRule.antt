@@ -37,7 +37,7 @@ from_start b = grind (arith, nat_tests)
 
 -- ---- movements
 
--- where one of them is reported, behind these marks
+-- where one of them is reported, after these marks
 movement_from : (xs : List Mark) (before : Mark) (ms : List Movement) (rest : List Mark)
     → IfSome (fall_fault_in before ms) (λ _. never_fall (xs ++ before ∷ (map row_mark_of ms ++ rest)) ≡ false)
 movement_from xs before [] rest = tt

@@ -1,4 +1,4 @@
--- A fault is told of a row exactly where it breaks its rule.
+-- A fault is reported of a row exactly where it breaks its rule.
 use Rattle.std.proofs.Common.{◌≡◌, ◌∙◌, Bool, true, false, List, [], ◌∷◌, map, Option, Some, None, refl, ap}
 use Rattle.std.specs.Prelude.{◌&&◌, is_none}
 use Rattle.std.specs.List.{list_all}
@@ -21,7 +21,7 @@ pub three_none : (p q r : Bool) (f g h : RowFault) → is_none (or_fault (fault_
 three_none true q r f g h = two_none q r g h
 three_none false q r f g h = refl
 
--- three, and then what is told of another
+-- three, and then what is reported of another
 pub after_three : (p q r s : Bool) (f g h : RowFault) (rest : Option RowFault) → is_none rest ≡ s
     → is_none (or_fault (fault_unless p f) (or_fault (fault_unless q g) (or_fault (fault_unless r h) rest))) ≡ (p && q && r && s)
 after_three true true true s f g h rest e = e
@@ -29,7 +29,7 @@ after_three true true false s f g h rest e = refl
 after_three true false r s f g h rest e = refl
 after_three false q r s f g h rest e = refl
 
--- what is told, and then two tests
+-- what is reported, and then two tests
 pub then_two : (reported : Option RowFault) (k p q : Bool) (g h : RowFault) → is_none reported ≡ k → is_none (or_fault reported (or_fault (fault_unless p g) (fault_unless q h))) ≡ (k && p && q)
 then_two None k p q g h e = two_none p q g h ∙ (λ i. e i && p && q)
 then_two (Some f) k p q g h e = λ i. e i && p && q
@@ -38,7 +38,7 @@ pub both_none : (a b : Option RowFault) (p q : Bool) → is_none a ≡ p → is_
 both_none None b p q e f = f ∙ (λ i. e i && q)
 both_none (Some x) b p q e f = λ i. e i && q
 
--- none is told of a list exactly where each of its elements passes
+-- none is reported of a list exactly where each of its elements passes
 pub first_none : {R : Type 0} (fault_of : R → Option RowFault) (passes : R → Bool) → ((r : R) → is_none (fault_of r) ≡ passes r) → (rs : List R) → is_none (first_reported fault_of rs) ≡ list_all passes rs
 first_none fault_of passes each [] = refl
 first_none fault_of passes each (r ∷ rs) = both_none (fault_of r) (first_reported fault_of rs) (passes r) (list_all passes rs) (each r) (first_none fault_of passes each rs)

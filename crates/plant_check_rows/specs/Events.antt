@@ -21,7 +21,7 @@ use Rattle.plant_check_rows.specs.declared.fault.Column.TheVariants as column
 use Rattle.plant_check_rows.specs.declared.fault.Found.TheVariants as found
 use Rattle.plant_check_rows.specs.declared.fault.Wanted.TheVariants as wanted
 
--- the batch, where this stands in a column and that is wanted
+-- the fault of the batch: this is in a column, where that is wanted
 abbrev pub batch_as : BatchRow → Column → Found → Wanted → RowFault
 batch_as b c f w = in_column (table.Batch, id_key b.batch.id) c f w
 

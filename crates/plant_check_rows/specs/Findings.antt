@@ -86,7 +86,7 @@ abbrev pub found_by_row : Rule → Option RowFault → Option Finding
 found_by_row broken None = None
 found_by_row broken (Some f) = Some (record { rule = broken; row = Some f })
 
--- the rule, where it isn't obeyed, with the row where one is told
+-- the rule, where it isn't obeyed, with the row where one is known
 abbrev pub found_by_test : Rule → Bool → Option RowFault → Option Finding
 found_by_test broken true reported = None
 found_by_test broken false reported = Some (record { rule = broken; row = reported })

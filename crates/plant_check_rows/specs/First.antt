@@ -1,4 +1,4 @@
--- What is told of a row, and the first fault that is told.
+-- What is reported of a row, and the first fault that is reported.
 use Rattle.std.specs.Prelude.{ℕ, Bool, true, false, List, [], ◌∷◌, Option, Some, None}
 use Rattle.plant_check_rows.specs.declared.fault.Column.{Column}
 use Rattle.plant_check_rows.specs.declared.fault.Found.{Found}
@@ -9,7 +9,7 @@ use Rattle.plant_check_rows.specs.declared.fault.Table.{Table}
 use Rattle.plant_check_rows.specs.declared.fault.Wanted.{Wanted}
 use Rattle.plant_check_rows.specs.declared.fault.Wanted.TheVariants as wanted
 
--- the row of this table and key, where this stands in a column and that is wanted
+-- the fault of the row of this table and key: this is in a column, where that is wanted
 abbrev pub in_column : Table × Key → Column → Found → Wanted → RowFault
 in_column place c f w = record {
   table = place.0;
@@ -38,7 +38,7 @@ abbrev pub fault_unless : Bool → RowFault → Option RowFault
 fault_unless true f = None
 fault_unless false f = Some f
 
--- the one, where it is told, and else the other
+-- the one, where there is one, and else the other
 abbrev pub or_fault : Option RowFault → Option RowFault → Option RowFault
 or_fault None rest = rest
 or_fault (Some f) rest = Some f

@@ -20,7 +20,7 @@ use Rattle.plant_check_rows.specs.declared.fault.Wanted.TheVariants as wanted
 abbrev pub is_mark_among : List Mark → Mark → Bool
 is_mark_among among m = list_any (λ d. is_eq (mark_order d m)) among
 
--- the mark, where it is none of these: this stands there, and that is wanted
+-- the fault of the mark, where it is none of these: what is reported as found, and as wanted
 abbrev pub mark_fault : Found → Wanted → List Mark → Mark → Option RowFault
 mark_fault f w among m = fault_unless (is_mark_among among m) (record {
   table = table.Mark;

@@ -28,7 +28,7 @@ wrong_columns r = in_column (table.Movement, booked_key r.seq r.line) column.Kin
 abbrev pub kind_fault : BookedRow → Option RowFault
 kind_fault r = fault_unless (is_some (movement_from r)) (wrong_columns r)
 
--- the movement, where this stands in a column, or in the row as a whole, and that is wanted
+-- the fault of the movement: this is in a column, or in the row as a whole, where that is wanted
 abbrev pub movement_as : Movement → Option Column → Found → Wanted → RowFault
 movement_as m c f w = record {
   table = table.Movement;

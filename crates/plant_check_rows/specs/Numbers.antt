@@ -23,7 +23,7 @@ use Rattle.plant_check_rows.specs.declared.fault.Wanted.TheVariants as wanted
 
 -- ---- numbers
 
--- the movement, where it isn't the next line behind the one before it
+-- the movement, where it isn't the line that follows the one before it
 abbrev pub line_fault : Option Movement → Movement → Option RowFault
 line_fault before m = fault_unless (is_next_line before m) (movement_as m (Some column.Line) (found.Number m.line) wanted.NextLine)
 
@@ -43,7 +43,7 @@ number_fault greatest events ms m =
     (or_fault (fault_unless (is_apart events m) (number_as m wanted.Apart))
     (fault_unless (is_entered_before ms m.seq (comes_from m.kind m.lot m.sub)) (number_as m wanted.Later)))
 
--- the event, where this stands in a column and that is wanted
+-- the fault of the event: this is in a column, where that is wanted
 abbrev pub event_as : BatchEvent → Column → Found → Wanted → RowFault
 event_as e c f w = in_column (table.BatchEvent, number_key e.seq) c f w
 

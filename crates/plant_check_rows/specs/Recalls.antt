@@ -17,7 +17,7 @@ use Rattle.plant_check_rows.specs.declared.fault.Column.TheVariants as column
 use Rattle.plant_check_rows.specs.declared.fault.Found.TheVariants as found
 use Rattle.plant_check_rows.specs.declared.fault.Wanted.TheVariants as wanted
 
--- the recall, where this stands in a column and that is wanted
+-- the fault of the recall: this is in a column, where that is wanted
 abbrev pub recall_as : List ℕ → Column → Found → Wanted → RowFault
 recall_as id c f w = in_column (table.Recall, id_key id) c f w
 

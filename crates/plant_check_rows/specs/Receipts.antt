@@ -15,7 +15,7 @@ use Rattle.plant_check_rows.specs.declared.fault.Column.TheVariants as column
 use Rattle.plant_check_rows.specs.declared.fault.Found.TheVariants as found
 use Rattle.plant_check_rows.specs.declared.fault.Wanted.TheVariants as wanted
 
--- the receipt, where this stands in a column and that is wanted
+-- the fault of the receipt: this is in a column, where that is wanted
 abbrev pub receipt_as : Receipt → Column → Found → Wanted → RowFault
 receipt_as r c f w = in_column (table.Receipt, id_key r.reference) c f w
 

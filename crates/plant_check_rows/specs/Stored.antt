@@ -1,4 +1,4 @@
--- Stored rows: what stands in their columns, and their keys where these can be read.
+-- Stored rows: what their columns have, and their keys where these can be read.
 use Rattle.std.specs.Prelude.{ℕ, nat_le, List, length, Option, Some, unwrap_or, if◌then◌else◌}
 use Rattle.sqlite.specs.declared.types.Value.{Value}
 use Rattle.sqlite.specs.declared.types.Value.TheVariants as value
@@ -93,6 +93,6 @@ key_in table.Receipt row = id_key row
 key_in table.Recall row = id_key row
 key_in table.Mark row = id_number_id_key row
 
--- the key of a row that has this place in the order of the key: the place stands for a key that can't be read
+-- the key of a row, or where it can't be read, its position in the order of the key, which is given
 abbrev pub key_or_place : Table → ℕ → Row → Key
 key_or_place t place row = unwrap_or (key_in t row) (key.Place place)

@@ -15,7 +15,7 @@ use plant_recipe::Progress;
 use plant_tables_read::DeskRows;
 use std::alloc::{AllocError, Global};
 
-/// The batch, where this stands in a column and that is wanted.
+/// The fault of the batch: this is in a column, where that is wanted.
 fn batch_as(batch: &BatchRow, column: Column, found: Found, wanted: Wanted) -> RowFault
     ensures { result ≡ batch_as batch.now column found wanted }
 {
@@ -36,7 +36,7 @@ fn differ(a: bool, b: bool) -> bool
     if a { !b } else { b }
 }
 
-/// How the file tells whether a batch is closed.
+/// How the file stores whether a batch is closed.
 fn closed_number(closed: bool) -> u64
     ensures { result ≡ closed_number closed }
 {

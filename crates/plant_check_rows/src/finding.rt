@@ -30,7 +30,7 @@ use std::alloc::{AllocError, Global};
 pub struct Finding {
     /// The rule.
     pub rule: Rule,
-    /// The first row that breaks it, where one is told.
+    /// The first row that breaks it, where one is known.
     pub row: Option<RowFault>,
 }
 
@@ -99,7 +99,7 @@ fn found_by_row(rule: Rule, row: Option<RowFault>) -> Option<Finding>
     }
 }
 
-/// The rule, where it isn't obeyed, with the row where one is told.
+/// The rule, where it isn't obeyed, with the row where one is known.
 fn found_by_test(rule: Rule, obeyed: bool, row: Option<RowFault>) -> Option<Finding>
     ensures { result ≡ spec.found_by_test rule obeyed row }
 {
@@ -220,9 +220,9 @@ pub fn test_rows(alloc: Global, rows: DeskRows) -> Result<Tested, AllocError>
 /// What is found of all rows that were loaded.
 #[derive(Drop)]
 pub enum Findings {
-    /// Meta hasn't one good row.
+    /// Meta hasn't one valid row.
     NoMeta,
-    /// A value breaks its rule; and the first row of which one does, where it is told.
+    /// A value breaks its rule; and the first row of which one does, where it is known.
     Values(Option<RowFault>),
     /// All values obey their rules, and the rows were tested by the others.
     Rows(Tested),
@@ -241,7 +241,7 @@ pub fn test_loaded(alloc: Global, loaded: &Loaded) -> Result<Findings, AllocErro
     }
 }
 
-/// What findings tell, as laws that a proof above may cite. It does nothing when it runs.
+/// What findings say, as laws that a proof above may cite. It does nothing when it runs.
 ///
 /// - `broken`: of rows whose values obey their rules each other rule is found exactly where they don't obey it.
 /// - `first`: the first rule that is found of loaded rows is the first that they break.

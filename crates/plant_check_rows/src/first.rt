@@ -1,4 +1,4 @@
-//! What is told of a row, and the first row that breaks a rule.
+//! What is reported of a row, and the first row that breaks a rule.
 ghost use Rattle.std.specs.Prelude.{◌≡◌, IfOk};
 ghost use Rattle.plant_check_rows.specs.First.{as_a_whole, first_reported, in_column, names_none, or_fault, fault_unless};
 
@@ -6,7 +6,7 @@ use crate::fault::{Column, Found, Key, RowFault, Table, Wanted};
 use plant_base::Id;
 use std::alloc::{AllocError, Global};
 
-/// What each row of a table has to obey by itself, beside the rows that it is held against.
+/// What each row of a table has to obey by itself, given the rows that it is compared with.
 pub(crate) trait RowRule<R> {
     ghost use Rattle.std.specs.Prelude.{◌≡◌, Option, IfOk};
     ghost use Rattle.plant_check_rows.specs.declared.fault.RowFault.{RowFault as Reported};
@@ -19,7 +19,7 @@ pub(crate) trait RowRule<R> {
         ensures { IfOk result (λ reported. reported ≡ fault_of self.now row.now) };
 }
 
-/// The row of this table and key, where this stands in a column and that is wanted.
+/// The fault of the row of this table and key: this is in a column, where that is wanted.
 pub(crate) fn in_column(
     place: (Table, Key),
     column: Column,
@@ -64,7 +64,7 @@ pub(crate) fn fault_unless(obeyed: bool, fault: RowFault) -> Option<RowFault>
     if obeyed { None } else { Some(fault) }
 }
 
-/// The one, where it is told, and else the other.
+/// The one, where there is one, and else the other.
 pub(crate) fn or_fault(first: Option<RowFault>, rest: Option<RowFault>) -> Option<RowFault>
     ensures { result ≡ or_fault first rest }
 {

@@ -1,4 +1,4 @@
-//! The rows that break the rules of good tables: of each rule the first of them, with what stands there and what the rule wants.
+//! The rows that break the rules of the tables: of each rule the first of them, with what it has and what the rule wants.
 #![tactic(auto)]
 
 mod column_rules;

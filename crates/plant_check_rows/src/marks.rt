@@ -38,7 +38,7 @@ fn has_mark(among: &Grouped<Marked>, mark: Mark) -> bool
     among.has(mark)
 }
 
-/// That a mark is one of these, else this stands there and that is wanted.
+/// That a mark is one of these, else what is reported as found and as wanted.
 #[derive(Drop)]
 struct Among<'a> {
     among: Grouped<'a, Marked>,

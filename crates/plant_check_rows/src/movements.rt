@@ -37,7 +37,7 @@ impl RowRule<BookedRow> for Kinds {
     }
 }
 
-/// The movement, where this stands in a column, or in the row as a whole, and that is wanted.
+/// The fault of the movement: this is in a column, or in the row as a whole, where that is wanted.
 pub(crate) fn movement_as(
     movement: &Movement,
     column: Option<Column>,

@@ -22,7 +22,7 @@ use plant_stock::source;
 use plant_tables_read::DeskRows;
 use std::alloc::{AllocError, Global};
 
-/// The movement, where it isn't the next line behind the one before it.
+/// The movement, where it isn't the line that follows the one before it.
 fn line_fault(before: Option<Movement>, movement: &Movement) -> Option<RowFault>
     ensures { result ≡ line_fault before movement.now }
 {
@@ -35,7 +35,7 @@ fn line_fault(before: Option<Movement>, movement: &Movement) -> Option<RowFault>
     fault_unless(is_next_line(before, movement), fault)
 }
 
-/// The first movement that isn't the next line behind the one before it.
+/// The first movement that isn't the line that follows the one before it.
 fn first_line_fault(movements: &[Movement]) -> Option<RowFault>
     ensures { result ≡ line_fault_in None movements.now }
 {

@@ -17,7 +17,7 @@ use plant_check_stock::recalls::is_timely;
 use plant_tables_read::{DeskRows, StatedRecall};
 use std::alloc::{AllocError, Global};
 
-/// The recall, where this stands in a column and that is wanted.
+/// The fault of the recall: this is in a column, where that is wanted.
 fn recall_as(id: Id, column: Column, found: Found, wanted: Wanted) -> RowFault
     ensures { result ≡ recall_as id column found wanted }
 {

@@ -45,7 +45,7 @@ fn seqs_of(alloc: Global, receipts: &[Receipt]) -> Result<Vec<u64>, AllocError>
     receipts.iter().map(|r| r.seq).collect(alloc)
 }
 
-/// The receipt, where this stands in a column and that is wanted.
+/// The fault of the receipt: this is in a column, where that is wanted.
 fn receipt_as(receipt: &Receipt, column: Column, found: Found, wanted: Wanted) -> RowFault
     ensures { result ≡ receipt_as receipt.now column found wanted }
 {

@@ -36,7 +36,7 @@ fn found_text(bytes: &[u8]) -> Found
     }
 }
 
-/// What stands in a column.
+/// What a column has.
 pub(crate) fn found_in(value: ValueRef<'_>) -> Found
     ensures { result ≡ spec.found_in (owned value.entry) }
 {
@@ -150,7 +150,7 @@ fn key_in(table: Table, row: &Row) -> Option<Key>
     }
 }
 
-/// The key of a stored row of the table, which has this place in the order of the key: the place stands for a key that can't be read.
+/// The key of a stored row of the table, or where it can't be read, its position in the order of the key, which is given.
 pub(crate) fn key_or_place(table: Table, place: u64, row: &Row) -> Key
     ensures { result ≡ spec.key_or_place table place row.now }
 {

@@ -55,7 +55,7 @@ fn fault_of_values(place: (Table, Key), bad: Option<BadValue>) -> RowFault
     }
 }
 
-/// A row of the table, which stands for nothing and has this place in the order of the key.
+/// The fault of a row of the table that can't be decoded and has this position in the order of the key.
 #[tactic(auto, unfolding(crate::specs::Values::unread_fault))]
 fn unread_fault(table: Table, place: u64, row: &Row) -> RowFault
     ensures { result ≡ spec.unread_fault table place row.now }
@@ -64,7 +64,7 @@ fn unread_fault(table: Table, place: u64, row: &Row) -> RowFault
     fault_of_values((table, key), first_bad_value(rules_of(table), row))
 }
 
-/// The first row of the table that stands for nothing.
+/// The first row of the table that can't be decoded.
 fn value_fault<R: Decoded>(table: Table, rows: &[Row]) -> Option<RowFault>
     ensures { result ≡ spec.value_fault table R.row_from rows.now }
 {
@@ -76,7 +76,7 @@ fn value_fault<R: Decoded>(table: Table, rows: &[Row]) -> Option<RowFault>
     None
 }
 
-/// Whether the row stands for a receipt. The only error is that memory was refused.
+/// Whether the row can be decoded as a receipt. The only error is that memory was refused.
 fn is_receipt(alloc: Global, row: &Row) -> Result<bool, AllocError>
     ensures { IfOk result (λ b. b ≡ is_some (receipt_from row.now)) }
 {
@@ -84,7 +84,7 @@ fn is_receipt(alloc: Global, row: &Row) -> Result<bool, AllocError>
     Ok(receipts.is_some())
 }
 
-/// The first row of table receipt that stands for nothing. The only error is that memory was refused.
+/// The first row of table receipt that can't be decoded. The only error is that memory was refused.
 fn receipt_value_fault(alloc: Global, rows: &[Row]) -> Result<Option<RowFault>, AllocError>
     ensures { IfOk result (λ reported. reported ≡ spec.value_fault Table.Receipt receipt_from rows.now) }
 {
@@ -134,9 +134,9 @@ fn recall_value_fault(loaded: &Loaded) -> Option<RowFault>
     or_fault(recall, mark)
 }
 
-/// The first stored row that stands for nothing, since a value of it breaks its rule, of all tables but meta. It is told by its key, or
-/// by its place in the order of the key where that can't be read, and with the first column whose value breaks its rule, where there is
-/// one. The only error is that memory was refused.
+/// The first stored row that can't be decoded, since a value of it breaks its rule, of all tables but meta. It is named by
+/// its key, or by its position in the order of the key where that can't be read, and with the first column whose value
+/// breaks its rule, where there is one. The only error is that memory was refused.
 pub(crate) fn value_fault_in(alloc: Global, loaded: &Loaded) -> Result<Option<RowFault>, AllocError>
     ensures { IfOk result (λ reported. reported ≡ spec.value_fault_in loaded.now) }
 {

@@ -1,4 +1,4 @@
--- Rows that their order tells apart: sets of them, and lists that are compared row by row.
+-- Rows of which only equal ones tie: sets of them, and lists that are compared row by row.
 use Rattle.std.proofs.Common.{◌≡◌, ◌∙◌, ◌≤◌, Bool, true, List, [], ◌∷◌, ◌++◌, length, refl, sym, ap, arith}
 use Rattle.std.specs.BTreeSet.{insert_key}
 use Rattle.std.specs.Cmp.{IsTotalOrder}

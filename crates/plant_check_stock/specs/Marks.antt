@@ -1,4 +1,4 @@
--- Marks that are kept, beside those of the recalls.
+-- Marks that are kept, compared with those of the recalls.
 use Rattle.std.specs.Prelude.{◌≡◌, ◌<◌, ℕ, Bool, List, length, Option, Some, None, Vec}
 use Rattle.std.specs.Global.{Global}
 use Rattle.std.specs.Cmp.Lexicographic.{pointwise}

@@ -11,7 +11,7 @@ abbrev pub is_lifted_between : ℕ → ℕ → Option Lifting → Bool
 is_lifted_between opened at None = true
 is_lifted_between opened at (Some l) = nat_le opened l.at && nat_le l.at at
 
--- the moment is no later than the desk's, and the lifting's stands between
+-- the moment is no later than the desk's, and the lifting's is between
 abbrev pub is_timely : ℕ → Recall → Bool
 is_timely at r = nat_le r.at at && is_lifted_between r.at at r.lifting
 

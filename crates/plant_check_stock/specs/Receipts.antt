@@ -9,7 +9,7 @@ use Rattle.plant_check_stock.specs.Numbering.{is_given}
 abbrev pub is_right_receipt : ℕ → Receipt → Bool
 is_right_receipt greatest r = is_given greatest r.seq && is_content r.content
 
--- no number stands twice
+-- no number occurs twice
 abbrev pub are_distinct : List ℕ → Bool
 are_distinct [] = true
 are_distinct (n ∷ ns) = not (list_any (λ m. n == m) ns) && are_distinct ns

@@ -98,7 +98,7 @@ pub fn lot_at(lots: &Grouped<Lots>, id: Id) -> Option<Lot>
     lots.first(id)
 }
 
-/// Whether a sublot stands at the place, a lot and the number of its part; true where no place is named.
+/// Whether there is a sublot of this lot and number; true where none is named.
 pub fn is_there(sublots: &Grouped<Sublots>, place: Option<(Id, u16)>) -> bool
     ensures { result ≡ is_there sublots.now.rows.now place }
 {
@@ -122,7 +122,7 @@ pub fn has_event(events: &Grouped<EventNumbers>, seq: u64) -> bool
     events.has(seq)
 }
 
-/// The movements that enter the sublot at the place, a lot and the number of its part, in the order of the rows.
+/// The movements that enter the sublot of this lot and number, in the order of the rows.
 pub fn entries<'a>(entered: &'a Grouped<EnteredSublots>, place: (Id, u16)) -> &'a [Movement]
     ensures { result.now ≡ entries entered.now.rows.now place.0 place.1 }
 {

@@ -16,7 +16,7 @@ use std::alloc::{AllocError, Global};
 
 /// Whether the numbers of movements and events are those of accepted commands, `greatest` being the last one; no
 /// number is that of a movement and an event, or of two movements that aren't parts of one merge; the lines of each
-/// number are 1 to n; and what a movement takes has entered its sublot before. The movements stand by number and line.
+/// number are 1 to n; and what a movement takes has entered its sublot before. The movements are in the order of number and line.
 /// The only error is that memory was refused.
 pub fn are_numbers(
     alloc: Global,

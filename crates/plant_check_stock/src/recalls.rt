@@ -29,7 +29,7 @@ fn is_right(at: Moment, lots: &Grouped<Lots>, recall: &Recall) -> bool
     lot_at(lots, recall.lot).is_some() && is_timely(at, recall)
 }
 
-/// Whether the recall is no later than the desk's moment, and its lifting stands between the two.
+/// Whether the recall is no later than the desk's moment, and its lifting is between the two.
 pub fn is_timely(at: Moment, recall: &Recall) -> bool
     ensures { result ≡ is_timely at recall.now }
 {

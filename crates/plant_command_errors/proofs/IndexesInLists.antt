@@ -1,10 +1,10 @@
--- Places in a list, found one after the other.
+-- Positions in a list, found one after the other.
 use Rattle.std.proofs.Common.{◌≡◌, ◌∙◌, ℕ, ◌+◌, ◌-◌, ◌<◌, ◌≤◌, Bool, true, false, List, [], ◌∷◌, length, take, drop, get_or, Option, Some, None, refl, ap, sym, arith}
 use Rattle.std.specs.Prelude.{if◌then◌else◌}
 use Rattle.std.proofs.lemmas.List.{at_drop_more, at_drop_all, length-drop, take_all}
 use Rattle.plant_command_errors.specs.CommandErrors.{index_of, one_more, pair_of, pair_with}
 
--- a place by so many more
+-- a position by so many more
 abbrev pub place_on : ℕ → Option ℕ → Option ℕ
 place_on k None = None
 place_on k (Some n) = Some (k + n)
@@ -41,7 +41,7 @@ pair_next i (Some p) = ap (λ (q : ℕ × ℕ). Some q) (λ j. (left j, right j)
     right : i + (p.1 + 1) ≡ i + 1 + p.1
     right = omega arith
 
--- at the place where an item passes, and behind one that doesn't
+-- at the index of an item that passes, and after one that doesn't
 pub index_met : {A : Type 0} (p : A → Bool) (xs : List A) (i : ℕ) (x : A) → i < length xs → x ≡ get_or xs i x → true ≡ p x → Some i ≡ place_on i (index_of p (drop i xs))
 index_met p xs i x within is passes =
     let here : index_of p (drop i xs) ≡ index_of p (x ∷ drop (i + 1) xs) = at_drop_more (index_of p) xs i x within ∙ ap (λ y. index_of p (y ∷ drop (i + 1) xs)) (sym is) in
@@ -57,7 +57,7 @@ index_passed p xs i x within is fails =
 pub index_none_left : {A : Type 0} (p : A → Bool) (xs : List A) (i : ℕ) → length xs ≤ i → None ≡ place_on i (index_of p (drop i xs))
 index_none_left p xs i le = sym (ap (place_on i) (at_drop_all (index_of p) xs i le))
 
--- the same of pairs, by what is found behind an item
+-- the same of pairs, by what is found after an item
 pub pair_met : {A : Type 0} (again : A → A → Bool) (xs : List A) (i : ℕ) (x : A) (n : ℕ) → i < length xs → x ≡ get_or xs i x → Some n ≡ index_of (again x) (drop (i + 1) xs) → Some (i, i + 1 + n) ≡ pair_on i (pair_of again (drop i xs))
 pair_met again xs i x n within is found =
     let here : pair_of again (drop i xs) ≡ pair_of again (x ∷ drop (i + 1) xs) = at_drop_more (pair_of again) xs i x within ∙ ap (λ y. pair_of again (y ∷ drop (i + 1) xs)) (sym is) in
@@ -75,6 +75,6 @@ pair_passed again xs i x within is none =
 pub pair_none_left : {A : Type 0} (again : A → A → Bool) (xs : List A) (i : ℕ) → length xs ≤ i → None ≡ pair_on i (pair_of again (drop i xs))
 pair_none_left again xs i le = sym (ap (pair_on i) (at_drop_all (pair_of again) xs i le))
 
--- all that stand behind
+-- all that come after
 pub rest_all : {A : Type 0} (xs : List A) (i : ℕ) → take (length xs - i) (drop i xs) ≡ drop i xs
 rest_all xs i = take_all (length xs - i) (drop i xs) (omega (arith, length-drop i xs))

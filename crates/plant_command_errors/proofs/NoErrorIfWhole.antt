@@ -23,7 +23,7 @@ and_split : (a b : Bool) → (a && b) ≡ true → (a ≡ true) × (b ≡ true)
 and_split true b e = (refl, e)
 and_split false b e = absurd (false≢true e)
 
--- ---- places
+-- ---- positions
 
 fewer : (o : Option ℕ) → one_more o ≡ None → o ≡ None
 fewer None e = refl
@@ -52,7 +52,7 @@ not_false : (b : Bool) → not b ≡ true → b ≡ false
 not_false true e = sym e
 not_false false e = refl
 
--- no item repeats another just where a test says so that looks behind each of them
+-- no item repeats another just where a test says so that looks after each of them
 abbrev LooksBehind : {A : Type 0} → (A → A → Bool) → (List A → Bool) → Type 0
 LooksBehind {A} again apart = (x : A) (xs : List A) → apart (x ∷ xs) ≡ (not (list_any (again x) xs) && apart xs)
 

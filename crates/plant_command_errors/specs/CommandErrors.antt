@@ -12,13 +12,13 @@ use Rattle.plant_recipe.specs.WellFormed.{greatest_lines, has_allowed_length, ha
 use Rattle.plant_command_errors.specs.declared.command_errors.CommandError.{CommandError}
 use Rattle.plant_command_errors.specs.declared.command_errors.CommandError.TheVariants as command_error
 
--- ---- places in a list
+-- ---- positions in a list
 
 abbrev pub one_more : Option ℕ → Option ℕ
 one_more None = None
 one_more (Some n) = Some (n + 1)
 
--- how many items stand before the first that passes
+-- how many items come before the first that passes
 abbrev pub index_of : {A : Type 0} → (A → Bool) → List A → Option ℕ
 index_of p [] = None
 index_of p (x ∷ xs) = if p x then Some 0 else one_more (index_of p xs)
@@ -28,7 +28,7 @@ pair_with (Some n) later = Some (0, n + 1)
 pair_with None (Some p) = Some (p.0 + 1, p.1 + 1)
 pair_with None None = None
 
--- an item and the first behind it that repeats it, by how many stand before each
+-- an item and the first after it that repeats it, by how many come before each
 abbrev pub pair_of : {A : Type 0} → (A → A → Bool) → List A → Option (ℕ × ℕ)
 pair_of again [] = None
 pair_of again (x ∷ xs) = pair_with (index_of (again x) xs) (pair_of again xs)

@@ -34,7 +34,7 @@ pub enum CommandError {
     SameLine(usize, usize),
     /// A line of a recipe whose amount, scaled from the base to the greatest size, is above the greatest amount.
     TooMuch(usize),
-    /// A number is out of its range. No line has it, since the members' rules are told before.
+    /// A number is out of its range. No line has it, since faults of the members' rules are reported before.
     Number,
 }
 
@@ -77,9 +77,9 @@ impl fmt::Display for CommandError {
     }
 }
 
-// ---- places in a list
+// ---- positions in a list
 
-/// What stands once in a list.
+/// An item that may occur once in a list.
 trait Once: Copy {
     ghost use Rattle.std.specs.Prelude.{Bool};
 
@@ -107,7 +107,7 @@ impl Once for RecipeLine {
     }
 }
 
-/// How many stand before the first that repeats the item.
+/// How many come before the first that repeats the item.
 fn index_of<T: Once>(item: T, others: &[T]) -> Option<usize>
     ensures place { result ≡ index_of (T.again item) others.now }
     ensures within { IfSome result (λ n. n < length others.now) }
@@ -120,7 +120,7 @@ fn index_of<T: Once>(item: T, others: &[T]) -> Option<usize>
     None
 }
 
-/// An item and the first behind it that repeats it, by how many stand before each.
+/// An item and the first after it that repeats it, by how many come before each.
 fn pair_of<T: Once>(items: &[T]) -> Option<(usize, usize)>
     ensures pair { result ≡ pair_of T.again items.now }
     ensures within { IfSome result (λ p. (p.0 < length items.now) × (p.1 < length items.now)) }
@@ -133,7 +133,7 @@ fn pair_of<T: Once>(items: &[T]) -> Option<(usize, usize)>
     None
 }
 
-/// How many lines stand before the first that doesn't fit.
+/// How many lines come before the first that doesn't fit.
 fn too_much(base: Amount, size: Amount, lines: &[RecipeLine]) -> Option<usize>
     ensures within { IfSome result (λ n. n < length lines.now) }
     ensures place { result ≡ index_of (λ line. not (fits base size line)) lines.now }

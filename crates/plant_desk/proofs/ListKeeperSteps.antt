@@ -22,7 +22,7 @@ use Rattle.plant_messages.specs.declared.reply.DeskFault.{DeskFault}
 use Rattle.plant_messages.specs.declared.reply.DeskFault.TheVariants.{Store, Memory, Shut}
 use Rattle.plant_rules.proofs.StepPreservesInvariant.{step_preserves_invariant}
 
--- a state that is either the one before or the next is sound
+-- a state that is either the one before or the next is consistent
 pub kept : {T E : Type 0} (r : Result T E) (s new : State) (e : Envelope) → DecisionInvariant s → HasValues e → OnOk r (new ≡ step s e) → OnErr r (new ≡ s) → DecisionInvariant new
 kept (Ok x) s new e sound values ok err = subst DecisionInvariant (sym ok) (step_preserves_invariant s sound e values)
 kept (Err x) s new e sound values ok err = subst DecisionInvariant (sym err) sound

@@ -1,4 +1,4 @@
--- The page of a list is that of its front, one row longer than a page.
+-- The page of a list is that of its prefix, one row longer than a page.
 use Rattle.std.proofs.Common.{◌≡◌, ◌∙◌, ◌+◌, ℕ, zero, suc, Bool, true, false, List, [], ◌∷◌, map, filter, take, length, nat_lt, refl, sym, ap, arith}
 use Rattle.std.proofs.lemmas.Bool.{ltb-true, ltb-false, lt-ltb, le-ltb}
 use Rattle.std.proofs.lemmas.List.{length-take}

@@ -7,7 +7,7 @@ use Rattle.plant_rules.specs.Wrong.{wrong, kept_for}
 use Rattle.plant_rules.specs.Step.{step, step_plain}
 use Rattle.plant_desk.specs.Sendings.{Sending, state_after_sending, answered_of, IsPersistent}
 
--- the commands of a list that are accepted at their place
+-- the commands of a list that are accepted when they come
 abbrev pub accepted : State → List Envelope → List Envelope
 accepted s [] = []
 accepted s (e ∷ es) = cond (is_none (wrong s e)) (e ∷ accepted (step s e) es) (accepted (step s e) es)
@@ -25,7 +25,7 @@ abbrev pub once_after : State → List Envelope → List Envelope → List Envel
 once_after s before [] = []
 once_after s before (e ∷ es) = cond (is_known s before e) (once_after s (before ++ e ∷ []) es) (e ∷ once_after s (before ++ e ∷ []) es)
 
--- the list without the commands whose reference is known at their place
+-- the list without the commands whose reference is known when they come
 abbrev pub once : State → List Envelope → List Envelope
 once s es = once_after s [] es
 

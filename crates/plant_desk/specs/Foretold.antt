@@ -10,7 +10,7 @@ use Rattle.plant_messages.specs.declared.reply.Reply.{Reply}
 use Rattle.plant_messages.specs.declared.reply.Reply.TheVariants as answer
 use Rattle.plant_desk.specs.Replies.{reply}
 
--- the refusal that a reply tells; none where the command is accepted
+-- the refusal of a reply; none where the command is accepted
 abbrev pub refusal_told : Reply → Option Refusal
 refusal_told (answer.Accepted n) = None
 refusal_told (answer.Refused r) = Some r

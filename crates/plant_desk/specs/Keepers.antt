@@ -18,21 +18,21 @@ use Rattle.plant_messages.specs.declared.reply.DeskFault.TheVariants.{Store, Mem
 abbrev pub States : Type 1
 States = State → Type 0
 
--- what comes of `execute` at an open keeper that stood at s: the reply, where it stands afterwards, and what a stop leaves
+-- what comes of `execute` at an open keeper that represented s: the reply, what it represents afterwards, and what a stop leaves
 abbrev pub Executes : State → States → (States → Type 0) → Envelope → Result Reply DeskFault → Type 0
 Executes s represents crash_states e (Ok r) = (r ≡ reply s e) × represents (step s e)
 Executes s represents crash_states e (Err Store) = represents s × crash_states (λ u. (u ≡ s) ⊎ (u ≡ step s e))
 Executes s represents crash_states e (Err Memory) = represents s
 Executes s represents crash_states e (Err Shut) = ⊥
 
--- what comes of `check` at an open keeper that stood at s: what would become of the command, and where it stands afterwards
+-- what comes of `check` at an open keeper that represented s: what would become of the command, and what it represents afterwards
 abbrev pub Checks : State → States → Envelope → Result Checked DeskFault → Type 0
 Checks s represents e (Ok c) = (c ≡ checked s e) × represents s
 Checks s represents e (Err Store) = represents s
 Checks s represents e (Err Memory) = represents s
 Checks s represents e (Err Shut) = ⊥
 
--- what comes of `ask` at an open keeper of schema k that stood at s: the answer, and where it stands afterwards
+-- what comes of `ask` at an open keeper of schema k that represented s: the answer, and what it represents afterwards
 abbrev pub Asks : ℕ → State → States → Question → Result Answer DeskFault → Type 0
 Asks k s represents q (Ok a) = (a ≡ answer k s q) × represents s
 Asks k s represents q (Err Store) = represents s
@@ -54,8 +54,8 @@ writes_nothing (Err Store) = false
 writes_nothing (Err Memory) = true
 writes_nothing (Err Shut) = true
 
--- What no call changes of a keeper that ends honest: it was honest before, its tables are of the same schema, and what stood
--- beside its state stands there still.
+-- What no call changes of a keeper that ends honest: it was honest before, its tables are of the same schema, and the
+-- foreign tables are as they were.
 pub record IsSameDesk {K : Type 0} {B : Type 0} (is_honest : K → Type 0) (schema_of : K → ℕ) (has_foreign_tables : K → B → Type 0) (old new : K) : Type 0 where
   pub honest : is_honest new → is_honest old
   pub schema : is_honest new → schema_of new ≡ schema_of old

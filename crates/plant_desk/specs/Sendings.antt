@@ -4,7 +4,7 @@ use Rattle.plant_base.specs.State.{State}
 use Rattle.plant_base.specs.declared.command.Envelope.{Envelope}
 use Rattle.plant_rules.specs.Step.{step}
 
--- how a command that was sent ended: it was answered, or the desk was stopped, before it acted or behind that
+-- how a command that was sent ended: it was answered, or the desk was stopped, before it acted or after that
 pub data Outcome : Type 0 where
   answered : Outcome
   stopped_before : Outcome

@@ -13,7 +13,7 @@ use plant_view::mark_on;
 use std::alloc::{AllocError, Global};
 
 // The marks on a node: those of the open recalls that reach it, in the order of the recalls. One trace back from the
-// node tells of all recalls, and where none is open there is none.
+// node finds them all, and where none is open there is none.
 pub(crate) fn marks_on<E: Edges>(
     alloc: Global,
     edges: &mut E,

@@ -1,4 +1,4 @@
-// Pages of the lists: what comes after a place, by the order in which the rows stand; the movements of a lot; and pages of what lots have.
+// Pages of the lists: what comes after a cursor, by the order of the rows; the movements of a lot; and pages of what lots have.
 ghost use Rattle.std.specs.Prelude.{◌≡◌, ◌+◌, filter, map, take, IfOk};
 ghost use Rattle.plant_view.specs.Tables.{batch_row};
 ghost use Rattle.plant_view.specs.Views.{is_named};
@@ -169,7 +169,7 @@ impl<'a> Worklists for ListsView<'a> {
         Ok(first_page(rows))
     }
 
-    // The stock of each place is counted by all movements: of as many as a page has, and one more.
+    // The stock of each sublot is counted by all movements: of as many as a page has, and one more.
     fn sublots_after(&mut self, cursor: Option<Id>) -> Result<Page<Sublot>, AllocError> {
         let lists = self.lists;
         let places = sublots_beyond(lists.alloc, &lists.places, cursor)?;
@@ -227,7 +227,7 @@ fn batches_in(
         .collect(alloc)
 }
 
-// The orders in a state that come after a place, by their due dates.
+// The orders in a state that come after a cursor, by their due dates.
 fn due_in(
     alloc: Global,
     jobs: &[Job],

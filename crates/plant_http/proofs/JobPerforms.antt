@@ -1,4 +1,4 @@
--- What comes of the keeper's replies, where a stop of an open keeper leaves the state that it stands at.
+-- What comes of the keeper's replies, where a stop of an open keeper leaves the state that it represents.
 use Rattle.std.proofs.Common.{◌≡◌, ℕ, Bool, true, false, Result, Ok, Err, refl, sym, subst, ap, ◌∙◌, inl, inr}
 use Rattle.plant_base.specs.State.{State}
 use Rattle.plant_base.specs.declared.command.Envelope.{Envelope}

@@ -184,7 +184,7 @@ page_out = record { status = st.Success; allow = Unsaid; media_type = media.Html
 
 -- ---- jobs
 
--- what is answered to a job by a keeper of schema k that stands at s
+-- what is answered to a job by a keeper of schema k that represents s
 abbrev pub out_of : ℕ → State → Job → Out
 out_of k s (J.Refuse status allow silent) = error_out status allow
 out_of k s (J.Ask question body_format silent) = answer_out body_format (answer k s question)

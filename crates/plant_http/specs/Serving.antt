@@ -32,13 +32,13 @@ entry_of J.BadForm = nothing
 entry_of (J.BadFile f) = nothing
 entry_of J.MemoryError = nothing
 
--- whether a fault may be answered in place of the job: the keeper is asked, or memory is taken for what a body says
+-- whether a fault may be answered instead of the job: the keeper is asked, or memory is taken for what a body says
 abbrev pub may_fail : Job → Bool
 may_fail (J.Refuse status allow silent) = false
 may_fail (J.Page silent) = false
 may_fail _ = true
 
--- The keeper stood at s. What is answered to the job, where the keeper stands now, and what a stop leaves: the definitions'
+-- The keeper represented s. What is answered to the job, what the keeper represents now, and what a stop leaves: the definitions'
 -- answer and the state after the job, or a fault and what it leaves.
 abbrev pub Performs : ℕ → State → Job → Out → States → Bool → (States → Type 0) → Type 0
 Performs k s job out represents shut crash_states =
@@ -52,12 +52,12 @@ pub record Untouched (s : State) (old new : Option (List ℕ)) (represents : Sta
   pub is_live : shut ≡ false
   pub text : Keeps old new
 
--- The request was answered, wholly or by a front: its job was done, and the text of the answer was written so.
+-- The request was answered, wholly or by a prefix: its job was done, and the text of the answer was written so.
 abbrev pub AnswersBy : Profile → (Out → List ℕ → Type 0) → ℕ → State → List ℕ → States → Bool → (States → Type 0) → Type 0
 AnswersBy profile Wrote k s whole represents shut crash_states =
     (job : Job) × JobOf profile whole (Some job) × (out : Out) × Performs k s job out represents shut crash_states × Wrote out (answer_bytes (is_silent job) out)
 
--- how a server of this profile ended with the request of an input, where the keeper stood at s
+-- how a server of this profile ended with the request of an input, where the keeper represented s
 abbrev pub Serves : Profile → ℕ → State → List ℕ → Option (List ℕ) → Option (List ℕ) → States → Bool → (States → Type 0) → Result Served ServeFault → Type 0
 Serves profile k s whole old new represents shut crash_states (Ok Nothing) = (whole ≡ []) × Untouched s old new represents shut crash_states
 Serves profile k s whole old new represents shut crash_states (Ok (Answered code)) =

@@ -107,7 +107,7 @@ pub(crate) fn csv_answer(fault: CsvFault) -> Answer
     json(Status::BadRequest, Body::Short(csv_text(fault)), false)
 }
 
-/// A command of no form is a bad request; one that the desk's state refuses is a conflict.
+/// A command that isn't well formed is a bad request; one that the desk's state refuses is a conflict.
 fn refused_status(refusal: Refusal) -> Status
     ensures { result ≡ refused_status (number_of refusal) }
 {
@@ -143,7 +143,7 @@ fn answer_status(answer: &DeskAnswer) -> Status
     }
 }
 
-/// The form in which an answer is written: only a batch has a record.
+/// The format in which an answer is written: only a batch has a record.
 fn body_format_for(body_format: BodyFormat, answer: &DeskAnswer) -> BodyFormat
     ensures { result ≡ body_format_for body_format answer.now }
 {
@@ -153,7 +153,7 @@ fn body_format_for(body_format: BodyFormat, answer: &DeskAnswer) -> BodyFormat
     }
 }
 
-/// The text of an answer in a form.
+/// The text of an answer in a format.
 fn text_in(
     alloc: Global,
     body_format: BodyFormat,
@@ -170,7 +170,8 @@ fn text_in(
     }
 }
 
-/// The answer to a question. Its text is made before anything is written; where memory is refused for it, the answer tells that fault.
+/// The answer to a question. Its text is made before anything is written; where memory is refused for it, the answer
+/// reports that fault.
 pub(crate) fn asked_answer(
     alloc: Global,
     body_format: BodyFormat,
@@ -191,7 +192,8 @@ pub(crate) fn asked_answer(
     }
 }
 
-/// The answer to a check. Its text is made before anything is written; where memory is refused for it, the answer tells that fault.
+/// The answer to a check. Its text is made before anything is written; where memory is refused for it, the answer reports
+/// that fault.
 pub(crate) fn check_answer(alloc: Global, answer: &CheckAnswer) -> Answer
     ensures { Is (check_out answer.now) false result ⊎ Is (fault_out DeskFault.Memory) false result }
 {

@@ -16,7 +16,7 @@ pub(crate) enum MediaType {
     Html,
 }
 
-/// The media type of a form in which an answer is written.
+/// The media type of a format in which an answer is written.
 pub(crate) fn media_of(body_format: BodyFormat) -> MediaType
     ensures { result ≡ media_of body_format }
 {

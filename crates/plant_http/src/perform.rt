@@ -26,8 +26,8 @@ fn executed_answer(executed: &Result<Reply, DeskFault>) -> Answer
     }
 }
 
-/// Has a command executed. It is handed no allocator, and a reply's text stands in a room of fixed size: from here to the end of the answer
-/// no memory is taken.
+/// Has a command executed. It is handed no allocator, and a reply's text is in a buffer of fixed size: from here to the
+/// end of the answer no memory is taken.
 fn execute<K: Keeper>(keeper: &mut K, envelope: &Envelope) -> Answer
     ensures same { IsSameDesk K.honest K.schema K.foreign_tables keeper.old keeper.new }
     ensures performs { K.honest keeper.new → K.shut keeper.old ≡ false → (s : State) → K.represents keeper.old s

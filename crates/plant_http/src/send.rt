@@ -11,7 +11,7 @@ use std::io::Write;
 
 /// Writes an answer: its head, and its body where it isn't left out. No memory is taken.
 ///
-/// `WriteError`: a front of the answer was written, perhaps none of it but never all, and nothing else.
+/// `WriteError`: a prefix of the answer was written, perhaps none of it but never all, and nothing else.
 #[tactic(auto, unfolding(crate::specs::Answers::answer_bytes))]
 pub(crate) fn send<W: Write>(writer: &mut W, answer: &Answer) -> Result<(), WriteError>
     ensures ok { OnOk result (Appends (W.contents writer.old) (W.contents writer.new)

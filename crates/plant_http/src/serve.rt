@@ -33,7 +33,8 @@ pub enum ServeFault {
     /// The request has taken its 4,096 reads. Nothing was executed and nothing written.
     #[error("too many reads")]
     Endless,
-    /// A write failed, was interrupted, or took no byte. A front of the answer was written, and not all of it; what was executed stays.
+    /// A write failed, was interrupted, or took no byte. A prefix of the answer was written, and not all of it; what was
+    /// executed stays.
     #[error("the writer takes no more")]
     Write,
     /// Memory was refused for the request's bytes. Nothing was executed and nothing written.
@@ -84,12 +85,13 @@ fn answer_job<W: Write, K: Keeper>(
 ///
 /// What is written depends on the bytes of the input and not on the pieces in which they come, but for `Endless`.
 ///
-/// `Read`, `Endless` and `Memory`: the request wasn't read whole; nothing was executed and nothing written. `Write`: a front
+/// `Read`, `Endless` and `Memory`: the request wasn't read whole; nothing was executed and nothing written. `Write`: a prefix
 /// of the answer was written, and not all of it; what was executed stays.
 ///
-/// In the clauses, `whole` are the bytes of the input: those that the reader has left, where it tells them, and some bytes where it tells none, as a
-/// socket: also then the keeper does the job of one request, once, and nothing else. `s` is a state that the keeper stood at; nothing is said of where the keeper stands, and of what a stop
-/// leaves, if it doesn't end honest. A keeper that is shut stays as it is, and each answer that it would be asked for is its fault 3.
+/// In the clauses, `whole` are the bytes of the input: those that the reader has left, where it knows them, and some bytes where
+/// it knows none, as with a socket: also then the keeper does the job of one request, once, and nothing else. `s` is a state
+/// that the keeper represented; nothing is said of what the keeper represents, and of what a stop leaves, if it doesn't end
+/// honest. A keeper that is shut stays as it is, and each answer that it would be asked for is its fault 3.
 pub fn serve_one<R: Read, W: Write, K: Keeper>(
     alloc: Global,
     routes: &Routes,
@@ -100,7 +102,7 @@ pub fn serve_one<R: Read, W: Write, K: Keeper>(
 ) -> Result<Served, ServeFault>
     ensures same { IsSameDesk K.honest K.schema K.foreign_tables keeper.old keeper.new }
 
-    // How the request ended, where the keeper stands then, and what a stop leaves.
+    // How the request ended, what the keeper represents then, and what a stop leaves.
     ensures serves { (whole : List ℕ) × Agrees (R.remaining reader.old) whole
         × (K.honest keeper.new → K.shut keeper.old ≡ false → (s : State) → K.represents keeper.old s
         → Serves profile.entry (K.schema keeper.old) s whole (W.contents writer.old) (W.contents writer.new)

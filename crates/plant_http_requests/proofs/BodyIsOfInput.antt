@@ -4,7 +4,7 @@ use Rattle.std.specs.Io.KnownBytes.{IsAtEnd}
 use Rattle.std.proofs.lemmas.List.{append-nil}
 use Rattle.plant_http_requests.specs.PieceReading.{Agrees, GoesOn}
 
--- the bytes are there now and those behind them, which are none where the reader is at its end
+-- the bytes are there now and those after them, which are none where the reader is at its end
 pub gone_on : (start left : Option (List ℕ)) (old new : List ℕ) → GoesOn start left old new
     → (rest : List ℕ) × (more : List ℕ) × Agrees start rest × (old ++ rest ≡ new ++ more) × (IsAtEnd left → more ≡ [])
 gone_on None left old new (piece, c, e) = (piece, [], tt, sym e ∙ sym (append-nil new), λ h. refl)

@@ -10,7 +10,7 @@ use Rattle.plant_http_requests.specs.PieceReading.{Agrees, FindsHead}
 use Rattle.plant_http_requests.specs.declared.reading.HeadEnd.{HeadEnd}
 use Rattle.plant_http_requests.specs.declared.reading.HeadEnd.TheVariants.{Found, TooLong, Early, Nothing}
 
--- ---- the search, a place after the other
+-- ---- the search, one index after the other
 
 search_step : (bytes : List ℕ) (i : ℕ) → i < length bytes
     → head_length (drop i bytes) ≡ or_else (blank_length (drop i bytes)) (option_map (λ n. n + 1) (head_length (drop (i + 1) bytes)))
@@ -36,7 +36,7 @@ pub found_nowhere : (bytes : List ℕ) (i : ℕ) → length bytes ≤ i → opti
 unfolding head_length
 found_nowhere bytes i h = rw (drop_all i bytes h) refl
 
--- ---- more bytes change nothing behind the end of a head
+-- ---- more bytes change nothing after the end of a head
 
 length_of_one : (b : ℕ) → head_length (b ∷ []) ≡ None
 unfolding head_length

@@ -83,7 +83,7 @@ behind None left bytes rest c a = tt
 behind (Some whole) None bytes rest c a = absurd c
 behind (Some whole) (Some known) bytes rest c a = ap (λ l. bytes ++ l) a ∙ sym c
 
--- a head was found, with what it and the bytes behind it ask for
+-- a head was found, with what it and the bytes after it ask for
 pub from_head : (profile : Profile) (start left : Option (List ℕ)) (bytes : List ℕ) (n : ℕ) (job : Job) → n ≤ length bytes → Consumes start left bytes
     → FindsHead (end.Found n) bytes left → (rest : List ℕ) × Agrees left rest × HeadAsksFor profile (take n bytes) (drop n (bytes ++ rest)) job
     → (whole : List ℕ) × Agrees start whole × AsksFor profile whole (Some job)

@@ -8,14 +8,14 @@ abbrev pub or_else : Option ℕ → Option ℕ → Option ℕ
 or_else (Some n) other = Some n
 or_else None other = other
 
--- the LF that ends a line and the empty line behind it: LF LF, or LF CR LF
+-- the LF that ends a line and the empty line after it: LF LF, or LF CR LF
 abbrev pub blank_length : List ℕ → Option ℕ
 blank_length bytes =
     if (slice_index bytes 0 == 10) && (slice_index bytes 1 == 10) then Some 2
     else if (slice_index bytes 0 == 10) && (slice_index bytes 1 == 13) && (slice_index bytes 2 == 10) then Some 3
     else None
 
--- the length of the shortest front that ends so
+-- the length of the shortest prefix that ends so
 unfoldable pub head_length : List ℕ → Option ℕ
 head_length [] = None
 head_length (b ∷ bytes) = or_else (blank_length (b ∷ bytes)) (option_map (λ n. n + 1) (head_length bytes))

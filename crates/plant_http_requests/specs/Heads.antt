@@ -15,7 +15,7 @@ abbrev pub Parsed : List ℕ → Option RequestHead → Type 0
 Parsed head (Some h) = ReadsRequest head h [] × (length h.fields ≤ 32)
 Parsed head None = (h : RequestHead) → length h.fields ≤ 32 → ReadsRequest head h [] → ⊥
 
--- the bytes are this head, and its parts stand at these places
+-- the bytes are this head, and its parts are at these positions
 pub record ParsedAt (head : List ℕ) (fields : List HeaderSpan) (r : RequestSpans) (h : RequestHead) : Type 0 where
   pub reads : ReadsRequest head h []
   pub room : length h.fields ≤ 32

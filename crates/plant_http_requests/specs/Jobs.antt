@@ -70,7 +70,7 @@ abbrev pub file_job : ImportMetadata → Result (List OrderRow) CsvFault → Job
 file_job import_metadata (Ok orders) = Command (import import_metadata orders)
 file_job import_metadata (Err fault) = BadFile fault
 
--- what the reader of order files tells as a fault: the file's, or want of memory
+-- what the reader of order files reports as a fault: the file's, or want of memory
 abbrev pub fault_job_of : CsvKind → CsvFault → Job
 fault_job_of csv.Memory fault = MemoryError
 fault_job_of _ fault = BadFile fault
@@ -87,7 +87,7 @@ body_job (content.Orders (Some import_metadata)) body = file_job import_metadata
 
 -- ---- heads
 
--- what a head and the bytes behind it ask for
+-- what a head and the bytes after it ask for
 abbrev pub finish : HeadStep → List ℕ → Job
 finish (S.Refuse status allow silent) rest = Refuse status allow silent
 finish (S.Ask question body_format silent) rest = Ask question body_format silent
@@ -147,7 +147,7 @@ Reads (BadFile fault) job = BadFile fault ≡ job
 abbrev pub LacksBody : Profile → List ℕ → ℕ → Type 0
 LacksBody profile head have = (size : ℕ) × (c : Content) × StepOf profile head (S.Body size c) × (have < size)
 
--- a head and the bytes behind it ask for this, want of memory aside
+-- a head and the bytes after it ask for this, want of memory aside
 abbrev pub HeadAsksFor : Profile → List ℕ → List ℕ → Job → Type 0
 HeadAsksFor profile head rest job = (j : Job) × HeadJob profile head rest j × Reads job j
 

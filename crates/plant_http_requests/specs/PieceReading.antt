@@ -7,7 +7,7 @@ use Rattle.plant_http_requests.specs.HeadEnd.{head_length, longest_head}
 use Rattle.plant_http_requests.specs.declared.reading.HeadEnd.{HeadEnd}
 use Rattle.plant_http_requests.specs.declared.reading.HeadEnd.TheVariants.{Found, TooLong, Early, Nothing}
 
--- a read gave n bytes, which stand at the end now, and none only at the input's end
+-- a read gave n bytes, which are at the end now, and none only at the input's end
 pub record TakesPiece (left left' : Option (List ℕ)) (old new : List ℕ) (n : ℕ) : Type 0 where
   pub piece : List ℕ
   pub consumed : Consumes left left' piece
@@ -15,7 +15,7 @@ pub record TakesPiece (left left' : Option (List ℕ)) (old new : List ℕ) (n :
   pub count : length piece ≡ n
   pub last : n ≡ 0 → (new ≡ old) × IsAtEnd left'
 
--- some bytes were read, and stand at the end now
+-- some bytes were read, and are at the end now
 abbrev pub GoesOn : Option (List ℕ) → Option (List ℕ) → List ℕ → List ℕ → Type 0
 GoesOn left left' old new = (piece : List ℕ) × Consumes left left' piece × (new ≡ old ++ piece)
 

@@ -93,7 +93,7 @@ abbrev pub found_step : Option Target → List ℕ → Option ℕ → Fields →
 found_step None method length fs = fails NotFound (is_head method)
 found_step (Some t) method length fs = target_step t method length fs
 
--- the page stands at / where the profile has it
+-- the web page is at / where the profile has it
 abbrev pub is_page : Profile → List ℕ → Bool
 is_page profile.Open path = false
 is_page (profile.Page hosts) path = bytes_eq path (codes "/")

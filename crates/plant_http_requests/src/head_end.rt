@@ -2,7 +2,7 @@
 ghost use Rattle.std.specs.Prelude.{◌≡◌, ◌≤◌, ◌+◌, length, drop, slice_index, IfSome};
 ghost use Rattle.plant_http_requests.specs.HeadEnd.{blank_length, head_length};
 
-/// The byte at a place, 0 past the end.
+/// The byte at an index, 0 past the end.
 fn byte_at(bytes: &[u8], at: usize) -> u8
     ensures { result ≡ slice_index bytes.now at }
 {
@@ -34,8 +34,8 @@ fn blank_at(bytes: &[u8], at: usize) -> Option<usize>
     blank_length(rest)
 }
 
-/// The length of the head that the bytes begin with: of the shortest front that ends in LF LF or in LF CR LF. `None`
-/// where no front does.
+/// The length of the head that the bytes begin with: of the shortest prefix that ends in LF LF or in LF CR LF. `None`
+/// where no prefix does.
 /// So a line may end with LF alone (RFC 9112, section 2.2).
 pub fn head_length(bytes: &[u8]) -> Option<usize>
     ensures value { result ≡ head_length bytes.now }

@@ -25,11 +25,11 @@ pub enum Job {
         /// Whether the answer's body is left out, since the request is a HEAD.
         silent: bool,
     },
-    /// A question to the desk, and the form of its answer.
+    /// A question to the desk, and the format of its answer.
     Ask {
         /// What the desk is asked.
         question: Question,
-        /// The form of the answer.
+        /// The format of the answer.
         body_format: BodyFormat,
         /// Whether the answer's body is left out, since the request is a HEAD.
         silent: bool,

@@ -10,7 +10,7 @@ use crate::profile::Profile;
 use httparse::spans::HeaderSpan;
 use plant_base::{Text, read_digits};
 
-/// Whether what stands behind the name of a host is nothing, or a port.
+/// Whether what follows the name of a host is nothing, or a port.
 fn is_port(text: &[u8]) -> bool
     ensures { result ≡ is_port text.now }
 {
@@ -60,7 +60,8 @@ fn is_origin_of(scheme: &[u8], host: &[u8], origin: &[u8]) -> bool
     }
 }
 
-/// Whether an origin is that of the desk's own page at this host. A further name may stand behind a server that takes https.
+/// Whether an origin is that of the desk's own page at this host. A further name may be that of a server that takes https
+/// and passes requests on.
 fn is_own_origin(hosts: &[Text], host: &[u8], origin: &[u8]) -> bool
     ensures { result ≡ is_own_origin hosts.now host.now origin.now }
 {

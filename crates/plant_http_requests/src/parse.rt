@@ -23,7 +23,7 @@ pub(crate) fn has_too_many_fields(head: &[u8]) -> bool
     lines.saturating_sub(2).saturating_sub(blank) > MOST_FIELDS
 }
 
-/// Where the parts of the head stand that the bytes are, where they are one whole head of at most 32 fields.
+/// The positions of the parts of the head that the bytes are, where they are one whole head of at most 32 fields.
 pub(crate) fn parse_head(head: &[u8], fields: &mut [HeaderSpan]) -> Option<RequestSpans>
     requires { length fields.old ≡ 32 }
     ensures found { IfSome result (λ r. IsRequestWithin head.now fields.new r

@@ -5,8 +5,8 @@ use plant_base::Text;
 pub enum Profile<'a> {
     /// The routes under `/v1/` alone, to every client, whatever Host and Origin say.
     Open,
-    /// The page at `/` beside the routes, and only to requests that name this machine, or one of these further names, as their Host, and come
-    /// of no other site.
+    /// The web page at `/` in addition to the routes, and only to requests that name this machine, or one of these further
+    /// names, as their Host, and come of no other site.
     Page {
         /// The further names, each without a port.
         hosts: &'a [Text],

@@ -18,7 +18,7 @@ use std::io::Read;
 /// The most reads that a request takes.
 pub const MOST_READS: u32 = 4096;
 
-/// What the first `n` bytes ask for, which are a head, with the body behind them.
+/// What the first `n` bytes ask for, which are a head, with the body after them.
 fn head_job<R: Read>(
     alloc: Global,
     routes: &Routes,

@@ -71,7 +71,7 @@ fn take_piece<R: Read>(
     Ok(n)
 }
 
-/// Reads up to the end of the head, and no piece more. What was read stands in `bytes`, perhaps with bytes behind the
+/// Reads up to the end of the head, and no piece more. `bytes` has what was read, perhaps with bytes after the
 /// head, and is at most [`LONGEST_HEAD`] bytes long. `reads` are the reads that may be made; each is counted off.
 ///
 /// The result depends on the bytes of the input and not on the pieces in which they come. `Read`: a read failed, or
@@ -114,7 +114,7 @@ pub fn read_head<R: Read>(
     }
 }
 
-/// Reads on until `want` bytes are there, and says whether they came before the input ended. No byte behind them is
+/// Reads on until `want` bytes are there, and says whether they came before the input ended. No byte after them is
 /// read.
 ///
 /// `Read`, `Endless` and `Memory` come as from [`read_head`].

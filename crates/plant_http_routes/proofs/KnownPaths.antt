@@ -98,7 +98,7 @@ pub no_number : target_of (codes "/v1/lists/commands/0") ≡ None
 unfolding matchit_on_literals found_in digits_of
 no_number = refl
 
--- the page stands at no route: which profile has it, and who may ask for it, is judged elsewhere
+-- the web page has no route: which profile has it, and who may ask for it, is judged elsewhere
 pub page : target_of (codes "/") ≡ None
 unfolding matchit_on_literals found_in
 page = refl

@@ -30,7 +30,7 @@ use Rattle.plant_http_routes.specs.declared.routes.Target.TheVariants as target
 abbrev pub plain : List ℕ → Route → RouteOf Route
 plain text value = record { pattern = text; text = text; names = []; value = value }
 
--- a route with a parameter between two texts; its name stands in braces in its place
+-- a route with a parameter between two texts; its name is in braces
 abbrev pub with_part : List ℕ → List ℕ → List ℕ → Route → RouteOf Route
 with_part before name after value = record {
   pattern = before ++ param_token ∷ after;
@@ -39,7 +39,7 @@ with_part before name after value = record {
   value = value;
 }
 
--- one with an id in the place of the parameter
+-- one with an id for the parameter
 abbrev pub with_id : List ℕ → List ℕ → List ℕ → Kind → RouteOf Route
 with_id before name after value = with_part before name after (route.Named value)
 
@@ -106,7 +106,7 @@ list_routes rows =
     (whole_routes (codes "/v1/lists/batches") k.Batches
     (routes_of (codes "/v1/lists/orders/") (codes "state") k.Orders rows)))))
 
--- the routes of lists whose places have two values
+-- the routes of lists whose cursors have two values
 abbrev pub cursor_routes : RowsOf (RouteOf Route) → RowsOf (RouteOf Route)
 cursor_routes rows =
     routes_of (codes "/v1/lists/orders_by_due/") (codes "state") k.OrdersByDue
@@ -138,17 +138,17 @@ the_routes =
     (adds (plain (codes "/v1/commands") route.Commands)
     (adds (plain (codes "/v1/desk") route.Desk) [])))))))))))))
 
--- what stands in the place of the first parameter
+-- what the path has for the first parameter
 abbrev pub first_part : List (List ℕ × List ℕ) → Option (List ℕ)
 first_part [] = None
 first_part (p ∷ rest) = Some p.1
 
--- what stands in the place of the second
+-- what the path has for the second
 abbrev pub second_part : List (List ℕ × List ℕ) → Option (List ℕ)
 second_part [] = None
 second_part (p ∷ rest) = first_part rest
 
--- the place that a page goes on from, none where none is given
+-- the cursor that a page goes on from, none where none is given
 abbrev pub cursor_at : Option (List ℕ) → Option (Option (List ℕ))
 cursor_at None = Some None
 cursor_at (Some part) = option_map Some (only is_id part)
@@ -170,12 +170,12 @@ list_named k.Recipes part = None
 list_named k.Movements part = None
 list_named k.Commands part = None
 
--- a page of a list, from a place that is named or from its front
+-- a page of a list, from a cursor that is named or from its beginning
 abbrev pub page_at : Option Worklist → Option (List ℕ) → Option Target
 page_at None cursor = None
 page_at (Some w) cursor = option_map (target.List w) (cursor_at cursor)
 
--- the place in a list of recipes that a page goes on from, none where none is given
+-- the cursor in a list of recipes that a page goes on from, none where none is given
 abbrev pub recipe_cursor_at : Option (List ℕ) → Option (Option RecipeCursor)
 recipe_cursor_at None = Some None
 recipe_cursor_at (Some part) = option_map Some (recipe_cursor part)
@@ -220,7 +220,7 @@ ledger_at lot cursor = option_and_then (λ id. option_map (target.Ledger id) (mo
 abbrev pub commands_at : Option (List ℕ) → Option Target
 commands_at cursor = option_map target.BookedCommands (number_at cursor)
 
--- the page that the parts of a path name: what the list is of, where it is of something, and the place to go on from
+-- the page that the parts of a path name: what the list is of, where it is of something, and the cursor to go on from
 abbrev pub listed_at : ListKind → Option (List ℕ) → Option (List ℕ) → Option Target
 listed_at k.Orders first second = page_at (option_and_then (list_named k.Orders) first) second
 listed_at k.OrdersByDue first second = option_and_then (λ state. due_at state second) first
@@ -241,7 +241,7 @@ listed_at k.Commands first second = commands_at first
 abbrev pub recipe_named : Option (List ℕ) → Option (List ℕ) → Option Target
 recipe_named first second = option_and_then (λ id. option_map (target.Recipe id) (option_and_then (digits_of 3) second)) (option_and_then (only is_id) first)
 
--- what a route makes of the parts of a path in the place of its parameters
+-- what a route makes of the parts of a path for its parameters
 abbrev pub target_with : Route → List (List ℕ × List ℕ) → Option Target
 target_with route.Desk parts = Some target.Desk
 target_with route.Moment parts = Some target.Moment

@@ -1,4 +1,4 @@
-//! The list that a path names, and the place in it to go on from.
+//! The list that a path names, and the cursor in it to go on from.
 ghost use Rattle.std.specs.Prelude.{◌≡◌, option_and_then, option_copied};
 ghost use Rattle.std.specs.Str.{IsAscii};
 ghost use Rattle.matchit.specs.Params.{walk};
@@ -15,7 +15,7 @@ use plant_base::{Amount, Id, read_digits};
 use plant_message_schema::{ListKind, order_state, recipe_state};
 use plant_worklists::{DueCursor, HoldCursor, MovementCursor, RecipeCursor, Worklist};
 
-/// The place that a page goes on from, nothing where none is given.
+/// The cursor that a page goes on from, nothing where none is given.
 fn cursor_at(part: Option<&str>) -> Option<Option<Id>>
     ensures { result ≡ cursor_at (option_copied part.entry) }
 {
@@ -44,14 +44,14 @@ fn list_named(kind: ListKind, part: &str) -> Option<Worklist>
     }
 }
 
-/// A page of a list, from a place that is named or from its front.
+/// A page of a list, from a cursor that is named or from its beginning.
 fn page_at(list: Option<Worklist>, cursor: Option<&str>) -> Option<Target>
     ensures { result ≡ page_at list (option_copied cursor.entry) }
 {
     Some(Target::List(list?, cursor_at(cursor)?))
 }
 
-/// The place in a list of recipes that a page goes on from, nothing where none is given.
+/// The cursor in a list of recipes that a page goes on from, nothing where none is given.
 fn recipe_cursor_at(part: Option<&str>) -> Option<Option<RecipeCursor>>
     ensures { result ≡ recipe_cursor_at (option_copied part.entry) }
 {
@@ -64,7 +64,7 @@ fn recipe_cursor_at(part: Option<&str>) -> Option<Option<RecipeCursor>>
     }
 }
 
-/// The place in a list of orders by their due dates that a page goes on from, nothing where none is given.
+/// The cursor in a list of orders by their due dates that a page goes on from, nothing where none is given.
 fn due_cursor_at(part: Option<&str>) -> Option<Option<DueCursor>>
     ensures { result ≡ due_cursor_at (option_copied part.entry) }
 {
@@ -77,7 +77,7 @@ fn due_cursor_at(part: Option<&str>) -> Option<Option<DueCursor>>
     }
 }
 
-/// The place in the list of the holds of all lots that a page goes on from, nothing where none is given.
+/// The cursor in the list of the holds of all lots that a page goes on from, nothing where none is given.
 fn hold_cursor_at(part: Option<&str>) -> Option<Option<HoldCursor>>
     ensures { result ≡ hold_cursor_at (option_copied part.entry) }
 {
@@ -90,7 +90,7 @@ fn hold_cursor_at(part: Option<&str>) -> Option<Option<HoldCursor>>
     }
 }
 
-/// The place in a ledger that a page goes on from, nothing where none is given.
+/// The cursor in a ledger that a page goes on from, nothing where none is given.
 fn movement_cursor_at(part: Option<&str>) -> Option<Option<MovementCursor>>
     ensures { result ≡ movement_cursor_at (option_copied part.entry) }
 {
@@ -124,7 +124,7 @@ fn number_at(part: Option<&str>) -> Option<Option<u64>>
     }
 }
 
-/// A page of the orders in a state that is named by their due dates, from a place that is named or from the front.
+/// A page of the orders in a state that is named by their due dates, from a cursor that is named or from the beginning.
 fn due_at(state: &str, cursor: Option<&str>) -> Option<Target>
     ensures { result ≡ due_at state.now (option_copied cursor.entry) }
 {
@@ -132,7 +132,7 @@ fn due_at(state: &str, cursor: Option<&str>) -> Option<Target>
     Some(Target::OrdersByDue(state, due_cursor_at(cursor)?))
 }
 
-/// A page of the recipes in a state that is named, from a place that is named or from the front.
+/// A page of the recipes in a state that is named, from a cursor that is named or from the beginning.
 fn recipes_at(state: &str, cursor: Option<&str>) -> Option<Target>
     ensures { result ≡ recipes_at state.now (option_copied cursor.entry) }
 {
@@ -140,14 +140,14 @@ fn recipes_at(state: &str, cursor: Option<&str>) -> Option<Target>
     Some(Target::Recipes(state, recipe_cursor_at(cursor)?))
 }
 
-/// A page of the holds of all lots, from a place that is named or from the front.
+/// A page of the holds of all lots, from a cursor that is named or from the beginning.
 fn holds_at(cursor: Option<&str>) -> Option<Target>
     ensures { result ≡ holds_at (option_copied cursor.entry) }
 {
     Some(Target::AllHolds(hold_cursor_at(cursor)?))
 }
 
-/// A page of the ledger of a lot that is named, from a place that is named or from its front.
+/// A page of the ledger of a lot that is named, from a cursor that is named or from its beginning.
 fn ledger_at(lot: &str, cursor: Option<&str>) -> Option<Target>
     ensures { result ≡ ledger_at lot.now (option_copied cursor.entry) }
 {
@@ -155,14 +155,14 @@ fn ledger_at(lot: &str, cursor: Option<&str>) -> Option<Target>
     Some(Target::Ledger(lot, movement_cursor_at(cursor)?))
 }
 
-/// A page of the commands that had references, from a number that is named or from the front.
+/// A page of the commands that had references, from a number that is named or from the beginning.
 fn commands_at(cursor: Option<&str>) -> Option<Target>
     ensures { result ≡ commands_at (option_copied cursor.entry) }
 {
     Some(Target::BookedCommands(number_at(cursor)?))
 }
 
-/// The page that the parts of a path name, in the place of the route's parameters.
+/// The page that the parts of a path name, for the route's parameters.
 fn listed_at(kind: ListKind, first: Option<&str>, second: Option<&str>) -> Option<Target>
     ensures { result ≡ listed_at kind (option_copied first.entry) (option_copied second.entry) }
 {

@@ -49,7 +49,7 @@ pub(crate) fn read_id(bytes: &[u8]) -> Option<Id>
     Id::read(bytes)
 }
 
-/// The id that stands in a path, in the place of the route's parameter.
+/// The id that a path has for the route's parameter.
 pub(crate) fn id_in(params: &Params<'_, '_>) -> Option<Id>
     requires { IsAscii params.now.path.now }
     ensures { result ≡ option_and_then (only is_id) (first_part (walk params.now.pattern.now
@@ -62,7 +62,7 @@ pub(crate) fn id_in(params: &Params<'_, '_>) -> Option<Id>
     }
 }
 
-/// What stands in a path in the place of the route's first parameter.
+/// What a path has for the route's first parameter.
 pub(crate) fn first_in<'v>(params: &Params<'_, 'v>) -> Option<&'v str>
     requires { IsAscii params.now.path.now }
     ensures { option_copied result ≡ first_part (walk params.now.pattern.now
@@ -75,7 +75,7 @@ pub(crate) fn first_in<'v>(params: &Params<'_, 'v>) -> Option<&'v str>
     }
 }
 
-/// What stands in a path in the place of the route's second parameter.
+/// What a path has for the route's second parameter.
 pub(crate) fn second_in<'v>(params: &Params<'_, 'v>) -> Option<&'v str>
     requires { IsAscii params.now.path.now }
     ensures { option_copied result ≡ second_part (walk params.now.pattern.now

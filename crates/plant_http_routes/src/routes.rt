@@ -35,9 +35,9 @@ pub enum Kind {
     BatchForward,
     /// `/v1/batches/{batch}/record`: the batch record.
     Record,
-    /// `/v1/lots/{lot}/stands`: where the goods of the lot stand.
+    /// `/v1/lots/{lot}/stands`: where the goods of the lot are.
     LotStands,
-    /// `/v1/batches/{batch}/stands`: where the goods of the batch stand.
+    /// `/v1/batches/{batch}/stands`: where the goods of the batch are.
     BatchStands,
     /// `/v1/lots/{lot}/back_edges`: the genealogy back from the lot.
     LotBackEdges,
@@ -71,7 +71,7 @@ pub enum Route {
 /// What a path asks for.
 #[derive(Clone, Copy, Debug, PartialEq, Eq)]
 pub enum Target {
-    /// `/v1/desk`: where the desk stands.
+    /// `/v1/desk`: how many commands the desk accepted, and the moment of the last.
     Desk,
     /// `/v1/moment`: when the last accepted command was given.
     Moment,
@@ -83,20 +83,24 @@ pub enum Target {
     Orders,
     /// The thing of this id.
     Named(Kind, Id),
-    /// A page of a list: of what comes after this id, or of its front where none is given. The path is `/v1/lists/`, the word of the question
-    /// for the list, what it is of where it is of something, and the id where one is given, each behind a `/`.
+    /// A page of a list: of what comes after this id, or of its beginning where none is given. The path is `/v1/lists/`,
+    /// the word of the question for the list, what it is of where it is of something, and the id where one is given, each
+    /// after a `/`.
     List(Worklist, Option<Id>),
-    /// A page of the versions of recipes in a state, `/v1/lists/recipes/{state}`, and behind it `/` and a place where one is given.
+    /// A page of the versions of recipes in a state, `/v1/lists/recipes/{state}`, and after it `/` and a cursor where one
+    /// is given.
     Recipes(RecipeState, Option<RecipeCursor>),
-    /// A page of the orders in a state by their due dates, `/v1/lists/orders_by_due/{state}`, and behind it `/` and a place where one is given.
+    /// A page of the orders in a state by their due dates, `/v1/lists/orders_by_due/{state}`, and after it `/` and a cursor where
+    /// one is given.
     OrdersByDue(JobState, Option<DueCursor>),
-    /// A page of the holds of all lots, `/v1/lists/all_holds`, and behind it `/` and a place where one is given.
+    /// A page of the holds of all lots, `/v1/lists/all_holds`, and after it `/` and a cursor where one is given.
     AllHolds(Option<HoldCursor>),
-    /// A page of the commands that had references, `/v1/lists/commands`, and behind it `/` and the number of a command, 1 to 16 digits, where one is given.
+    /// A page of the commands that had references, `/v1/lists/commands`, and after it `/` and the number of a command, 1 to 16
+    /// digits, where one is given.
     BookedCommands(Option<u64>),
     /// The recipe of this id and version, `/v1/recipes/{recipe}/{version}`: the version is 1 to 3 digits.
     Recipe(Id, u16),
-    /// A page of the ledger of a lot, `/v1/lists/movements/{lot}`, and behind it `/` and a place where one is given.
+    /// A page of the ledger of a lot, `/v1/lists/movements/{lot}`, and after it `/` and a cursor where one is given.
     Ledger(Id, Option<MovementCursor>),
 }
 
@@ -200,7 +204,7 @@ fn add_lists(router: &mut Router<Route>) -> Result<(), InsertError>
     Ok(())
 }
 
-/// Adds the routes of lists whose places have two values.
+/// Adds the routes of lists whose cursors have two values.
 fn add_cursor_routes(router: &mut Router<Route>) -> Result<(), InsertError>
     ensures { OnOk result (router.new ≡ cursor_routes router.old) }
 {
@@ -285,7 +289,7 @@ impl Routes {
         }
     }
 
-    /// What a path asks for. `None` where no route has this form, and where what stands in the place of an id isn't
+    /// What a path asks for. `None` where no route fits, and where what the path has for an id isn't
     /// one.
     #[tactic(auto, unfolding(crate::specs::Routes::found_in))]
     pub fn find(&self, path: &[u8]) -> Option<Target>

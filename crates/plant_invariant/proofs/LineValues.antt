@@ -1,4 +1,4 @@
--- The values of the lines of recipes and of control recipes in a sound state, and so of all its rows.
+-- The values of the lines of recipes and of control recipes in a consistent state, and so of all its rows.
 use Rattle.std.proofs.Common.{◌≡◌, ◌∙◌, ℕ, ◌≤◌, Bool, true, List, Option, Some, None, is_some, refl, sym, ap}
 use Rattle.std.specs.Prelude.{◌&&◌, ◌==◌}
 use Rattle.std.specs.List.{AllByRecursion}

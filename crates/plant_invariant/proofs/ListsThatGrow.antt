@@ -18,7 +18,7 @@ pub all_middle : {X : Type 0} (P : X → Type 0) (xs new ys : List X) → AllByR
 all_middle P [] new ys a b = all_append P new ys b a
 all_middle P (x ∷ xs) new ys a b = (a.0, all_middle P xs new ys a.1 b)
 
--- rows that go in behind others
+-- rows that go in after others
 pub all_end : {X : Type 0} (P : X → Type 0) (xs ys new : List X) → AllByRecursion P (xs ++ ys) → AllByRecursion P new → AllByRecursion P (xs ++ (ys ++ new))
 all_end P [] ys new a b = all_append P ys new a b
 all_end P (x ∷ xs) ys new a b = (a.0, all_end P xs ys new a.1 b)
@@ -54,13 +54,13 @@ filter_added test xs new a b = filter-append test xs new ∙ ap (λ ys. ys ++ fi
 -- ---- order
 
 module _ {X : Type 0} (order : X → X → Ordering) where
-  -- ascending rows behind lower ones
+  -- ascending rows after lower ones
   pub sorted_append : (xs ys : List X) → IsStrictlySortedBy order xs → IsStrictlySortedBy order ys → AllByRecursion (λ x. AllByRecursion (λ y. order x y ≡ Less) ys) xs → IsStrictlySortedBy order (xs ++ ys)
   unfolding IsStrictlySortedBy
   sorted_append [] ys a b below = b
   sorted_append (x ∷ xs) ys a b below = (all_append (λ y. order x y ≡ Less) xs ys a.0 below.0, sorted_append xs ys a.1 b below.1)
 
-  -- one row behind lower ones
+  -- one row after lower ones
   pub sorted_push : (xs : List X) (y : X) → IsStrictlySortedBy order xs → AllByRecursion (λ x. order x y ≡ Less) xs → IsStrictlySortedBy order (xs ++ y ∷ [])
   unfolding IsStrictlySortedBy
   sorted_push [] y a below = (tt, tt)

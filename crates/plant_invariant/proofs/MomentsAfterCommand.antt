@@ -26,7 +26,7 @@ IsNext seq at a = (a.seq ≡ seq + 1) × (a.at ≡ at)
 
 module _ (seq at now : ℕ) (on : at ≤ now) (old new all : List Position) (both : (P : Position → Type 0) → AllByRecursion P old → AllByRecursion P new → AllByRecursion P all)
     (past : AllByRecursion (IsPast seq at) old) (next : AllByRecursion (IsNext seq now) new) where
-  -- the new marks are behind the old ones
+  -- the new marks are after the old ones
   rising_on : AllByRecursion (λ a. AllByRecursion (IsNoLater a) old) old → AllByRecursion (λ a. AllByRecursion (IsNoLater a) all) all
   rising_on rises = both (λ a. AllByRecursion (IsNoLater a) all)
       (all_two _ _ (λ (a : Position). AllByRecursion (IsNoLater a) all) (λ (a : Position) r p. both (IsNoLater a) r (all_weaker _ (IsNoLater a) (λ (b : Position) n less. omega (arith, p.1, n.1, on)) new next)) old rises past)

@@ -1,4 +1,4 @@
--- Recalls stay good.
+-- Recalls stay valid.
 use Rattle.std.proofs.Common.{◌≡◌, ◌∙◌, ◌≤◌, ℕ, false, List, Option, Some, None, find, is_some, refl, ap, arith}
 use Rattle.plant_base.specs.RowValues.{HasLiftingValues}
 use Rattle.plant_base.specs.State.{State, same, put, lot_order, recall_order, lot_at}
@@ -26,7 +26,7 @@ recalls_later lots at now on rs valid = all_weaker (IsValidRecall at lots) (IsVa
   lifting = lifted_later r.at at now on r.lifting g.lifting;
 }) rs valid
 
--- beside a new lot
+-- with a new lot
 pub recalls_with_lot : (s : State) → DecisionInvariant s → (r : Lot) → is_some (lot_at s r.id) ≡ false → (at : ℕ) (rs : List Recall) → AreValidRecalls at s.lots rs → AreValidRecalls at (put lot_order r s.lots) rs
 recalls_with_lot s sound r none at rs valid = all_weaker (IsValidRecall at s.lots) (IsValidRecall at (put lot_order r s.lots)) (λ q g. record {
   values = g.values;

@@ -1,4 +1,4 @@
--- Every command leaves a good state good, and the opening state is good.
+-- Every command leaves a valid state valid, and the opening state is valid.
 use Rattle.std.proofs.Common.{◌≡◌, ◌∙◌, ℕ, ◌≤◌, refl, sym, ap, subst, is_some, is_none, true, List, [], ◌∷◌, Option, Some, None, arith, nat_lt, length}
 use Rattle.std.specs.Prelude.{not, ◌+◌, ◌&&◌, filter, IfSome}
 use Rattle.std.specs.List.{AllByRecursion}

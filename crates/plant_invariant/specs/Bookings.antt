@@ -42,7 +42,7 @@ abbrev pub IsEnteredBefore : List Movement → ℕ → Option (List ℕ × ℕ) 
 IsEnteredBefore ms seq None = ⊤
 IsEnteredBefore ms seq (Some sublot) = AllByRecursion (λ m. is_sublot_key (goes_to m.kind m.lot m.sub) sublot.0 sublot.1 ≡ true → m.seq < seq) ms
 
--- movements and events stand in the order of their numbers, which were all given; no number is that of a movement and
+-- movements and events are in the order of their numbers, which were all given; no number is that of a movement and
 -- of an event; the movements of each number are a booking; and a sublot is entered before anything is taken from it
 pub record IsNumbered (seq : ℕ) (ms : List Movement) (es : List BatchEvent) : Type 0 where
   pub movements : IsStrictlySortedBy movement_order ms

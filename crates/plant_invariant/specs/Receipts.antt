@@ -31,7 +31,7 @@ pub record AreValidReceipts (seq : ℕ) (rs : List Receipt) : Type 0 where
 abbrev pub OpeningHasNone : Type 0
 OpeningHasNone = AreValidReceipts 0 []
 
--- a command without a reference leaves them good
+-- a command without a reference leaves them valid
 abbrev pub StayValid : Type 0
 StayValid = (seq : ℕ) (rs : List Receipt) → AreValidReceipts seq rs → AreValidReceipts (seq + 1) rs
 

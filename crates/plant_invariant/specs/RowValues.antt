@@ -53,7 +53,7 @@ pub record HasMovementValues (m : Movement) : Type 0 where
   pub by : is_text m.by ≡ true
   pub note : is_text m.note ≡ true
 
--- the values of the rows; a sound state tells those of recipes, orders and batches
+-- the values of the rows; the decision invariant has those of recipes, orders and batches
 pub record HasRowValues (s : State) : Type 0 where
   pub seq : s.seq ≤ greatest_seq
   pub at : is_moment s.at ≡ true

@@ -1,4 +1,4 @@
--- The states that commands lead to, with all that their rows tell.
+-- The states that commands lead to, with all that holds of their rows.
 use Rattle.plant_base.specs.State.{State, opening, newest_schema}
 use Rattle.plant_base.specs.WellFormedCommands.{HasValues}
 use Rattle.plant_base.specs.declared.command.Envelope.{Envelope}
@@ -26,7 +26,7 @@ pub record StateInvariant (s : State) : Type 0 where
 
 -- ---- laws
 
--- the desk opens good
+-- the opening state is valid
 abbrev pub OpeningHasInvariant : Type 0
 OpeningHasInvariant = StateInvariant opening
 
@@ -34,6 +34,6 @@ OpeningHasInvariant = StateInvariant opening
 abbrev pub StepPreservesInvariant : Type 0
 StepPreservesInvariant = (s : State) → StateInvariant s → (e : Envelope) → HasValues e → StateInvariant (step s e)
 
--- the tables of a good state keep the rules of their columns
+-- the tables of a valid state keep the rules of their columns
 abbrev pub InvariantImpliesColumns : Type 0
 InvariantImpliesColumns = (s : State) → StateInvariant s → HasColumns (tables_of newest_schema s)

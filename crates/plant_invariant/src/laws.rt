@@ -4,9 +4,9 @@ ghost use Rattle.plant_invariant.specs.StateInvariant.{OpeningHasInvariant, Step
 
 /// What the opening state and each state after a command has, as laws about them; the function itself does nothing.
 ///
-/// `opening`: the opening state is good.
-/// `step`: from a good state each command, accepted or refused, leads to a good one.
-/// `columns`: in the tables of a good state a batch's attempt is 1 to 99 and its next phase 1 to 128, a sublot's stock is
+/// `opening`: the opening state is valid.
+/// `step`: from a valid state each command, accepted or refused, leads to a valid one.
+/// `columns`: in the tables of a valid state a batch's attempt is 1 to 99 and its next phase 1 to 128, a sublot's stock is
 /// at most the greatest amount, and what was received or produced came into sublot 0.
 pub fn invariant_law()
     ensures opening { OpeningHasInvariant }

@@ -45,7 +45,7 @@ below_next {X} order (x ∷ xs) y zs sorted = (at_next xs sorted.0, below_next o
     at_next [] a = a.0
     at_next (u ∷ us) a = at_next us a.1
 
--- changes add movements behind those that are there
+-- changes add movements after those that are there
 movements_behind : (rows : List RowChange) (t : Tables) → (more : List Movement) × ((changed_all rows t).movements ≡ t.movements ++ more)
 movements_behind [] t = ([], sym (append-nil t.movements))
 movements_behind (change.Movement r ∷ rows) t = let rest = movements_behind rows (changed (change.Movement r) t) in (r ∷ rest.0, rest.1 ∙ append_assoc t.movements (r ∷ []) rest.0)
@@ -135,9 +135,9 @@ fresh_rows (change.Batch r ∷ rows) t movements events batches one =
     (fresh_batch r rows t none batches, fresh_rows rows (changed (change.Batch r) t) movements events batches (omega (arith, none)))
 fresh_rows (c ∷ rows) t movements events batches one = (tt, fresh_rows rows (changed c t) movements events batches one)
 
--- ---- good states
+-- ---- valid states
 
--- the batches of a sound state are of different orders
+-- the batches of a consistent state are of different orders
 own_jobs : (s : State) → DecisionInvariant s → HaveOwnJobs (tables_of newest_schema s).batches
 own_jobs s sound =
     let row = batch_row s.control_lines s.events in

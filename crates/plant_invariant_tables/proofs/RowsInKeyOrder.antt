@@ -1,4 +1,4 @@
--- The tables of a good state stand in the order of their keys.
+-- The rows of the tables of a valid state are in the order of their keys.
 use Rattle.std.proofs.Common.{ℕ, Bool, true, false, List, [], nat_le}
 use Rattle.std.specs.Prelude.{if◌then◌else◌}
 use Rattle.std.specs.List.Sorted.{IsStrictlySortedBy}

@@ -1,4 +1,4 @@
--- The values of a good state's tables, and the order of their rows.
+-- The values of a valid state's tables, and the order of their rows.
 use Rattle.std.proofs.Common.{◌≡◌, ◌∙◌, ℕ, ◌+◌, ◌≤◌, true, List, [], ◌∷◌, ◌++◌, Option, Some, None, is_some, map, length, refl, sym, ap, subst, arith}
 use Rattle.std.specs.Prelude.{Bool, false, if◌then◌else◌, option_map, IfSome, ◌&&◌, ◌==◌, ◌^◌, nat_le}
 use Rattle.std.specs.List.{AllByRecursion, filter_map, cons_option, flat_map}

@@ -1,4 +1,4 @@
--- What the tables of good states tell of the rows that commands change: no row that is added has the key of another.
+-- What holds in valid states of the rows of tables that commands change: no row that is added has the key of another.
 use Rattle.std.specs.Prelude.{◌≡◌, ℕ, true, List}
 use Rattle.plant_base.specs.State.{State, newest_schema}
 use Rattle.plant_base.specs.WellFormedCommands.{HasValues}
@@ -12,7 +12,7 @@ use Rattle.plant_tables.specs.Keyed.{AreKeyed, AreFresh}
 
 -- ---- laws
 
--- in each schema, the rows of a good state's tables stand in the order of their keys
+-- in each schema, the rows of a valid state's tables are in the order of their keys
 abbrev pub InvariantImpliesKeys : Type 0
 InvariantImpliesKeys = (schema : ℕ) (s : State) → StateInvariant s → AreKeyed (tables_of schema s)
 

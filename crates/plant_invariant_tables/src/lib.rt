@@ -1,4 +1,4 @@
-//! What good states tell of the rows that commands change in the tables: no row that is added has the key of another.
+//! What holds in valid states of the rows that commands change in the tables: no row that is added has the key of another.
 #![tactic(auto)]
 
 mod laws;

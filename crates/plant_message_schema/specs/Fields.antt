@@ -84,7 +84,7 @@ abbrev pub first_other : List Member → List Member → Members → Option (Lis
 first_other some more no_members = None
 first_other some more (member name d ms) = if is_listed some name || is_listed more name then first_other some more ms else Some name
 
--- a name that doesn't belong there is told where it is a text
+-- a name that doesn't belong there is reported where it is a text
 abbrev pub other_where : Option (List ℕ) → Result Unit ShapeError
 other_where None = Ok tt
 other_where (Some name) = Err (shape_error.Other (only is_text name))

@@ -6,7 +6,7 @@ use Rattle.plant_message_schema.specs.declared.members.Member.TheVariants as m
 use Rattle.plant_message_schema.specs.declared.members.Rule.{Rule}
 use Rattle.plant_message_schema.specs.declared.members.Rule.TheVariants as rule
 
--- the name under which a member stands, and the rule of its value
+-- the name of a member, and the rule of its value
 abbrev pub entry_of : Member → List ℕ × Rule
 entry_of m.At = (codes "at", rule.Moment)
 entry_of m.By = (codes "by", rule.Text)

@@ -1,4 +1,4 @@
--- Which members commands, checks, questions for lists and the rows of lists have, in the order in which problems are told.
+-- Which members commands, checks, questions for lists and the rows of lists have, in the order in which problems are reported.
 use Rattle.std.specs.Prelude.{ℕ, List, [], ◌∷◌}
 use Rattle.plant_message_schema.specs.declared.members.Member.{Member}
 use Rattle.plant_message_schema.specs.declared.members.Member.TheVariants as m
@@ -43,7 +43,7 @@ own_of c.CloseBatch = m.Batch ∷ []
 own_of c.Consume = m.Batch ∷ m.Lot ∷ m.Sub ∷ m.Amount ∷ []
 own_of c.Produce = m.Batch ∷ m.Lot ∷ m.Definition ∷ m.Amount ∷ m.Place ∷ []
 
--- the members of a question for a page of a list: its word, what the list is of, and the place to go on from
+-- the members of a question for a page of a list: its word, what the list is of, and the cursor to go on from
 abbrev pub list_members : ListKind → List Member
 list_members list.Orders = m.Ask ∷ m.State ∷ m.Above ∷ []
 list_members list.OrdersByDue = m.Ask ∷ m.State ∷ m.AfterDue ∷ []

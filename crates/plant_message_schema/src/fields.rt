@@ -44,19 +44,19 @@ pub enum Field {
     OrderState(JobState),
     /// The state of a recipe.
     RecipeState(RecipeState),
-    /// A place in a list of recipes.
+    /// A cursor in a list of recipes.
     RecipeCursor(RecipeCursor),
-    /// A place in a list of orders by their due dates.
+    /// A cursor in a list of orders by their due dates.
     DueCursor(DueCursor),
-    /// A place in the list of the holds of all lots.
+    /// A cursor in the list of the holds of all lots.
     HoldCursor(HoldCursor),
-    /// A place in a ledger.
+    /// A cursor in a ledger.
     MovementCursor(MovementCursor),
     /// A word that chose the object's shape.
     Chosen,
-    /// A list is there, whose rows are read behind the other members.
+    /// A list is there, whose rows are read after the other members.
     List,
-    /// An object is there, whose members are read behind the other members.
+    /// An object is there, whose members are read after the other members.
     Object,
     /// Nothing is there.
     Absent,

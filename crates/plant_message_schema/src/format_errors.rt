@@ -17,9 +17,9 @@ pub enum ShapeError {
     Missing(Member),
     /// The value of the member breaks its rule.
     Breaks(Member),
-    /// It has a member of another name, which is told where it is a text.
+    /// It has a member of another name, which is named where it is a text.
     Other(Option<Text>),
-    /// It has none of the flaws above, and yet no form. It is never told.
+    /// It has none of the flaws above, and yet isn't well formed. It is never reported.
     Malformed,
 }
 

@@ -1,5 +1,5 @@
 //! The shapes of what a line of JSON (RFC 8259) may say, as data: which members an object of each kind has, what each of them may be, and
-//! one reading that gives their values or tells the first problem.
+//! one reading that gives their values or reports the first problem.
 #![tactic(auto)]
 
 mod fields;

@@ -33,13 +33,13 @@ pub enum Rule {
     OrderState,
     /// The state of a recipe.
     RecipeState,
-    /// A place in a list of recipes.
+    /// A cursor in a list of recipes.
     RecipeCursor,
-    /// A place in a list of orders by their due dates.
+    /// A cursor in a list of orders by their due dates.
     DueCursor,
-    /// A place in the list of the holds of all lots.
+    /// A cursor in the list of the holds of all lots.
     HoldCursor,
-    /// A place in a ledger.
+    /// A cursor in a ledger.
     MovementCursor,
     /// The word of a command.
     Command,
@@ -157,7 +157,7 @@ pub enum Member {
     Order,
     /// A batch.
     Batch,
-    /// What a batch is told to do.
+    /// The word of a batch command.
     Word,
     /// The number of a phase.
     Phase,
@@ -187,13 +187,13 @@ pub enum Member {
     Above,
     /// The state of the recipes of a list.
     RecipeState,
-    /// The place that the recipes of a page come after, which may be left out.
+    /// The cursor that the recipes of a page come after, which may be left out.
     AfterRecipe,
-    /// The place that the orders of a page by their due dates come after, which may be left out.
+    /// The cursor that the orders of a page by their due dates come after, which may be left out.
     AfterDue,
-    /// The place that the holds of a page of all lots come after, which may be left out.
+    /// The cursor that the holds of a page of all lots come after, which may be left out.
     AfterHold,
-    /// The place that the movements of a page come after, which may be left out.
+    /// The cursor that the movements of a page come after, which may be left out.
     AfterMovement,
     /// The number that the commands of a page come after, which may be left out.
     AfterNumber,
@@ -202,7 +202,7 @@ pub enum Member {
 }
 
 impl Member {
-    /// The name under which it stands, and the rule of its value.
+    /// Its name, and the rule of its value.
     fn entry(self) -> (&'static str, Rule)
         ensures name { result.0.now ≡ name_of self }
         ensures rule { result.1 ≡ rule_of self }
@@ -261,7 +261,7 @@ impl Member {
         }
     }
 
-    /// The name under which it stands.
+    /// Its name.
     pub fn name(self) -> &'static str
         ensures { result.now ≡ name_of self }
     {

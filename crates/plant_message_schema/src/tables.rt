@@ -1,4 +1,4 @@
-//! Which members commands, checks, questions for lists and the rows of lists have, in the order in which problems are told.
+//! Which members commands, checks, questions for lists and the rows of lists have, in the order in which problems are reported.
 ghost use Rattle.std.specs.Prelude.{◌≡◌, ◌≤◌, length};
 ghost use Rattle.plant_message_schema.specs.Tables.{shared_members, own_of, list_members, check_members, row_own, most_members};
 
@@ -53,7 +53,7 @@ pub fn own_of(kind: CommandKind) -> &'static [Member]
     }
 }
 
-/// The members of a question for a page of a list: its word, what the list is of, and the place to go on from.
+/// The members of a question for a page of a list: its word, what the list is of, and the cursor to go on from.
 pub fn list_members(kind: ListKind) -> &'static [Member]
     ensures members { result.now ≡ list_members kind }
     ensures few { length result.now ≤ most_members }

@@ -1,4 +1,4 @@
-//! What a desk is asked and told, and what it answers: questions, answers, replies and faults.
+//! The questions of a desk, and its answers, replies and faults.
 #![tactic(auto)]
 
 mod booked;

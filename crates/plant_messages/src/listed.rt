@@ -75,8 +75,8 @@ pub struct OpenBatch {
 pub struct LotPage {
     /// The lots of the page that have stock.
     pub lots: Items<StandingLot>,
-    /// The last lot of the page, with stock or without: the next page begins behind it. Nothing where the page has no lot.
+    /// The last lot of the page, with stock or without: the next page begins after it. Nothing where the page has no lot.
     pub last: Option<Id>,
-    /// Whether more lots of the definition stand behind the page, with stock or without.
+    /// Whether more lots of the definition come after the page, with stock or without.
     pub has_more: bool,
 }

@@ -1,4 +1,4 @@
--- The version that is told, and what follows of the tables of a state.
+-- The version that is read, and what follows of the tables of a state.
 use Rattle.std.proofs.Common.{◌≡◌, ◌∙◌, refl, sym, ap, subst, ℕ, ◌≤◌, ◌<◌, ℤ, pos, true, false, nat_le, [], ◌∷◌, IsTrue, arith}
 use Rattle.std.proofs.lemmas.Bool.Decides.{nat_tests}
 use Rattle.std.proofs.lemmas.Int.{ints, to_z-of_z}
@@ -42,7 +42,7 @@ version_is version db t n holds v =
     let same : v.valid.schema ≡ pos t.meta.schema = cc in
     sym v.reports ∙ same
 
--- the version that meta tells is a number from 1
+-- the version in meta is a number from 1
 pub version_number : (db : Database) (v : ℤ) → IsVersion db v → (n : ℕ) × (v ≡ pos n) × (1 ≤ n)
 version_number db v reported = from v (subst (λ z. pos 1 ≤ℤ z) reported.reports reported.valid.schema_low)
   where
@@ -56,7 +56,7 @@ has_known_version db v reported low =
     let high : pos number.0 ≤ℤ pos newest_schema = subst (λ z. z ≤ℤ pos newest_schema) number.1 low in
     (number.0, subst (IsVersion db) number.1 reported, (number.2, leb→le number.0 newest_schema high.le))
 
--- what the test of a version tells of the numbers
+-- what the test of a version says of the numbers
 pub not_below : (version to : ℕ) (n : ℤ) → SFits w64 n → n ≡ pos version → to ≤ newest_schema → le_z (to_z w64 to) (to_z w64 (of_z w64 n)) ≡ true → to ≤ version
 not_below version to n fits is few test = let at : le_z (to_z w64 to) (pos version) ≡ true = rw (to_z-of_z w64 n fits, is) at test in grind (arith, ints)
 
@@ -94,7 +94,7 @@ cut_from version handed to old mid new s same readable kept laws live done =
     let here = done s (subst (λ k. IsReadable k mid s) (sym same) (still_readable version old mid s readable kept laws live)) in
     amid_since version to old mid new s (kept.now live) (subst (λ k. FailureLeavesAmid k to mid new s) same here)
 
--- what was made of the tables of the version that is told
+-- what was made of the tables of the version that is read
 pub raised_reported : (to : ℕ) (old mid : store.State) (trees : Trees) (v : ℤ) → SFits w64 v → IsVersion old.now v → to ≤ newest_schema → le_z (to_z w64 to) (to_z w64 (of_z w64 v)) ≡ false → mid.now ≡ old.now → (IsSettled old → IsSettled mid)
     → IsRaisedFrom (nat_abs (to_z w64 (of_z w64 v))) to mid trees → IsRaisedTo to old trees
 raised_reported to old mid trees v fits reported few test same settles made =

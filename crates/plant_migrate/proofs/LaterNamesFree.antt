@@ -1,4 +1,4 @@
--- Whether the later tables can be made, in what a test of their names and one of the table of counts tell.
+-- Whether the later tables can be made, by what a test of their names and one of the table of counts find.
 use Rattle.std.proofs.Common.{◌≡◌, ◌∙◌, refl, sym, subst, List, Bool, true, false, not, All}
 use Rattle.std.specs.Prelude.{◌↔◌}
 use Rattle.std.proofs.lemmas.Bool.{false≢true}

@@ -31,7 +31,7 @@ pub risable_since : (version : ℕ) (first mid : Database) (trees : Trees) (t : 
 unfolding finds_since
 risable_since version first mid trees t kept found = record { finds = finds_since version first mid trees t kept found.finds; free = found.free }
 
--- After so many steps the database holds what was raised by them, and keeps the tables of other names.
+-- After so many steps the database holds what was raised by them, and keeps the foreign tables.
 pub record IsReached (version done : ℕ) (position : Position) (edges : List RowChange) (old now : Database) (t : Tables) : Type 0 where
   pub risable : IsRisable (version + done) now (raised_by done version position edges t)
   pub others : KeepsOtherTables desk_table_defs old now

@@ -26,7 +26,7 @@ use Rattle.plant_migrate.proofs.ChangesOfState.{bookings, state_raised}
 pub state_risable : (version : ℕ) (db : Database) (s : State) → HoldsTablesOf version db (tables_of version s) → AreKeyed (tables_of version s) → IsRisable version db (tables_of version s)
 state_risable version db s holds keyed = record { holds = holds; keyed = keyed; lacks = lacks_later version s }
 
--- what the rows tell that were read of the tables of a state
+-- what the rows have that were read of the tables of a state
 pub position_reported : (version : ℕ) (s : State) (rows : DeskRows) → rows_listed rows ≡ rows_in (tables_of version s) → rows.meta.position ≡ position_of s
 unfolding rows_listed
 position_reported version s rows are = ap (λ (r : Rows). r.meta.position) are

@@ -1,4 +1,4 @@
--- The fault of a raising tells that of its store.
+-- The fault of a raising reports that of its store.
 use Rattle.std.proofs.Common.{◌≡◌, ◌≢◌, refl}
 use Rattle.sql_tables.specs.declared.fault.Fault.{Fault}
 use Rattle.sql_tables.specs.declared.fault.Fault.TheVariants as fault
@@ -6,7 +6,7 @@ use Rattle.plant_migrate.specs.Calls.{raise_fault}
 use Rattle.plant_migrate.specs.declared.raising.RaiseFault.{RaiseFault}
 use Rattle.plant_migrate.specs.declared.raising.RaiseFault.TheVariants as raising
 
--- what isn't told as the store's is want of memory
+-- what isn't reported as the store's is want of memory
 pub memory_alone : (f : Fault) → {reported : RaiseFault} → reported ≡ raise_fault f → reported ≢ raising.Store → f ≡ fault.Memory
 memory_alone fault.Store is other = absurd (other is)
 memory_alone fault.Memory is other = refl

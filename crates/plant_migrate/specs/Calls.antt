@@ -23,7 +23,7 @@ use Rattle.plant_migrate.specs.Steps.{IsRisable, FailureLeavesWithin}
 use Rattle.plant_migrate.specs.declared.raising.RaiseFault.{RaiseFault}
 use Rattle.plant_migrate.specs.declared.raising.RaiseFault.TheVariants as raising
 
--- the store is at the tables of the state in a version, and tables of other names stand as they did
+-- the store is at the tables of the state in a version, and foreign tables are as they were
 abbrev pub IsRaisedAt : ℕ → store.State → store.State → State → Type 0
 IsRaisedAt version old new s = IsAtOf version new (tables_of version s) × KeepsOtherTables desk_table_defs old.now new.now
 
@@ -52,7 +52,7 @@ RaisesFound to old new r = HasCleanDisk new → (version : ℕ) → (s : State) 
 abbrev pub FailureLeavesFound : {E : Type 0} → ℕ → store.State → store.State → Result (Unit {0}) E → Type 0
 FailureLeavesFound to old new r = HasCleanDisk new → (version : ℕ) → (s : State) → IsReadable version old s → OnErr r (FailureLeavesAmid version to old new s)
 
--- what was raised told a version, and a known one
+-- what was raised had a version, and a known one
 abbrev pub RaisesKnownVersion : {E : Type 0} → store.State → store.State → Result (Unit {0}) E → Type 0
 RaisesKnownVersion old new r = HasCleanDisk new → OnOk r (HasKnownVersion old.now)
 
@@ -80,7 +80,7 @@ FailureLeavesRows version to rows old new r = HasCleanDisk new → (s : State) �
     → AreKeyed (tables_of version s) → IsWholeIn version s → rows_listed rows ≡ rows_in (tables_of version s)
     → OnErr r (FailureLeavesAmid version to old new s)
 
--- ---- tables of a version, whatever state they stand for, by so many versions
+-- ---- tables of a version, whatever state they represent, by so many versions
 
 abbrev pub RaisesBy : ℕ → ℕ → Position → List RowChange → store.State → store.State → Result (Unit {0}) Fault → Type 0
 RaisesBy version steps position edges old new r = HasCleanDisk new → IsSettled old → (t : Tables) → IsRisable version old.now t

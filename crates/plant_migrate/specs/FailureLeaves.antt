@@ -34,7 +34,7 @@ pub record IsReadable (version : ℕ) (c : store.State) (s : State) : Type 0 whe
 abbrev pub raised_to : ℕ → ℕ → ℕ
 raised_to version to = if nat_le to version then version else to
 
--- table meta tells a version that is known
+-- table meta has a version that is known
 abbrev pub HasKnownVersion : Database → Type 0
 HasKnownVersion db = (version : ℕ) × IsVersion db (pos version) × IsKnown version
 
@@ -44,7 +44,7 @@ HasKnownVersion db = (version : ℕ) × IsVersion db (pos version) × IsKnown ve
 abbrev pub FindsBetween : ℕ → ℕ → State → Database → Trees → Type 0
 FindsBetween version to s old db = (later : ℕ) × (version ≤ later) × (later ≤ to) × FindsOf later old db (tables_of later s)
 
--- The store is at the tables of the state in a version between the two, and tables of other names stand as they did.
+-- The store is at the tables of the state in a version between the two, and foreign tables are as they were.
 pub record IsBetween (version to : ℕ) (old new : store.State) (s : State) : Type 0 where
   pub later : ℕ
   pub above : version < later
@@ -53,14 +53,14 @@ pub record IsBetween (version to : ℕ) (old new : store.State) (s : State) : Ty
   pub others : KeepsOtherTables desk_table_defs old.now new.now
 
 -- A raising to this schema was cut short: a stop leaves at least one, and nothing else than the tables of the state in a
--- version from the one before to the one that they are raised to, beside the same tables of other names; and the store,
+-- version from the one before to the one that they are raised to, with the same foreign tables; and the store,
 -- where it is still open, shows what it showed, or those of a version between the two.
 pub record FailureLeavesAmid (version to : ℕ) (old new : store.State) (s : State) : Type 0 where
   pub crash_states : ∥ ((db : Trees) × new.may_leave db) ∥₁
   pub nothing_else : (db : Trees) → new.may_leave db → FindsBetween version (raised_to version to) s old.now db
   pub shows : IsTrue new.is_open → (IsAtOf version new (tables_of version s) × (new.now ≡ old.now)) ⊎ IsBetween version to old new s
 
--- The rows of the tables of the first schema in this database obey the rules of values, and tell this position and these
+-- The rows of the tables of the first schema in this database obey the rules of values, and have this position and these
 -- bookings.
 pub record AreRowsRead (db : Database) (position : Position) (booked : List BookedRow) : Type 0 where
   pub loaded : Loaded
@@ -70,7 +70,7 @@ pub record AreRowsRead (db : Database) (position : Position) (booked : List Book
   pub at : rows.meta.position ≡ position
   pub movements : rows.movements ≡ booked
 
--- The one row of table meta in this database obeys the rules of values, and tells this position.
+-- The one row of table meta in this database obeys the rules of values, and has this position.
 pub record IsMetaRead (db : Database) (position : Position) : Type 0 where
   pub stored : List Row
   pub are : Loads db meta_table stored
@@ -89,7 +89,7 @@ pub record IsRaisedFrom (version to : ℕ) (old : store.State) (trees : Trees) :
   pub read : IsRead version old.now position booked
   pub raised : IsRaisedBy version (to - version) position (edges_from version booked) old trees
 
--- Table meta tells a version below the one that is asked for, and in the trees its tables are to be found, raised.
+-- Table meta has a version below the one that is asked for, and in the trees its tables are to be found, raised.
 pub record IsRaisedTo (to : ℕ) (old : store.State) (trees : Trees) : Type 0 where
   pub version : ℕ
   pub reported : IsVersion old.now (pos version)

@@ -1,4 +1,4 @@
--- Tables of a version that are raised by some versions, each in a transaction of its own, whatever state they stand for.
+-- Tables of a version that are raised by some versions, each in a transaction of its own, whatever state they represent.
 use Rattle.std.specs.Prelude.{◌≡◌, ◌⊎◌, ℕ, ◌+◌, ◌≤◌, ◌<◌, List, IsTrue}
 use Rattle.sqlite.specs.Tree.{Trees}
 use Rattle.sqlite.specs.Effect.{Database}
@@ -28,7 +28,7 @@ pub record IsRaisedOnce (version : ℕ) (position : Position) (edges : List RowC
   pub raises : RaisesTables version position (added_rows version edges) old new
   pub same : trees ≡ new.trees
 
--- The store is at the tables after some of the steps, and not after all, and tables of other names stand as they did.
+-- The store is at the tables after some of the steps, and not after all, and foreign tables are as they were.
 pub record IsWithin (version steps : ℕ) (tables : ℕ → Tables) (old new : store.State) : Type 0 where
   pub done : ℕ
   pub some : 0 < done
@@ -37,21 +37,21 @@ pub record IsWithin (version steps : ℕ) (tables : ℕ → Tables) (old new : s
   pub others : KeepsOtherTables desk_table_defs old.now new.now
 
 -- The raising by so many steps was cut short: a stop leaves at least one, and nothing else than the tables after some of
--- the steps, beside the same tables of other names; and the store, where it is still open, shows what it showed, or the
+-- the steps, with the same foreign tables; and the store, where it is still open, shows what it showed, or the
 -- tables after some of the steps.
 pub record FailureLeavesWithin (version steps : ℕ) (tables : ℕ → Tables) (old new : store.State) : Type 0 where
   pub crash_states : ∥ ((db : Trees) × new.may_leave db) ∥₁
   pub nothing_else : (db : Trees) → new.may_leave db → (done : ℕ) × (done ≤ steps) × FindsOf (version + done) old.now db (tables done)
   pub shows : IsTrue new.is_open → (IsAtOf version new (tables 0) × (new.now ≡ old.now)) ⊎ IsWithin version steps tables old new
 
--- What an opening of these trees finds: these tables of a version, those of other names as they stood, and that the tables
+-- What an opening of these trees finds: these tables of a version, the foreign ones as they were, and that the tables
 -- that later versions add can still be made.
 pub record FindsRisable (version : ℕ) (before : Database) (trees : Trees) (t : Tables) : Type 0 where
   pub finds : FindsOf version before trees t
   pub free : AreFree (later_table_defs version) finds.schema
 
 -- The later tables could be made in the database that the store showed, and in the trees whatever tables of the version it
--- held are to be found, raised by some of the steps, beside the same tables of other names, and can be raised further; by
+-- held are to be found, raised by some of the steps, with the same foreign tables, and can be raised further; by
 -- more than one where a stop left of the store what it showed, and nothing else.
 pub record IsRaisedBy (version steps : ℕ) (position : Position) (edges : List RowChange) (old : store.State) (trees : Trees) : Type 0 where
   pub free : AreFree (later_table_defs version) old.now.schema

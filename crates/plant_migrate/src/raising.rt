@@ -19,7 +19,7 @@ use std::alloc::Global;
 /// Why tables weren't raised.
 #[derive(Clone, Copy, Debug, PartialEq, Eq, thiserror::Error)]
 pub enum RaiseFault {
-    /// The store failed, or what stands in it isn't tables of a desk that can be raised.
+    /// The store failed, or what it contains isn't tables of a desk that can be raised.
     #[error("the store failed")]
     Store,
     /// There was no memory.
@@ -40,8 +40,8 @@ fn fault_of(fault: Fault) -> RaiseFault
     }
 }
 
-/// Reads the rows of tables of the first schema, and raises the tables. Store where they don't stand as they are
-/// declared, where a value breaks its rule, where the later tables can't be made, and where the store fails; Memory
+/// Reads the rows of tables of the first schema, and raises the tables. Store where they aren't declared as their
+/// definitions say, where a value breaks its rule, where the later tables can't be made, and where the store fails; Memory
 /// where there is none, and then nothing was written.
 fn raise_first<S: Alter>(alloc: Global, conn: &mut Connection<S>, to: u64) -> Result<(), Fault>
     requires mode { conn.old.in_transaction ≡ false }
@@ -66,8 +66,8 @@ fn raise_first<S: Alter>(alloc: Global, conn: &mut Connection<S>, to: u64) -> Re
     }
 }
 
-/// Reads table meta of tables of a schema that keeps edges, and raises the tables. Store where it doesn't stand as it is
-/// declared, hasn't one row or has a value that breaks its rule, where the later tables can't be made, and where the store
+/// Reads table meta of tables of a schema that keeps edges, and raises the tables. Store where it isn't declared as its
+/// definition says, hasn't one row or has a value that breaks its rule, where the later tables can't be made, and where the store
 /// fails; Memory where there is none, and then nothing was written.
 fn raise_later<S: Alter>(
     alloc: Global,
@@ -96,7 +96,7 @@ fn raise_later<S: Alter>(
     }
 }
 
-/// Raises tables of this version, which table meta tells, to a later one.
+/// Raises tables of this version, which table meta has, to a later one.
 fn raise_from<S: Alter>(
     alloc: Global,
     conn: &mut Connection<S>,
@@ -126,7 +126,7 @@ fn raise_from<S: Alter>(
 
 /// Raises the tables that a store holds to this schema, one version after the other, each in one transaction: nothing is
 /// done where theirs isn't below it. `Newer` where they are of a schema above the newest, and then nothing was written;
-/// Store where there are none, where table meta doesn't tell a version, where a value that is read breaks its rule, and
+/// Store where there are none, where table meta has no version, where a value that is read breaks its rule, and
 /// where the store fails, and then the versions that were committed stay; Memory where there is none, and then nothing was
 /// written.
 pub fn raise<S: Alter>(alloc: Global, conn: &mut Connection<S>, to: u64) -> Result<(), RaiseFault>
@@ -136,7 +136,7 @@ pub fn raise<S: Alter>(alloc: Global, conn: &mut Connection<S>, to: u64) -> Resu
     ensures raised { RaisesFound to (state S.Store conn.old) (state S.Store conn.new) result }
     ensures after_failure { FailureLeavesFound to (state S.Store conn.old) (state S.Store conn.new) result }
     // Of whatever store: a stop leaves what it left before, and nothing else at a fault but Store; else also raised tables,
-    // only where table meta tells an older schema than is asked for, the rows that are read obey the rules of values and
+    // only where table meta has an older schema than is asked for, the rows that are read obey the rules of values and
     // the later tables could be made.
     ensures write_error { WritesAtStore (state S.Store conn.old) (state S.Store conn.new) result }
     ensures crash { Survives (state S.Store conn.old) (state S.Store conn.new)
@@ -156,7 +156,7 @@ pub fn raise<S: Alter>(alloc: Global, conn: &mut Connection<S>, to: u64) -> Resu
     if version >= to as i64 {
         return Ok(());
     }
-    // Table meta tells none.
+    // Table meta has none.
     if version < 1 {
         return Err(RaiseFault::Store);
     }

@@ -1,4 +1,4 @@
--- What the front of a text tells of the text.
+-- What a prefix of a text says of the text.
 use Rattle.std.proofs.Common.{◌≡◌, ℕ, ◌<◌, true, nat_lt, List, [], ◌++◌, length, take, Option, Some, None, Result, Ok, Err, OnOk, IfOk, IfErr, IfSome, refl, sym, ap, ◌∙◌, ⊎_elim, arith, subst}
 use Rattle.std.specs.Option.{option_map}
 use Rattle.std.proofs.lemmas.Bool.Decides.{nat_tests}
@@ -26,18 +26,18 @@ prefix_says text =
     ⊎_elim (λ above. too_long (take 262145 text) (rw (length-take-le 262145 text above) (omega arith)) ∙ sym (too_long text above))
     (λ below. ap orders_of (take_all 262145 text (omega (arith, below)))) (cases_lt 262144 (length text))
 
--- so what is said of the front of a text is said of the text
+-- so what is said of a prefix of a text is said of the text
 said_of_text : (says : Result (List OrderRow) CsvFault → Type 0) (n : ℕ) → n ≡ 262145 → (known : Option (List ℕ)) (prefix : List ℕ)
     → says (orders_of prefix) → IfSome (option_map (take n) known) (λ read. prefix ≡ read) → IfSome known (λ text. says (orders_of text))
 said_of_text says n limit (Some text) prefix said is = subst says (ap orders_of (is ∙ ap (λ m. take m text) limit) ∙ prefix_says text) said
 said_of_text says n limit None prefix said is = tt
 
--- what holds of the bytes that a reader tells, and of those that were read, holds of the input
+-- what holds of the bytes that a reader knows, and of those that were read, holds of the input
 pub of_input : (P : List ℕ → Type 0) (known : Option (List ℕ)) (read : List ℕ) → IfSome known P → P read → (bytes : List ℕ) × Agrees known bytes × P bytes
 of_input P None read told holds = (read, tt, holds)
 of_input P (Some text) read told holds = (text, refl, told)
 
--- what a failed reading is told as tells nothing of a file
+-- the fault of a failed reading says nothing of a file
 of_kind : (k : ErrorKind) (says : Result (List OrderRow) CsvFault) → FaultOfFile (fault_of_kind k) says
 of_kind io.OutOfMemory says = tt
 of_kind _ says = tt
@@ -51,7 +51,7 @@ pub of_unread : (known : Option (List ℕ)) (r : Result ℕ Error) (e : OrdersFa
 of_unread None r e is = ([], tt, unread r e is (orders_of []))
 of_unread (Some text) r e is = (text, refl, unread r e is (orders_of text))
 
--- the orders, or the fault, that a front tells
+-- the orders, or the fault, of a prefix
 pub reported_of_prefix : (n : ℕ) → n ≡ 262145 → (r : Result (List OrderRow) OrdersFault) (known : Option (List ℕ)) (prefix : List ℕ)
     → IfOk r (λ orders. orders_of prefix ≡ Ok orders) → IfErr r (λ e. FaultOfFile e (orders_of prefix)) → IfSome (option_map (take n) known) (λ read. prefix ≡ read)
     → IfOk r (λ orders. (bytes : List ℕ) × Agrees known bytes × (orders_of bytes ≡ Ok orders)) × IfErr r (λ e. (bytes : List ℕ) × Agrees known bytes × FaultOfFile e (orders_of bytes))
@@ -65,7 +65,7 @@ pub read_into_nothing : (known : Option (List ℕ)) (old new prefix : List ℕ) 
 read_into_nothing None old new prefix empty is says = tt
 read_into_nothing (Some text) old new prefix empty is says = is ∙ says ∙ ap (λ room. room ++ text) empty
 
--- where no error is told of a reading it has none
+-- a reading that isn't reported as failed didn't fail
 pub was_read : (r : Result ℕ Error) (n : ℕ) (P : Type 0) → read_count r ≡ Ok n → OnOk r P → P
 was_read (Ok m) n P reported is = is
 was_read (Err e) n P reported is = cc reported

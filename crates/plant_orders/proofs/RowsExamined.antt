@@ -74,7 +74,7 @@ module _ (n : ℕ) (fields : List (List ℕ)) (records : List (List (List ℕ)))
       ap (λ os. before ++ os) (row_more_orders h) ∙ sym (append_assoc before (row_orders (n + 1) fields) (orders_from (n + 1) records))
       ∙ ap (λ (os : List NumberedOrder). os ++ orders_from (n + 1) records) (sym added)
 
--- ---- the front of a text
+-- ---- a prefix of a text
 
 long_faults : (text : List ℕ) → 262144 < length text → faults_of text ≡ whole_fault 0 kind.TooLong ∷ []
 unfolding faults_of
@@ -95,7 +95,7 @@ prefix_orders text =
     ⊎_elim (λ above. long_orders (take 262145 text) (rw (length-take-le 262145 text above) (omega arith)) ∙ sym (long_orders text above))
     (λ below. ap numbered_orders_of (take_all 262145 text (omega (arith, below)))) (cases_lt 262144 (length text))
 
--- so what was examined of the front was examined of the text
+-- so what was examined of the prefix was examined of the text
 pub examined_of_prefix : (n : ℕ) → n ≡ 262145 → (r : Result Examined OrdersFault) (known : Option (List ℕ)) (prefix : List ℕ) → IfOk r (IsExaminedOf prefix)
     → IfSome (option_map (take n) known) (λ read. prefix ≡ read) → IfOk r (λ e. (bytes : List ℕ) × Agrees known bytes × IsExaminedOf bytes e)
 examined_of_prefix n limit (Err e) known prefix all is = tt
@@ -104,7 +104,7 @@ examined_of_prefix n limit (Ok e) (Some text) prefix all is =
     let front : prefix ≡ take 262145 text = is ∙ ap (λ m. take m text) limit in
     (text, refl, record { faults = all.faults ∙ ap faults_of front ∙ prefix_faults text; orders = all.orders ∙ ap numbered_orders_of front ∙ prefix_orders text })
 
--- what a failed reading is told as
+-- how a failed reading is reported
 told_of_kind : (k : ErrorKind) → (fault_of_kind k ≡ orders.Read) ⊎ (fault_of_kind k ≡ orders.Memory)
 told_of_kind io.OutOfMemory = inr refl
 told_of_kind _ = inl refl

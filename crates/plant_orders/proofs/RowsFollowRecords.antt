@@ -65,7 +65,7 @@ pub fails_as : {Y : Type 0} (k : CsvKind) (e : CsvFault) (read : Result Y CsvFau
 fails_as kind.Memory e read other h = absurd (other refl)
 fails_as _ e read other h = h
 
--- ---- no record is told for want of memory
+-- ---- no record's fault is want of memory
 
 abbrev NotMemory : {A : Type 0} → Result A CsvKind → Type 0
 NotMemory (Ok x) = ⊤

@@ -19,7 +19,7 @@ use Rattle.plant_orders.specs.declared.examining.NumberedOrder.{NumberedOrder}
 abbrev pub field_kinds : List CsvKind
 field_kinds = kind.Order ∷ kind.Recipe ∷ kind.Version ∷ kind.Size ∷ kind.Due ∷ kind.Priority ∷ []
 
--- where the field stands of which a kind of fault speaks; a fault of a row or of the file speaks of none
+-- the position of the field that a kind of fault is about; a fault of a row or of the file is about none
 abbrev pub place_of : CsvKind → ℕ
 place_of kind.Order = 0
 place_of kind.Recipe = 1
@@ -47,7 +47,7 @@ text_or_none (Some text) = text
 abbrev pub whole_fault : ℕ → CsvKind → RowFault
 whole_fault n k = record { fault = fault n k; found = [] }
 
--- the fault of a field, with what stands there, where it breaks its rule
+-- the fault of a field, with its text, where it breaks its rule
 abbrev pub field_fault : ℕ → List (List ℕ) → CsvKind → List RowFault
 field_fault n fields k = if is_valid fields k then [] else record { fault = fault n k; found = text_or_none (field_at fields (place_of k)) } ∷ []
 
@@ -69,7 +69,7 @@ row_orders n fields = order_in n (order_of fields)
 
 -- ---- a file
 
--- what is wrong with the records behind the first n rows; there are at most 1,000 rows
+-- what is wrong with the records after the first n rows; there are at most 1,000 rows
 abbrev pub faults_from : ℕ → List (List (List ℕ)) → List RowFault
 faults_from n [] = []
 faults_from n (fields ∷ records) =

@@ -77,7 +77,7 @@ abbrev pub in_row : {A : Type 0} → ℕ → Result A CsvKind → Result A CsvFa
 in_row n (Ok x) = Ok x
 in_row n (Err k) = Err (fault n k)
 
--- the orders of the records behind the first n rows; there are at most 1,000
+-- the orders of the records after the first n rows; there are at most 1,000
 abbrev pub rows_of : ℕ → List (List (List ℕ)) → Result (List OrderRow) CsvFault
 rows_of n [] = Ok []
 rows_of n (fields ∷ records) =
@@ -89,7 +89,7 @@ abbrev pub file_of : List (List (List ℕ)) → Result (List OrderRow) CsvFault
 file_of [] = Err (fault 0 kind.Header)
 file_of (header ∷ records) = if is_header header then rows_of 0 records else Err (fault 0 kind.Header)
 
--- what a text says, of which no record behind the 1,002nd counts
+-- what a text says, of which no record after the 1,002nd counts
 unfoldable pub orders_of : List ℕ → Result (List OrderRow) CsvFault
 orders_of text =
     if nat_lt 262144 (length text) then Err (fault 0 kind.TooLong)
@@ -101,7 +101,7 @@ orders_of text =
 abbrev pub read_fault : ErrorKind → CsvFault
 read_fault e = if stops_reader e then fault 0 kind.Memory else fault 0 kind.Shape
 
--- want of memory tells nothing of the text, and of no row
+-- want of memory is no row's, and says nothing of the text
 abbrev pub FailsAs : {Y : Type 0} → CsvKind → CsvFault → Result Y CsvFault → Type 0
 FailsAs kind.Memory e read = e.row ≡ 0
 FailsAs _ e read = read ≡ Err e

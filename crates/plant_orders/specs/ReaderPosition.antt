@@ -1,4 +1,4 @@
--- Where a reader of records stands in its text.
+-- How far a reader of records is in its text.
 use Rattle.std.specs.Prelude.{ℕ, Bool, true, false, List, [], Option, Some, None, ◌≡◌}
 use Rattle.csv.specs.Machine.{next_record, Read}
 use Rattle.csv.specs.Reading.{default_config, source_of, reader_config, reader_trim, reader_state, is_flexible, Ready}
@@ -16,7 +16,7 @@ pub record ReaderIsAt (rdr : Reader (Bor (List ℕ))) (s : State) (text : List �
   pub state : reader_state rdr ≡ s
   pub flexible : is_flexible rdr ≡ true
 
--- a read gave the next record of the text, and the reader stands behind it
+-- a read gave the next record of the text, and the reader is past it
 abbrev pub GaveNext : Option Read → Bool → Reader (Bor (List ℕ)) → List (List ℕ) → Type 0
 GaveNext None found rdr fields = found ≡ false
 GaveNext (Some p) found rdr fields = (found ≡ true) × (fields ≡ p.0) × ReaderIsAt rdr p.1 p.2

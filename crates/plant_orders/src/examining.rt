@@ -13,7 +13,7 @@ use csv::{ByteRecord, Reader};
 use plant_base::{Items, OrderRow};
 use std::alloc::{AllocError, Global};
 
-/// A fault of an order file, and what stands there.
+/// A fault of an order file, and the text at fault.
 #[derive(Drop)]
 pub struct RowFault {
     /// The row, and what is wrong with it.
@@ -25,7 +25,7 @@ pub struct RowFault {
 /// An order of a file, and the number of its row.
 #[derive(Clone, Copy)]
 pub struct NumberedOrder {
-    /// The row among the records behind the header, from 1 on.
+    /// The row among the records after the header, from 1 on.
     pub row: u16,
     /// The order.
     pub order: OrderRow,
@@ -60,7 +60,7 @@ fn whole_fault(alloc: Global, row: u16, kind: CsvKind) -> RowFault
     }
 }
 
-/// Where the field stands of which a kind of fault speaks; behind them all for a fault of a row or of the file.
+/// The position of the field that a kind of fault is about; after all fields for a fault of a row or of the file.
 fn place_of(kind: CsvKind) -> usize
     ensures { result ≡ place_of kind }
 {
@@ -86,7 +86,7 @@ fn found_at(alloc: Global, row: &ByteRecord, place: usize) -> Result<Items<u8>, 
     Ok(Items::new(found))
 }
 
-/// Adds the fault of a field behind the others, where it breaks its rule.
+/// Adds the fault of a field to the others, where it breaks its rule.
 fn add_field_fault(
     alloc: Global,
     faults: &mut Vec<RowFault>,
@@ -161,9 +161,10 @@ fn add_row(
     Ok(())
 }
 
-/// Every fault of an order file, and the orders among its rows. That the first fault is that of [`read_orders`](crate::read_orders), and that there is
-/// none exactly where that gives the orders, is only tested. A file that is longer than 262,144 bytes, and one without the header, has that fault alone; behind the
-/// 1,000th row no more is looked at than whether there is one.
+/// Every fault of an order file, and the orders among its rows. That the first fault is that of
+/// [`read_orders`](crate::read_orders), and that there is none exactly where that gives the orders, is only tested. A file
+/// that is longer than 262,144 bytes, and one without the header, has that fault alone; after the 1,000th row no more is
+/// looked at than whether there is one.
 ///
 /// The error is want of memory.
 #[tactic(auto, unfolding(crate::specs::EveryFault::faults_of, crate::specs::EveryFault::numbered_orders_of))]

@@ -33,7 +33,7 @@ pub enum CsvKind {
 }
 
 impl CsvKind {
-    /// The word that stands for it in replies.
+    /// Its word in replies.
     pub fn name(self) -> &'static str
         ensures { result.now ≡ kind_name self }
     {
@@ -56,7 +56,7 @@ impl CsvKind {
 /// The first fault of an order file. As a text it is `csv row R KIND`.
 #[derive(Clone, Copy, Debug, PartialEq, Eq)]
 pub struct CsvFault {
-    /// The row among the records behind the header, from 1 on; 0 for the header and the file as a whole.
+    /// The row among the records after the header, from 1 on; 0 for the header and the file as a whole.
     pub row: u16,
     /// What is wrong there.
     pub kind: CsvKind,

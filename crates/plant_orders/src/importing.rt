@@ -4,7 +4,7 @@ ghost use Rattle.plant_orders.specs.Importing.{import};
 
 use plant_base::{Command, Envelope, Id, ImportOrders, Items, OrderRow, Stamp};
 
-/// What stands in an envelope beside its command.
+/// What an envelope has other than its command.
 #[derive(Clone, Copy, Debug, PartialEq, Eq)]
 pub struct ImportMetadata {
     /// When and by whom the command is given, and what is noted with it.
@@ -14,7 +14,7 @@ pub struct ImportMetadata {
 }
 
 /// One command that takes all orders of a file, or none (the job orders of IEC 62264-4): given when, by whom, with the
-/// note and under the reference that the heading tells.
+/// note and under the reference of the import metadata.
 pub fn import(import_metadata: ImportMetadata, orders: Items<OrderRow>) -> Envelope
     ensures { result ≡ import import_metadata orders }
 {

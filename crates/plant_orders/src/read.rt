@@ -16,7 +16,7 @@ pub const LONGEST_FILE: usize = 262_144;
 
 /// The orders of an order file, in its rows' order.
 ///
-/// A file is read as comma-separated values: fields may stand in quotes, a record ends with LF, CR or CR LF, and empty
+/// A file is read as comma-separated values: fields may be in quotes, a record ends with LF, CR or CR LF, and empty
 /// lines are skipped; a leading UTF-8 byte order mark is skipped too. The first record is exactly
 /// `order,recipe,version,size,due,priority`, and each further one an order: two ids, a version of 1 to 999, an amount, a
 /// due date `YYYY-MM-DD` and a priority of 1 to 9, each number of 1 to 16 digits. There are at most 1,000 rows.

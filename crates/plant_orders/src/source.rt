@@ -29,7 +29,7 @@ pub enum OrdersFault {
     Memory,
 }
 
-/// What a fault of [`read_orders`] is told as: want of memory is no fault of the file.
+/// How a fault of [`read_orders`] is reported: want of memory is no fault of the file.
 fn fault_of(fault: CsvFault) -> OrdersFault
     ensures csv { fault.kind ≢ CsvKind.Memory → result ≡ OrdersFault.Csv fault }
     ensures memory { fault.kind ≡ CsvKind.Memory → result ≡ OrdersFault.Memory }
@@ -40,7 +40,7 @@ fn fault_of(fault: CsvFault) -> OrdersFault
     }
 }
 
-/// What a failed reading to the end is told as.
+/// How a failed reading to the end is reported.
 fn read_fault(error: &io::Error) -> OrdersFault
     ensures { result ≡ fault_of_kind (error_kind error.now) }
 {
@@ -50,7 +50,7 @@ fn read_fault(error: &io::Error) -> OrdersFault
     }
 }
 
-/// How many bytes a reading to the end gave, or what its error is told as.
+/// How many bytes a reading to the end gave, or how its error is reported.
 fn read_count(reading: io::Result<usize>) -> Result<usize, OrdersFault>
     ensures { result ≡ read_count reading }
 {
@@ -63,9 +63,9 @@ fn read_count(reading: io::Result<usize>) -> Result<usize, OrdersFault>
 /// The orders of the order file that a reader gives to its end, as [`read_orders`] reads it. No more is read of it than
 /// shows that it is too long: one byte more than the longest file.
 ///
-/// `Csv` tells the first fault of the file, `Read` comes where a read failed, and `Memory` where memory was refused.
+/// `Csv` is the first fault of the file, `Read` comes where a read failed, and `Memory` where memory was refused.
 ///
-/// In the clauses, `bytes` are those that the reader has left, where it tells them, and some bytes where it tells none.
+/// In the clauses, `bytes` are those that the reader has left, where it knows them, and some bytes where it knows none.
 pub fn orders_from<R: Read>(alloc: Global, reader: &mut R) -> Result<Items<OrderRow>, OrdersFault>
     ensures orders { IfOk result (λ orders. (bytes : List ℕ) × Agrees (R.remaining reader.old) bytes
         × (orders_of bytes ≡ Ok orders)) }
@@ -85,7 +85,7 @@ pub fn orders_from<R: Read>(alloc: Global, reader: &mut R) -> Result<Items<Order
 ///
 /// `Read` comes where a read failed, and `Memory` where memory was refused. No other fault comes.
 ///
-/// In the clauses, `bytes` are those that the reader has left, where it tells them, and some bytes where it tells none.
+/// In the clauses, `bytes` are those that the reader has left, where it knows them, and some bytes where it knows none.
 pub fn examine_from<R: Read>(alloc: Global, reader: &mut R) -> Result<Examined, OrdersFault>
     ensures examined { IfOk result (λ examined. (bytes : List ℕ) × Agrees (R.remaining reader.old) bytes
         × IsExaminedOf bytes examined) }

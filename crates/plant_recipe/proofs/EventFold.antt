@@ -28,7 +28,7 @@ use Rattle.plant_recipe.proofs.TableIsCases.{whole_table}
 pub stays_refused : (phases : ℕ) (refusal : Refusal) (events : List Event) → fold (then_turn phases) (Err refusal) events ≡ Err refusal
 stays_refused phases refusal events = fold_stays (then_turn phases) (Err refusal) (λ e. refl) events
 
--- the turn of the event at a place
+-- the turn of the event at a position
 pub turn_at : (phases : ℕ) (p : Progress) (events : List Event) (i : ℕ) (d : Event) → i < length events → fold (then_turn phases) (Ok p) (drop i events) ≡ fold (then_turn phases) (turn phases p (get_or events i d)) (drop (i + 1) events)
 turn_at phases p events i d h = at_drop_more (λ es. fold (then_turn phases) (Ok p) es) events i d h
 
@@ -51,7 +51,7 @@ ok_only (Err refusal) p e = cc
 pub run_ok : (phases : ℕ) (events : List Event) (p : Progress) → progress_of phases events ≡ Some p → run_of phases events ≡ Ok p
 run_ok phases events p e = ok_only (run_of phases events) p e
 
--- ---- both forms of the fold
+-- ---- both definitions of the fold
 
 step_along : (phases : ℕ) (r : Result Progress Refusal) (q : Progress) (event : Event) → IfOk r (λ p. p ≡ q) → IfOk (then_turn phases r event) (λ p. p ≡ turn_or_stay phases q event)
 step_along phases (Err refusal) q event h = tt
@@ -192,7 +192,7 @@ pub stays_in_range : StaysInRange
 unfolding run_of
 stays_in_range phases events p e = IfOk-at_ok (IsInRange phases) (run_ok phases events p e) (kept_by_run phases (IsInRange phases) (range_turn phases) (Ok opening_progress) events (range_opening phases))
 
--- the range holds of the form that passes refused events over too
+-- the range holds of the definition that passes refused events over too
 pub after_in_range : (phases : ℕ) (events : List Event) → IsInRange phases (progress_after phases events)
 unfolding progress_after
 after_in_range phases events = kept opening_progress events (range_opening phases)

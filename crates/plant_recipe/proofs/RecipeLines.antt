@@ -18,11 +18,11 @@ use Rattle.plant_recipe.specs.Scaling.{scaled_of, RisesWithSize, KeepsAtBase}
 use Rattle.plant_recipe.specs.WellFormed.{repeats, has_no_repeats, fits, all_fit, is_in_of, is_out_of, is_parameter_of, is_phase, has_allowed_length, has_size_range, has_phase, has_product, is_well_formed, phases_of, greatest_lines, OccursOnceIfWellFormed, HasPhasesIfWellFormed}
 use Rattle.plant_recipe.specs.Control.{is_size_of, line_scaled, scales_to_nothing, KeepsProcedure}
 
--- the line at a place repeats none of the later ones, and these repeat none among themselves
+-- the line at a position repeats none of the later ones, and these repeat none among themselves
 pub no_repeats_at : (lines : List RecipeLine) (i : ℕ) (d : RecipeLine) → i < length lines → has_no_repeats (drop i lines) ≡ (not (list_any (repeats (get_or lines i d)) (drop (i + 1) lines)) && has_no_repeats (drop (i + 1) lines))
 no_repeats_at lines i d h = at_drop_more has_no_repeats lines i d h
 
--- a test that all items pass is passed at each place
+-- a test that all items pass is passed at each position
 pub passes_at : {X : Type 0} (p : X → Bool) (xs : List X) (i : ℕ) (d : X) → list_all p xs ≡ true → i < length xs → p (get_or xs i d) ≡ true
 passes_at p xs i d all h = elim (p (get_or xs i d)) as (λ b. p (get_or xs i d) ≡ b → b ≡ true) [
   | true ↦ λ e. refl

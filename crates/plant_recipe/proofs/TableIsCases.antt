@@ -13,7 +13,7 @@ use Rattle.plant_recipe.specs.StateTable.{Row, state_table, next_state_of, IsWho
 rows_move : AllByRecursion (λ (r : Row). next_state_of r.0 r.1 ≡ Some r.2) state_table
 rows_move = (refl, (refl, (refl, (refl, (refl, (refl, (refl, (refl, (refl, (refl, (refl, (refl, (refl, (refl, (refl, (refl, (refl, (refl, (refl, (refl, (refl, (refl, (refl, (refl, (refl, (refl, (refl, (refl, (refl, (refl, (refl, tt)))))))))))))))))))))))))))))))
 
--- the row stands in the table at this place
+-- the table has the row at this position
 row_at : (k : ℕ) (from : BatchState) (word : Word) (to there : BatchState) → Some there ≡ Some to → k < 31 → ((d : Row) → slice_index_or state_table k d ≡ (from, word, there)) → Contains state_table (from, word, to)
 row_at k from word to there e h at = let same : there ≡ to = cc in (k, h, at _ ∙ ap (λ s. (from, word, s)) same)
 

@@ -104,19 +104,19 @@ abbrev pub then_turn : ℕ → Result Progress Refusal → Event → Result Prog
 then_turn phases (Ok p) event = turn phases p event
 then_turn phases (Err refusal) event = Err refusal
 
--- the fold of the events from the opening on, and the first refusal where an event is refused at its place
+-- the fold of the events from the opening on, and the first refusal where an event is refused at its position
 unfoldable pub run_of : ℕ → List Event → Result Progress Refusal
 run_of phases events = fold (then_turn phases) (Ok opening_progress) events
 
--- the fold, and none where an event is refused at its place
+-- the fold, and none where an event is refused at its position
 abbrev pub progress_of : ℕ → List Event → Option Progress
 progress_of phases events = result_ok (run_of phases events)
 
--- an event that is refused at its place is passed over
+-- an event that is refused at its position is passed over
 abbrev pub turn_or_stay : ℕ → Progress → Event → Progress
 turn_or_stay phases p event = result_unwrap_or (turn phases p event) p
 
--- the fold in a form that every list of events has; where no event is refused it is the fold
+-- the fold, defined so that every list of events has it; where no event is refused it is the fold
 unfoldable pub progress_after : ℕ → List Event → Progress
 progress_after phases events = fold (turn_or_stay phases) opening_progress events
 
@@ -142,6 +142,6 @@ StaysInRange = (phases : ℕ) (events : List Event) (p : Progress) → progress_
 abbrev pub NeverFalls : Type 0
 NeverFalls = (phases : ℕ) (events more : List Event) (p q : Progress) → progress_of phases events ≡ Some p → progress_of phases (events ++ more) ≡ Some q → p.attempt ≤ q.attempt
 
--- both forms of the fold agree where no event is refused
+-- both definitions of the fold agree where no event is refused
 abbrev pub GoesAlong : Type 0
 GoesAlong = (phases : ℕ) (events : List Event) (p : Progress) → progress_of phases events ≡ Some p → progress_after phases events ≡ p

@@ -10,7 +10,7 @@ use Rattle.plant_base.specs.declared.states.Word.TheVariants.{Start, Stop, Hold,
 abbrev pub Row : Type 0
 Row = BatchState × Word × BatchState
 
--- the rows as they stand on the wall
+-- the rows of the state table
 abbrev pub state_table : List Row
 state_table =
     (Idle, Start, Running)

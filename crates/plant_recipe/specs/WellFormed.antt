@@ -67,7 +67,7 @@ repeats (Out def amount) line = is_out_of def line
 repeats (Parameter name value) line = is_parameter_of name line
 repeats (Phase unit_procedure operation phase) line = false
 
--- a definition stands at most once among the inputs and at most once among the outputs, and names of parameters are distinct
+-- a definition is at most once among the inputs and at most once among the outputs, and names of parameters are distinct
 abbrev pub has_no_repeats : List RecipeLine → Bool
 has_no_repeats [] = true
 has_no_repeats (line ∷ lines) = not (list_any (repeats line) lines) && has_no_repeats lines
@@ -93,7 +93,7 @@ is_well_formed header lines =
 
 -- ---- laws
 
--- how often a definition or a name stands in the lines
+-- how often a definition or a name is in the lines
 pub record OccursOnce (lines : List RecipeLine) : Type 0 where
   pub inputs : (def : List ℕ) → count_by (is_in_of def) lines ≤ 1
   pub outputs : (def : List ℕ) → count_by (is_out_of def) lines ≤ 1

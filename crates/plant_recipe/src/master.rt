@@ -27,7 +27,7 @@ impl Model for Master {
 
 impl Master {
     /// The master recipe of this header and these lines. `BadForm` exactly where they aren't well formed, as
-    /// [`is_well_formed`] tells; what was handed in is then dropped. No memory is taken.
+    /// [`is_well_formed`] says; what was handed in is then dropped. No memory is taken.
     pub fn check(header: Header, lines: Vec<RecipeLine>) -> Result<Self, Refusal>
         ensures valid { IsOk result ↔ IsTrue (is_well_formed header lines.items) }
         ensures value { IfOk result (λ master. master ≡ record { header = header; lines = lines.items }) }

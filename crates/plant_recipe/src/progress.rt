@@ -60,7 +60,7 @@ impl Progress {
     }
 
     /// The progress that the events of a batch make up from the opening on, in their order. Where an event is refused
-    /// at its place, its refusal. No memory is taken.
+    /// at its position, its refusal. No memory is taken.
     #[tactic(auto, unfolding(crate::specs::Progress::run_of))]
     pub fn of_events(events: &[Event], phases: u8) -> Result<Self, Refusal>
         ensures { result ≡ run_of phases events.now }

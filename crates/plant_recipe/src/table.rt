@@ -7,7 +7,7 @@ use plant_base::{BatchState, Word};
 /// The state that a word leads to from a state, and `None` where the state table has no such row.
 ///
 /// The table is the desk's own, made after the example of procedural states and commands of IEC 61512-1.
-/// [`Word::Done`] is the ending of a state without a command.
+/// [`Word::Done`] is the ending of a batch state without a command.
 pub fn next_state(state: BatchState, word: Word) -> Option<BatchState>
     ensures { result ≡ next_state_of state word }
 {
@@ -53,7 +53,7 @@ pub fn next_state(state: BatchState, word: Word) -> Option<BatchState>
 }
 
 /// The state table written as rows and the moves written by cases are one, as a law that a proof above may cite: a row
-/// stands in the table exactly where its word leads from its first state to its second. It does nothing when it runs.
+/// is in the table exactly where its word leads from its first state to its second. It does nothing when it runs.
 pub fn table_law()
     ensures { IsWholeTable }
 {}

@@ -21,7 +21,7 @@ pub const GREATEST_LINES: usize = 128;
 /// - its least size isn't above its greatest;
 /// - it has a phase;
 /// - its product is among its outputs;
-/// - a definition stands at most once among the inputs and at most once among the outputs, and the names of the
+/// - a definition is at most once among the inputs and at most once among the outputs, and the names of the
 ///   parameters are distinct;
 /// - each input and output, scaled from the base to the greatest size, is at most [`GREATEST_AMOUNT`].
 ///

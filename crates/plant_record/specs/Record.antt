@@ -1,4 +1,4 @@
--- The batch record as a text: its sections, and what stands in each line.
+-- The batch record as a text: its sections, and what each line has.
 use Rattle.std.specs.Prelude.{ℕ, ◌-◌, ◌==◌, Bool, true, false, if◌then◌else◌, List, [], ◌∷◌, ◌++◌, length, replicate, codes, decimal, Option, Some, None}
 use Rattle.std.specs.List.{flat_map}
 use Rattle.plant_base.specs.Words.{job_state_name, batch_state_name, word_name}
@@ -24,7 +24,7 @@ use Rattle.plant_messages.specs.declared.question.MeasuredLine.{MeasuredLine}
 abbrev pub with_lf : List ℕ → List ℕ
 with_lf text = text ++ 10 ∷ []
 
--- one space parts the items of a line, also beside an empty one
+-- one space parts the items of a line, also next to an empty one
 abbrev pub items : List (List ℕ) → List ℕ
 items [] = []
 items (item ∷ []) = item
@@ -34,7 +34,7 @@ items (item ∷ next ∷ more) = item ++ 32 ∷ items (next ∷ more)
 unfoldable pub right_in : ℕ → ℕ → List ℕ
 right_in places n = replicate (places - length (decimal n)) 32 ++ decimal n
 
--- a note, where it isn't empty, stands at the end of its line
+-- a note, where it isn't empty, is at the end of its line
 unfoldable pub noted : List ℕ → List ℕ
 noted note = if length note == 0 then [] else codes " note " ++ note
 
@@ -134,7 +134,7 @@ output_total produced (recipe_line.Phase unit_procedure operation phase) = []
 
 -- ---- the whole
 
--- the title of a section stands also where the section is empty
+-- the title of a section is there also where the section is empty
 abbrev pub section : {A : Type 0} → List ℕ → (A → List ℕ) → List A → List ℕ
 section title text_of xs = with_lf title ++ flat_map (λ x. with_lf (text_of x)) xs
 

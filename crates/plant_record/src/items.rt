@@ -31,7 +31,7 @@ impl fmt::Display for InSix {
     }
 }
 
-/// A note behind its line, with a blank before it: nothing where it is empty.
+/// A note after its line, with a blank before it: nothing where it is empty.
 #[derive(Clone, Copy)]
 struct Noted(Text);
 

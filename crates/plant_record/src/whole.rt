@@ -37,7 +37,7 @@ impl fmt::Display for WholeRecord<'_> {
 
 /// The record of a batch as a text of lines, each ended by an LF (batch record of IEC 61512-1).
 ///
-/// Its head tells the batch, its order, its recipe, its release and its state; then come the control recipe, the events,
+/// Its head names the batch, its order, its recipe, its release and its state; then come the control recipe, the events,
 /// what was consumed, what was produced, and for each input and each output what was asked for and what was booked.
 /// A line of the control recipe whose unit isn't known has `?` in its place.
 /// The only error is that memory was refused.

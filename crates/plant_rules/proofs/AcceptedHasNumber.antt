@@ -16,7 +16,7 @@ use Rattle.plant_rules.specs.Wrong.{wrong_body}
 
 -- ---- conditions
 
--- a condition that fails refuses, whatever stands before it
+-- a condition that fails refuses, whatever comes before it
 pub failing : (b : Bool) (r : Refusal) (rest : Option Refusal) → b ≡ true → is_some (refuse b r rest) ≡ true
 failing true r rest fails = refl
 failing false r rest fails = absurd (false≢true fails)

@@ -1,4 +1,4 @@
--- A new lot keeps a state sound.
+-- A new lot keeps a state consistent.
 use Rattle.std.proofs.Common.{◌≡◌, ◌∙◌, ℕ, ◌+◌, ◌≤◌, ◌++◌, ◌∷◌, [], cond, true, false, List, Some, is_some, refl, sym, subst, ap, arith}
 use Rattle.std.specs.Prelude.{◌==◌, ◌&&◌}
 use Rattle.std.specs.List.{AllByRecursion}

@@ -1,4 +1,4 @@
--- A new class or definition keeps a state sound.
+-- A new class or definition keeps a state consistent.
 use Rattle.std.proofs.Common.{◌≡◌, ℕ, List, find, is_some, true}
 use Rattle.std.specs.List.{AllByRecursion}
 use Rattle.std.specs.List.Sorted.{IsStrictlySortedBy}

@@ -1,4 +1,4 @@
--- A division keeps a state sound.
+-- A division keeps a state consistent.
 use Rattle.std.proofs.Common.{◌≡◌, ◌≤◌, true, Some, is_some, refl, arith}
 use Rattle.std.specs.Prelude.{◌==◌, ◌&&◌}
 use Rattle.plant_base.specs.Values.{greatest_amount, greatest_sublot}

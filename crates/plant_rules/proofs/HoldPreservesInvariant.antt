@@ -1,4 +1,4 @@
--- A hold, and one that is taken away, keep a state sound.
+-- A hold, and one that is taken away, keep a state consistent.
 use Rattle.std.proofs.Common.{◌≡◌, ℕ, true, List, is_some}
 use Rattle.std.specs.List.{AllByRecursion}
 use Rattle.std.specs.List.Sorted.{IsStrictlySortedBy}

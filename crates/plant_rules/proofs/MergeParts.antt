@@ -54,7 +54,7 @@ formed_few ps e = let few : nat_le (length ps) 16 ≡ true = and_right (nat_le 1
 
 -- ---- the rows of the parts
 
--- a part's sublot is there, and stands as at the beginning
+-- a part's sublot is there, and is as at the beginning
 pub record IsReady (s : State) (ms : List Movement) (p : Part) : Type 0 where
   pub place : place_at s p.lot p.sub ≡ Some (record { lot = p.lot; number = p.sub; place = text_of (place_at s p.lot p.sub) })
   pub known : is_some (lot_at s p.lot) ≡ true

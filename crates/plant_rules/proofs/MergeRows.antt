@@ -36,7 +36,7 @@ module _ (s : State) (sound : DecisionInvariant s) (seq : ℕ) (t : Stamp) (new 
   brings_elsewhere : (p : Part) (k amount : ℕ) (lot : List ℕ) (n : ℕ) → is_some (lot_at s lot) ≡ true → entering (part_line seq t new k p) lot n ≡ 0
   brings_elsewhere p k amount lot n known = ap (λ b. cond (b && 0 == n) p.amount 0) (ids_apart (λ l. is_some (lot_at s l)) lot new known none).1
 
-  -- a part that waits stands as before
+  -- a part that waits is as before
   waits : (ms : List Movement) (k : ℕ) (p q : Part) → IsReady s ms q → Apart p q → IsReady s (ms ++ part_line seq t new k p ∷ []) q
   waits ms k p q ready apart =
       let m = part_line seq t new k p in

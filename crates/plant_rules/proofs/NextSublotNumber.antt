@@ -17,7 +17,7 @@ use Rattle.plant_view.proofs.RowsInTurn.{none_passes}
 
 -- ---- the greatest number
 
--- rows have the numbers of their places
+-- rows have the numbers of their positions
 pub numbers_kept : (ms : List Movement) (ps : List Place) → map (λ (r : Sublot). r.number) (map (sublot_row ms) ps) ≡ map (λ (p : Place). p.number) ps
 numbers_kept ms [] = refl
 numbers_kept ms (p ∷ ps) = ap (λ ns. p.number ∷ ns) (numbers_kept ms ps)

@@ -1,4 +1,4 @@
--- A recall, and one that is lifted, keep a state sound.
+-- A recall, and one that is lifted, keep a state consistent.
 use Rattle.std.proofs.Common.{ℕ, List, Option, Some, None}
 use Rattle.std.specs.List.Sorted.{IsStrictlySortedBy}
 use Rattle.std.specs.Cmp.{IsTotalOrder}

@@ -43,7 +43,7 @@ blind_wrong s _ rs = refl
 
 -- ---- decisions
 
--- behind the first condition a command goes on where its reference isn't kept
+-- after the first condition a command goes on where its reference isn't kept
 pub wrong_new : (s : State) (e : Envelope) → is_whole e.body ≡ true → kept_for s e ≡ None → wrong s e ≡ wrong_there s e
 unfolding wrong
 wrong_new s e whole new = (λ i. refuse (not (whole i)) BadForm (decoded (new i) (content_of e) (wrong_there s e)))

@@ -1,4 +1,4 @@
--- Every command keeps a sound state sound, and the opening state is sound.
+-- Every command keeps a consistent state consistent, and the opening state is consistent.
 use Rattle.std.proofs.Common.{◌≡◌, ◌∙◌, ℕ, ◌≤◌, refl, sym, ap, is_some, true, Option, Some, None, List, arith, nat_lt, nat_le, length}
 use Rattle.std.specs.Prelude.{not}
 use Rattle.std.specs.List.Sorted.{IsStrictlySortedBy}

@@ -1,4 +1,4 @@
--- What is taken from a sublot keeps a state sound.
+-- What is taken from a sublot keeps a state consistent.
 use Rattle.std.proofs.Common.{◌≡◌, ℕ, ◌≤◌, ◌∷◌, [], cond, true, false, List, Some, is_some, sym, subst, ap, refl, arith}
 use Rattle.plant_base.specs.State.{State, place_at, batch_at}
 use Rattle.plant_base.specs.declared.rows.Movement.{Movement}

@@ -1,4 +1,4 @@
--- What is decided of an event of a batch in a sound state, and its rows.
+-- What is decided of an event of a batch in a consistent state, and its rows.
 use Rattle.std.proofs.Common.{◌≡◌, ◌∙◌, ℕ, ◌+◌, ◌≤◌, ◌<◌, true, false, cond, List, [], ◌∷◌, ◌++◌, length, map, filter, Option, Some, None, Ok, Err, is_some, is_none, option_map, min, refl, sym, ap, arith}
 use Rattle.std.specs.Prelude.{not, count_by}
 use Rattle.std.specs.Cmp.Lexicographic.{texts_ties}
@@ -64,11 +64,11 @@ other_event es e batch other =
 pub batch_key : (s : State) (id : List ℕ) (b : Batch) → batch_at s id ≡ Some b → b.id ≡ id
 batch_key s id b found = same_id b.id id (found_passes (λ (x : Batch). same x.id id) s.batches b found)
 
--- and is sound
+-- and is consistent
 pub batch_consistent : (s : State) → DecisionInvariant s → (id : List ℕ) (b : Batch) → batch_at s id ≡ Some b → IsConsistentBatch (headers_of s.recipes) s.master_lines (orders_of s.jobs) s.batches s.control_lines b
 batch_consistent s sound id b found = found_keeps (IsConsistentBatch (headers_of s.recipes) s.master_lines (orders_of s.jobs) s.batches s.control_lines) (λ (x : Batch). same x.id id) s.batches b sound.batches.each found
 
--- a batch that is there already is put in its own place
+-- a batch that is there already replaces itself
 pub put_batch_there : (s : State) → DecisionInvariant s → (id : List ℕ) (b : Batch) → batch_at s id ≡ Some b → put batch_order b s.batches ≡ s.batches
 put_batch_there s sound id b found =
     let key = batch_key s id b found in
@@ -79,7 +79,7 @@ module _ (s : State) (sound : DecisionInvariant s) (t : Stamp) (id : List ℕ) (
   abbrev after : List BatchEvent
   after = s.events ++ event_row s.seq t id e ∷ []
 
-  -- the row of the batch tells the progress after the turn
+  -- the row of the batch has the progress after the turn
   its_row : batch_row s.control_lines after b ≡ row_at b p
   its_row =
       let phases = phases_among s.control_lines id in

@@ -1,4 +1,4 @@
--- What holds of the control recipes of a sound state: they are made from well-formed recipes.
+-- What holds of the control recipes of a consistent state: they are made from well-formed recipes.
 use Rattle.std.proofs.Common.{◌≡◌, ◌∙◌, ℕ, true, false, cond, List, map, Option, Some, None, refl, sym, ap, subst, arith}
 use Rattle.std.specs.Prelude.{◌&&◌, ◌==◌, nat_le}
 use Rattle.std.specs.List.{AllByRecursion, list_any}

@@ -1,4 +1,4 @@
--- Commands on recipes, orders and batches keep a state sound.
+-- Commands on recipes, orders and batches keep a state consistent.
 use Rattle.std.proofs.Common.{◌≡◌, ◌∙◌, ℕ, ◌+◌, true, false, List, [], ◌∷◌, ◌++◌, Option, Some, None, Result, Ok, Err, is_some, is_none, option_map, refl, sym, ap, subst}
 use Rattle.std.specs.Prelude.{not}
 use Rattle.std.specs.List.{All, AllByRecursion, list_all, list_any}
@@ -56,7 +56,7 @@ use Rattle.plant_rules_production.proofs.BatchRows.{batch_consistent, closed_at,
 use Rattle.plant_rules_production.proofs.ReleaseRows.{after}
 use Rattle.plant_rules_production.proofs.RunsPreserved.{job_own, runs_of_jobs, jobs_past, runs_released, is_closing, runs_happened, runs_closed}
 
--- what is sound of recipes, orders and batches makes the state sound, where the rest stays
+-- consistent recipes, orders and batches make the state consistent, where the rest stays
 pub with_production : (s : State) → DecisionInvariant s → (seq at : ℕ) (recipes : List Recipe) (master_lines : List MasterLine) (jobs : List Job) (batches : List Batch) (control_lines : List ControlLine) (events : List BatchEvent)
     → AreConsistentRecipes s.definitions recipes master_lines → AreConsistentOrders (headers_of recipes) jobs batches → AreConsistentBatches (headers_of recipes) master_lines (orders_of jobs) batches control_lines events → AreConsistentRuns jobs batches control_lines events → IsConsistentGenealogy batches s.movements
     → DecisionInvariant (record s { seq = seq; at = at; recipes = recipes; master_lines = master_lines; jobs = jobs; batches = batches; control_lines = control_lines; events = events })

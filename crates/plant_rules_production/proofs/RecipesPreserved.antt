@@ -1,4 +1,4 @@
--- What commands keep of sound recipes, and of the orders and batches that stand on them.
+-- What commands keep of consistent recipes, and of the orders and batches that use them.
 use Rattle.std.proofs.Common.{◌≡◌, ◌∙◌, ℕ, Bool, true, false, List, map, find, Option, Some, None, is_some, option_map, refl, sym, ap, subst}
 use Rattle.std.specs.Prelude.{◌&&◌, ◌==◌}
 use Rattle.std.specs.List.{AllByRecursion, list_all}
@@ -85,7 +85,7 @@ recipes_moved definitions recipes moved rows kept sorted sound = record {
   listed = subst (λ hs. AllByRecursion (λ (l : MasterLine). is_some (header_among hs l.recipe l.version) ≡ true) rows) (sym kept) sound.listed;
 }
 
--- ---- a recipe whose lines stand as before
+-- ---- a recipe whose lines are as before
 
 whole_alike : (definitions : List Definition) (rows more : List MasterLine) (h : Header) → rows_among more h.recipe h.version ≡ rows_among rows h.recipe h.version → IsWholeRecipe definitions rows h → IsWholeRecipe definitions more h
 whole_alike definitions rows more h e w =
@@ -124,7 +124,7 @@ module _ (definitions : List Definition) (recipes : List Recipe) (rows : List Ma
   abbrev is_there : List ℕ → ℕ → Bool
   is_there id version = is_some (header_among (headers_of recipes) id version)
 
-  -- the lines of other recipes stand as before
+  -- the lines of other recipes are as before
   other_rows : (id : List ℕ) (version : ℕ) → (same r.header.recipe id && r.header.version == version) ≡ false → rows_among more id version ≡ rows_among rows id version
   other_rows id version apart = filter_past_all master_line_order master_line_order_total (λ (l : MasterLine). same l.recipe id && l.version == version) (master_recipe_tied id version) (numbered (master_line r.header) 1 lines) rows (all_numbered (master_line r.header) (λ (l : MasterLine). (same l.recipe id && l.version == version) ≡ false) (λ k l. apart) 1 lines)
 
@@ -181,7 +181,7 @@ module _ (definitions : List Definition) (recipes : List Recipe) (rows : List Ma
     started = orders.started;
   }
 
-  -- the control recipe of an order stands as before
+  -- the control recipe of an order is as before
   control_stays : (o : Option OrderRow) (control : List RecipeLine) → control_of_order (headers_of recipes) rows o ≡ Some control → control_of_order headed more o ≡ Some control
   control_stays None control e = e
   control_stays (Some o) control e =

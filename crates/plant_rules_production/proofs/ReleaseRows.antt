@@ -1,4 +1,4 @@
--- What is decided of a release in a sound state, and its rows.
+-- What is decided of a release in a consistent state, and its rows.
 use Rattle.std.proofs.Common.{◌≡◌, ◌∙◌, ℕ, ◌+◌, ◌≤◌, ◌<◌, Bool, true, false, cond, List, [], ◌∷◌, length, map, filter, Option, Some, None, is_some, is_none, option_map, refl, sym, ap, arith}
 use Rattle.std.specs.Prelude.{◌&&◌, ◌==◌, not}
 use Rattle.std.specs.Cmp.Lexicographic.{texts_ties}
@@ -41,7 +41,7 @@ use Rattle.plant_view.proofs.HeadersFound.{header_found}
 use Rattle.plant_view.proofs.RowsInTurn.{all_of, none_left, find_mapped, filter_past_all, all_numbered}
 use Rattle.plant_view.proofs.RowKeys.{control_line_order_total, control_batch_tied, ids_apart}
 
--- ---- what a sound state has of an order that is there
+-- ---- what a consistent state has of an order that is there
 
 pub order_found : (s : State) (id : List ℕ) (job : Job) → job_at s id ≡ Some job → order_among (orders_of s.jobs) id ≡ Some job.order
 order_found s id job e = find_mapped (λ (o : OrderRow). same o.order id) (λ (j : Job). j.order) s.jobs ∙ ap (option_map (λ (j : Job). j.order)) e

@@ -52,7 +52,7 @@ job_own r jobs id key =
     let agrees : (q : Job) → test q ≡ is_eq (job_order r q) = λ q. (λ i. same q.order.order (sym key i)) ∙ texts_ties q.order.order r.order.order ∙ (eq_by_cmp_equiv job_order_total).symm q r in
     found_own job_order job_order_total r test jobs (ap (λ i. same i id) key ∙ same_itself id) agrees
 
--- what happened to batches is sound still where their orders stay as they are
+-- what happened to batches is consistent still where their orders stay as they are
 pub runs_of_jobs : (jobs later : List Job) (batches : List Batch) (control : List ControlLine) (events : List BatchEvent) → AllByRecursion (λ (b : Batch). job_among later b.job ≡ job_among jobs b.job) batches → AreConsistentRuns jobs batches control events → AreConsistentRuns later batches control events
 runs_of_jobs jobs later batches control events same_jobs runs = all_two _ _ _ (λ (b : Batch) stays w. record { allowed = w.allowed; finished = w.finished ∙ ap has_finished (sym stays) }) batches same_jobs runs
 

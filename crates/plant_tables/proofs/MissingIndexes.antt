@@ -32,7 +32,7 @@ use Rattle.plant_tables.proofs.WritingEnds.{cut_at, finds_same}
 abbrev pub name_of : CreateIndexStatement → List ℕ
 name_of text = text.name.now
 
--- each text names the index at its place
+-- each text names the index at its position
 abbrev pub AreNamed : List CreateIndexStatement → List IndexDef → Type 0
 AreNamed texts indexes = map name_of texts ≡ map (λ (index : IndexDef). index.name) indexes
 

@@ -48,9 +48,9 @@ later_is = by_older (λ v. later_table_defs v ≡ added_table_defs (v + 1) ++ la
 desk_is : (version : ℕ) → IsOlder version → desk_table_defs ≡ table_defs_of (version + 1) ++ later_table_defs (version + 1)
 desk_is = by_older (λ v. desk_table_defs ≡ table_defs_of (v + 1) ++ later_table_defs (v + 1)) refl refl refl
 
--- ---- lists of which one stands behind the other
+-- ---- a list after another
 
--- a place is one of the first list, or of the second
+-- a position is one of the first list, or of the second
 parted : {X : Type 0} (xs ys : List X) (i : ℕ) (x : X) → slice_get (xs ++ ys) i ≡ Some x → (slice_get xs i ≡ Some x) ⊎ ((j : ℕ) × (i ≡ length xs + j) × (slice_get ys j ≡ Some x))
 parted [] ys i x is = let same : i ≡ 0 + i = omega arith in inr (i, same, is)
 parted (z ∷ zs) ys zero x is = inl is
@@ -124,7 +124,7 @@ HasNoAdded t version = LacksLater version t → (j : ℕ) (table_def : TableDef)
 none_added : (t : Tables) (version : ℕ) → IsOlder version → HasNoAdded t version
 none_added t = by_older (HasNoAdded t) (no_edges t) (no_receipts t) (no_recalls t)
 
--- The tables that stand, and the added ones, which were made and are empty, are those of the next schema.
+-- The tables that exist, and the added ones, which were made and are empty, are those of the next schema.
 module _ (version : ℕ) (older : IsOlder version) (a b : State) (t : Tables) (founds : Founds (added_table_defs (version + 1)) a b) (lacks : LacksLater version t) (free : AreFree (later_table_defs version) a.now.schema) (holds : HoldsTablesOf version a.now t) where
   can_make : AreFree (added_table_defs (version + 1)) a.now.schema
   can_make = free_next version older a.now.schema free

@@ -50,7 +50,7 @@ module _ {R : Type 0} (enc : R → Row) (table_def : TableDef) (r : R) where
     by_order x xs above tie ties more Greater l =
         rw (tie ∙ ap is_eq l) (IsPermutation-trans _ _ _ (swapped (enc r) (enc x) (filter apart (map enc xs))) (IsPermutation-cons (enc x) _ _ more))
 
-    -- a row that takes the place of the one with its key
+    -- a row that replaces the one with its key
     pub put_by_key : (xs : List R) → IsStrictlySortedBy order xs → AllByRecursion (λ x. meets table_def (enc x) (enc r) ≡ is_eq (order r x)) xs → IsPermutation (rows.put table_def (enc r) (map enc xs)) (map enc (put order r xs))
     unfolding IsStrictlySortedBy
     put_by_key [] sorted ties = IsPermutation-refl _

@@ -31,7 +31,7 @@ pub take_moved : {X : Type 0} (schema place : ℕ) (table_def : TableDef) (text 
     → (old new : State) (r : Result X Fault) → OnOk r (DeletesRows text values old new) → OnOk r (Moves (table_defs_of schema) old new (taken_at place key values))
 take_moved schema place table_def text key values is says old new r = on_ok_weaker r (λ taken. taken (table_defs_of schema) place table_def key (apart_of schema) is says)
 
--- the places of the tables that later schemas add
+-- the indexes of the tables that later schemas add
 pub edge_place : (schema : ℕ) → nat_le 2 schema ≡ true → slice_get (table_defs_of schema) 13 ≡ Some edge_table
 edge_place = by_schema (λ s. nat_le 2 s ≡ true → slice_get (table_defs_of s) 13 ≡ Some edge_table) (λ e. absurd cc) (λ e. absurd cc) (λ _. refl) (λ _. refl) (λ s fourth _. rw fourth refl)
 
@@ -44,7 +44,7 @@ recall_place schema fourth = rw fourth refl
 pub mark_place : (schema : ℕ) → nat_le 4 schema ≡ true → slice_get (table_defs_of schema) 16 ≡ Some mark_table
 mark_place schema fourth = rw fourth refl
 
--- in the schemas before them, nothing stands there
+-- in the schemas before them, nothing is there
 pub no_edge_place : (schema : ℕ) → nat_le 2 schema ≡ false → slice_get (table_defs_of schema) 13 ≡ None
 no_edge_place = by_schema (λ s. nat_le 2 s ≡ false → slice_get (table_defs_of s) 13 ≡ None) (λ _. refl) (λ _. refl) (λ e. absurd cc) (λ e. absurd cc) (λ s fourth e. absurd (grind (arith, nat_tests)))
 
@@ -70,7 +70,7 @@ added_names_kept_free schema known texts is added old new r = on_ok_weaker r (λ
 texts_prefix : {X : Type 0} (text : X → List ℕ) (n : ℕ) (all prefix : List X) → prefix ≡ take n all → map text prefix ≡ take n (map text all)
 texts_prefix text n all prefix is = ap (map text) is ∙ sym (take-map text n all)
 
--- and those behind them
+-- and those after them
 texts_behind : {X : Type 0} (text : X → List ℕ) (n : ℕ) (all behind : List X) → behind ≡ drop n all → map text behind ≡ drop n (map text all)
 texts_behind text n all behind is = ap (map text) is ∙ sym (drop-map text n all)
 
@@ -85,7 +85,7 @@ indexed_so schema n own all prefix is texts old new r = on_ok_weaker r (λ made.
     let own_texts : map sql_of prefix ≡ take n index_texts = texts_prefix sql_of n all prefix is ∙ ap (take n) texts in
     made (table_defs_of schema) (indexes_of schema) (indexed_of schema) (subst (λ ts. AreCreateIndexStatements ts (indexes_of schema)) (sym own_texts) (subst (AreCreateIndexStatements (take n index_texts)) own (prefix_indexed n))))
 
--- The texts behind those of the second schema were run, and made what the fourth adds.
+-- The texts after those of the second schema were run, and made what the fourth adds.
 pub indexed_later : {X : Type 0} (n : ℕ) → drop n desk_indexes ≡ fourth_indexes → (all behind : List CreateIndexStatement) → behind ≡ drop n all → map sql_of all ≡ index_texts
     → (old new : State) (r : Result X Fault) → OnOk r (MakesIndexes (map sql_of behind) old new) → OnOk r (AddsIndexes (table_defs_of 4) fourth_indexes old new)
 indexed_later n own all behind is texts old new r = on_ok_weaker r (λ made.

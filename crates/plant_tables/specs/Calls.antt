@@ -10,7 +10,7 @@ use Rattle.plant_tables.specs.DeskTableDefs.{desk_table_defs, later_table_defs}
 use Rattle.plant_tables.specs.DeskCrashStates.{IsAtOf, FailureLeavesOf}
 use Rattle.plant_tables.specs.Schemas.{AreRisable, raising}
 
--- done, the store is at the raised tables, and tables of other names stand as they did
+-- done, the store is at the raised tables, and foreign tables are as they were
 abbrev pub RaisesNext : {A E : Type 0} → ℕ → Position → List RowChange → State → State → Result A E → Type 0
 RaisesNext version position added old new r = HasCleanDisk new → IsSettled old → (t : Tables) → AreRisable version added old.now t
     → OnOk r (IsAtOf (version + 1) new (changed_all (raising version position added) t) × KeepsOtherTables desk_table_defs old.now new.now)

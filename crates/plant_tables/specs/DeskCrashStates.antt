@@ -1,4 +1,4 @@
--- Where a store stands, and what a stop may leave of it, in the tables of the desk.
+-- The tables of the desk that a store has, and those that a stop may leave of it.
 use Rattle.std.specs.Prelude.{◌≡◌, ◌⊎◌, ℕ, IsTrue}
 use Rattle.sqlite.specs.Tree.{Trees}
 use Rattle.sqlite.specs.Schema.{Schema}
@@ -20,7 +20,7 @@ pub record IsAtOf (version : ℕ) (s : State) (t : Tables) : Type 0 where
 abbrev pub IsAt : State → Tables → Type 0
 IsAt = IsAtOf newest_schema
 
--- What an opening of these trees finds: these tables of a schema, and those of other names as they stood.
+-- What an opening of these trees finds: these tables of a schema, and the foreign ones as they were.
 pub record FindsOf (version : ℕ) (before : Database) (trees : Trees) (t : Tables) : Type 0 where
   pub schema : Schema
   pub holds : HoldsTablesOf version (record { schema = schema; trees = trees }) t
@@ -48,7 +48,7 @@ abbrev pub opening_tables : Tables
 opening_tables = tables_of newest_schema opening
 
 -- From a sound database in which no table, index or view bears one of their names, the tables were made, those of a desk
--- that has accepted nothing, and tables of other names stand as they did.
+-- that has accepted nothing, and foreign tables are as they were.
 abbrev pub MakesDesk : Database → Database → Type 0
 MakesDesk old new = IsDatabase old → AreFree desk_table_defs old.schema → HoldsTables new opening_tables × KeepsOtherTables desk_table_defs old new
 

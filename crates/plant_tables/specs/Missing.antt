@@ -36,12 +36,12 @@ abbrev pub AreAllTaken : Schema → Type 0
 AreAllTaken schema = (index : IndexDef) → Has desk_indexes index → is_used schema index.name ≡ true
 
 -- The texts were run: whatever tables of the desk the one database holds, the other holds them, with the indexes that the
--- texts make, and tables of other names stand as they did.
+-- texts make, and foreign tables are as they were.
 abbrev pub CreatesIndexes : List (List ℕ) → Database → Database → Type 0
 CreatesIndexes texts old new =
     (indexes : List IndexDef) → AreOf indexes desk_table_defs → AreCreateIndexStatements texts indexes → (t : Tables) → HoldsTables old t → HoldsTables new t × KeepsOtherTables desk_table_defs old new × HasIndexes indexes new.schema
 
--- Each index of the desk whose name was free is there, and tables of other names stand as they did.
+-- Each index of the desk whose name was free is there, and foreign tables are as they were.
 pub record AddsMissing (old new : Database) : Type 0 where
   pub made : (index : IndexDef) → Has desk_indexes index → is_used old.schema index.name ≡ false → HasIndex new.schema index
   pub others : KeepsOtherTables desk_table_defs old new

@@ -28,8 +28,8 @@ pub record AreRisable (version : ℕ) (added : List RowChange) (db : Database) (
   pub fresh : AreFresh added t
   pub kept : AreOfSchema (version + 1) added
 
--- From any such tables of an older schema that the one database holds, the other holds the raised ones of the next, tables
--- of other names stand as they did, and those that later ones add can still be made.
+-- From any such tables of an older schema that the one database holds, the other holds the raised ones of the next, foreign
+-- tables are as they were, and those that later ones add can still be made.
 abbrev pub RaisesTables : ℕ → Position → List RowChange → Database → Database → Type 0
 RaisesTables version position added old new =
     IsOlder version → (t : Tables) → AreRisable version added old t → HoldsTablesOf (version + 1) new (changed_all (raising version position added) t) × KeepsOtherTables desk_table_defs old new × AreFree (later_table_defs (version + 1)) new.schema

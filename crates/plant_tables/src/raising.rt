@@ -44,7 +44,7 @@ fn create_added<S: Alter>(tx: &mut Transaction<'_, S>, schema: u64) -> Result<()
     create_tables(tx, &[])
 }
 
-/// Makes the indexes that a schema adds to the one before it, of tables that stand and keep their rows. The one fault is
+/// Makes the indexes that a schema adds to the one before it, of tables that exist and keep their rows. The one fault is
 /// [`Fault::Store`], where the store refuses one, as where its name is taken.
 fn index_added<S: Alter>(tx: &mut Transaction<'_, S>, schema: u64) -> Result<(), Fault>
     ensures fault { IsOkUnless result Fault.Store }
@@ -93,7 +93,7 @@ impl<'a> Work for Raising<'a> {
 }
 
 /// Raises tables of a version to the next, in one transaction, whose commit is the last call of the store: the tables and
-/// the indexes that the next schema adds are made, the rows are put into these tables, and table meta tells that schema,
+/// the indexes that the next schema adds are made, the rows are put into these tables, and table meta has that schema,
 /// at the position that is given; the tables that later ones add can still be made. The one fault is [`Fault::Store`],
 /// where the store refuses a table, an index or a row, or where a number is above 2^63 - 1; then nothing is changed, but a
 /// commit that failed may be found made after a stop.

@@ -1,4 +1,4 @@
--- What columns that stand side by side keep, from what each keeps.
+-- What adjacent columns keep, from what each keeps.
 use Rattle.std.proofs.Common.{◌≡◌, refl, sym, ap, ap₂, ◌∙◌, subst, ℕ, suc, ◌+◌, List, [], ◌∷◌, ◌++◌, length, ◌==◌, true, Some, option_map, eqb-true, eq-eqb, arith}
 use Rattle.std.proofs.lemmas.Bool.{and_parts}
 use Rattle.std.specs.Bool.{⊤}
@@ -10,9 +10,9 @@ use Rattle.plant_tables_columns.specs.Columns.{Columns, Kind, one, ◌⊗◌, ma
 use Rattle.plant_tables_columns.proofs.OptionalValues.{bound, mapped, some_same, where_true}
 use Rattle.plant_tables_columns.proofs.KindLaws.{IsKind}
 
--- ---- values that stand in a row
+-- ---- values that a row has
 
--- from this column on stand these values
+-- the row has these values from this column on
 abbrev pub StoredFrom : Row → ℕ → Row → Type 0
 StoredFrom row at [] = ⊤
 StoredFrom row at (v ∷ vs) = (column row at ≡ v) × StoredFrom row (suc at) vs
@@ -37,12 +37,12 @@ behind : (r : Value) (row : Row) (at : ℕ) (vs : Row) → StoredFrom row at vs 
 behind r row at [] h = tt
 behind r row at (v ∷ vs) h = (h.0, behind r row (suc at) vs h.1)
 
--- a row's values stand in it
+-- a row has its values
 stand_itself : (row : Row) → StoredFrom row 0 row
 stand_itself [] = tt
 stand_itself (v ∷ vs) = (refl, behind v vs 0 vs (stand_itself vs))
 
--- and a row in which so many values stand is these
+-- and a row that has as many values as it is long is these
 whole : (row values : Row) → length row ≡ length values → StoredFrom row 0 values → row ≡ values
 whole [] [] long h = refl
 whole [] (v ∷ vs) long h = absurd (cc)
@@ -51,9 +51,9 @@ whole (r ∷ row) (v ∷ vs) long h = ap₂ (λ x xs. x ∷ xs) h.0 (whole row v
 
 -- ---- what columns keep
 
--- How columns are stored and read: something is stored as they are declared; where something was read, there stand the
--- columns that it is stored as, but for what isn't whole; where the columns of something good and whole stand, it is read;
--- and all that was read is good.
+-- How columns are stored and read: something is stored as they are declared; where something was read, the row has the
+-- columns that it is stored as, but for what isn't whole; where a row has the columns of something valid and whole, it is read;
+-- and all that was read is valid.
 pub record AreLawful {A : Type 0} (c : Columns A) (valid whole : A → Type 0) : Type 0 where
   pub fits : (a : A) → fits_columns c.declared (c.stored a) ≡ true
   pub back : (row : Row) (at : ℕ) (a : A) → c.read row at ≡ Some a → whole a → StoredFrom row at (c.stored a)

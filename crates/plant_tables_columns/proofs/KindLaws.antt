@@ -20,7 +20,7 @@ use Rattle.plant_tables_columns.specs.Reading.{text_in, integer_in, is_null, by_
 use Rattle.plant_tables_columns.proofs.OptionalValues.{bound, mapped, some_same, only_back, only_again}
 
 -- How a kind of value is stored in a column and read of it: it is stored as the column is declared; what was read is what
--- was stored, but for one that isn't whole; a good one that is whole is read again; and each that was read is good.
+-- was stored, but for one that isn't whole; a valid one that is whole is read again; and each that was read is valid.
 pub record IsKind {A : Type 0} (kind : Kind A) (valid whole : A → Type 0) : Type 0 where
   pub fits : (name : List ℕ) (a : A) → fits_columns (kind.declared name ∷ []) (kind.stored a ∷ []) ≡ true
   pub back : (v : Value) (a : A) → kind.read v ≡ Some a → whole a → v ≡ kind.stored a

@@ -128,7 +128,7 @@ phase_again : (unit_procedure operation phase : List ℕ) → HasLineValues (lin
 unfolding phase_from has_no_material is_zero
 phase_again unit_procedure operation phase valid = rw (id_kind.again unit_procedure valid.0 tt, id_kind.again operation valid.1 tt, id_kind.again phase valid.2 tt) refl
 
--- six columns stand where they are
+-- a row has its own six columns
 six_stand : (row : Row) (at : ℕ) → StoredFrom row at (column row at ∷ column row (at + 1) ∷ column row (at + 2) ∷ column row (at + 3) ∷ column row (at + 4) ∷ column row (at + 5) ∷ [])
 six_stand row at =
     let n1 : suc at ≡ at + 1 = omega arith in
@@ -138,7 +138,7 @@ six_stand row at =
     let n5 : suc (suc (suc (suc (suc at)))) ≡ at + 5 = omega arith in
     (refl, (ap (column row) n1, (ap (column row) n2, (ap (column row) n3, (ap (column row) n4, (ap (column row) n5, tt))))))
 
--- where six values stand, they are the line's columns
+-- where a row has six values, they are the line's columns
 six : (row : Row) (at : ℕ) (a b c d e f : Value) (o : Option RecipeLine) → StoredFrom row at (a ∷ b ∷ c ∷ d ∷ e ∷ f ∷ []) → line_from a b c d e f ≡ o → line_columns.read row at ≡ o
 six row at a b c d e f o h is =
     let n = six_stand row at in

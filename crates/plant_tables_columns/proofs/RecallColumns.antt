@@ -10,7 +10,7 @@ use Rattle.plant_tables_columns.specs.declared.recalls.RecallState.TheVariants a
 use Rattle.plant_tables_columns.specs.declared.recalls.StatedRecall.{StatedRecall}
 use Rattle.plant_tables_columns.proofs.OptionalValues.{bound, mapped, some_same, where_true, is_nothing}
 
--- the row tells of this lifting, or of none
+-- the row has this lifting, or none
 record Reports (r : StatedRecall) (lifting : Option Lifting) : Type 0 where
   pub lift_at : r.lift_at ≡ moment_of_lift lifting
   pub lift_by : r.lift_by ≡ person_of_lift lifting
@@ -30,7 +30,7 @@ one_reported r l h =
     let same : record { at = p1.0; by = p2.0; note = p3.0 } ≡ l = some_same _ _ p3.2 in
     subst (λ l. Reports r (Some l)) same (record { lift_at = p1.1; lift_by = p2.1; lift_note = p3.1 })
 
--- the row's state is that of this lifting, and it tells of it
+-- the row's state is that of this lifting, and the row has it
 record FitsState (s : RecallState) (r : StatedRecall) (lifting : Option Lifting) : Type 0 where
   pub is_state : s ≡ state_by lifting
   pub reports : Reports r lifting
@@ -43,7 +43,7 @@ state_fits state.Lifted r lifting h =
     let read = mapped Some (complete_lifting r) lifting h in
     subst (FitsState state.Lifted r) read.2 (record { is_state = refl; reports = one_reported r read.0 read.1 })
 
--- the row is the one that tells of its recall
+-- the row is the one of its recall
 pub recall_back : (r : StatedRecall) (q : Recall) → recall_from r ≡ Some q → r ≡ stated_of q
 unfolding recall_from
 recall_back r q h =
@@ -56,7 +56,7 @@ own_lifting : (lifting : Option Lifting) (r : Recall) → r.lifting ≡ lifting 
 own_lifting None r is = rw is refl
 own_lifting (Some l) r is = rw is refl
 
--- the row that tells of a recall tells of it
+-- the recall that is decoded from a recall's row is that recall
 pub recall_again : (r : Recall) → recall_from (stated_of r) ≡ Some r
 unfolding recall_from
 recall_again r = rw (own_lifting r.lifting r refl) refl

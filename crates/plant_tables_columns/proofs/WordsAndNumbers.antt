@@ -51,7 +51,7 @@ int_same x y h = (Decides-int_eq x y).0 h
 numbered_back : {A : Type 0} (number : A → ℕ) (all : List A) (z : ℤ) (a : A) → numbered number all z ≡ Some a → z ≡ pos (number a)
 numbered_back number all z a h = sym (int_same (pos (number a)) z (found_passes (λ x. int_eq (pos (number x)) z) all a h))
 
--- what a list tells apart by names, each of which finds its own
+-- what is stored by a name, of a list in which each finds itself by its name
 pub named_kind : {A : Type 0} (name : A → List ℕ) (all : List A) → ((a : A) → named name all (name a) ≡ Some a)
     → IsKind (record { declared = text; stored = λ a. Text (name a); read = by_text (named name all) }) Any Any
 named_kind name all own = text_kind (named name all) name Any (named_back name all) (λ a _. own a) (λ bytes a h. tt)

@@ -1,4 +1,4 @@
--- How something is stored: in one column, and in columns that stand side by side.
+-- How something is stored: in one column, and in adjacent columns.
 use Rattle.std.specs.Prelude.{ℕ, ◌+◌, ◌==◌, List, [], ◌∷◌, ◌++◌, length, Option, Some, None, option_map, if◌then◌else◌}
 use Rattle.sqlite.specs.declared.types.Value.{Value}
 use Rattle.sqlite.specs.Order.{Row, column}
@@ -11,8 +11,8 @@ pub record Kind (A : Type 0) : Type 0 where
   pub stored : A → Value
   pub read : Value → Option A
 
--- Columns that stand side by side: how they are declared, what something is stored as in them, and what a row says in
--- them from a place on.
+-- Adjacent columns: how they are declared, what something is stored as in them, and what a row says in
+-- them from a column index on.
 pub record Columns (A : Type 0) : Type 0 where
   pub declared : List Column
   pub stored : A → Row
@@ -27,7 +27,7 @@ one name kind = record {
 }
 
 infixr 11 ◌⊗◌
--- these, and those that stand behind them
+-- these, and those that come after them
 abbrev pub ◌⊗◌ : {A B : Type 0} → Columns A → Columns B → Columns (A × B)
 a ⊗ b = record {
   declared = a.declared ++ b.declared;

@@ -1,4 +1,4 @@
--- The words and numbers that stand for states, events and kinds.
+-- The words and numbers of states, events and kinds.
 use Rattle.std.specs.Prelude.{ℕ, ℤ, pos, List, [], ◌∷◌, Option, Some, option_map, find, codes, if◌then◌else◌}
 use Rattle.std.specs.Ordering.{int_eq}
 use Rattle.sqlite.specs.declared.types.Value.{Value}

@@ -8,7 +8,7 @@ use Rattle.sqlite.specs.declared.types.Value.TheVariants.{Null, Int, Real, Text,
 use Rattle.plant_base.specs.Values.{only, is_id, is_text, is_unit, greatest_amount, greatest_moment, greatest_sublot}
 use Rattle.plant_base.specs.Dates.{is_due}
 
--- ---- what stands in a column
+-- ---- the value of a column
 
 abbrev pub text_in : Value → Option (List ℕ)
 text_in Null = None
@@ -49,7 +49,7 @@ unit_from = by_text (only is_unit)
 unfoldable pub due_from : Value → Option (List ℕ)
 due_from = by_text (only is_due)
 
--- any text is a content: one that isn't ASCII is read as the empty one, which the rule on receipts tells
+-- any text is a content: one that isn't ASCII is read as the empty one, which the rule on receipts finds
 abbrev pub content_in : List ℕ → List ℕ
 content_in bytes = if list_all is_ascii bytes then bytes else []
 
@@ -116,7 +116,7 @@ sublot_or_null = or_null sublot_number_from
 unfoldable pub moment_or_null : Value → Option (Option ℕ)
 moment_or_null = or_null moment_from
 
--- a text that people read, where one stands
+-- a text that people read, where there is one
 unfoldable pub readable_or_null : Value → Option (Option (List ℕ))
 readable_or_null = or_null text_from
 

@@ -1,4 +1,4 @@
--- The recall that a row of table recall tells of, where the columns of its lifting are those of its state.
+-- The recall that is decoded from a row of table recall, where the columns of its lifting are those of its state.
 use Rattle.std.specs.Prelude.{ℕ, Bool, ◌&&◌, List, Option, Some, None, is_none, option_map, if◌then◌else◌}
 use Rattle.plant_base.specs.Options.{◌>>=◌}
 use Rattle.plant_base.specs.declared.rows.Lifting.{Lifting}
@@ -7,11 +7,11 @@ use Rattle.plant_tables_columns.specs.declared.recalls.RecallState.{RecallState}
 use Rattle.plant_tables_columns.specs.declared.recalls.RecallState.TheVariants as state
 use Rattle.plant_tables_columns.specs.declared.recalls.StatedRecall.{StatedRecall}
 
--- the row tells of no lifting
+-- the row has no column of a lifting
 abbrev pub has_no_lifting : StatedRecall → Bool
 has_no_lifting r = is_none r.lift_at && is_none r.lift_by && is_none r.lift_note
 
--- the lifting, where the row tells all of it
+-- the lifting, where the row has all of it
 abbrev pub complete_lifting : StatedRecall → Option Lifting
 complete_lifting r = do
   at ← r.lift_at
@@ -19,7 +19,7 @@ complete_lifting r = do
   note ← r.lift_note
   Some (record { at = at; by = by; note = note })
 
--- the lifting that a recall in this state has, where the row tells just that
+-- the lifting that a recall in this state has, where the row has just that
 abbrev pub lifting_of_state : RecallState → StatedRecall → Option (Option Lifting)
 lifting_of_state state.Open r = if has_no_lifting r then Some None else None
 lifting_of_state state.Lifted r = option_map Some (complete_lifting r)
@@ -35,7 +35,7 @@ recalled_with r lifting = record { id = r.id; lot = r.lot; at = r.at; by = r.by;
 unfoldable pub recall_from : StatedRecall → Option Recall
 recall_from r = option_map (recalled_with r) (lifting_from r)
 
--- ---- the row that tells of a recall
+-- ---- the row of a recall
 
 abbrev pub state_by : Option Lifting → RecallState
 state_by None = state.Open

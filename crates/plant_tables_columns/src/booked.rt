@@ -31,7 +31,7 @@ pub enum MovementKindCode {
 }
 
 impl MovementKindCode {
-    /// The number that stands for it in the table, 1 to 7.
+    /// Its number in the table, 1 to 7.
     pub fn number(self) -> i64
         ensures { result ≡ pos (movement_kind_number self) }
     {

@@ -1,5 +1,5 @@
 //! The columns of the desk's tables: how each is stored, how it is read by the rule of its values, and the row of the
-//! desk that a stored row stands for.
+//! desk that is decoded from a stored row.
 #![tactic(auto)]
 
 mod booked;

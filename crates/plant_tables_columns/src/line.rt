@@ -27,7 +27,7 @@ pub enum LineKindCode {
 }
 
 impl LineKindCode {
-    /// The number that stands for it in a table.
+    /// Its number in a table.
     fn number(self) -> i64
         ensures { result ≡ pos (line_kind_number self) }
     {

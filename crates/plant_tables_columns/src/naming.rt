@@ -1,4 +1,4 @@
-//! The words that stand for states and events.
+//! The words of states and events.
 
 ghost use Rattle.std.specs.Prelude.{◌≡◌};
 ghost use Rattle.sqlite.specs.Order.{column};

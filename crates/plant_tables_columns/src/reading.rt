@@ -55,7 +55,7 @@ pub(crate) fn integer(row: &Row, at: usize) -> Option<i64>
     }
 }
 
-/// Whether the column at this place of the row is NULL.
+/// Whether the column of the row with this index is NULL.
 pub(crate) fn is_null(row: &Row, at: usize) -> bool
     ensures { result ≡ is_null (column row.now at) }
 {
@@ -194,7 +194,7 @@ pub(crate) fn flag(row: &Row, at: usize) -> Option<bool>
     Some(n >= 1)
 }
 
-/// An id or none. `None` where bytes stand that are no id.
+/// An id or none. `None` where there are bytes that are no id.
 #[tactic(auto, unfolding(crate::specs::Reading::id_or_null))]
 pub(crate) fn optional_id(row: &Row, at: usize) -> Option<Option<Id>>
     ensures { result ≡ id_or_null (column row.now at) }
@@ -205,7 +205,7 @@ pub(crate) fn optional_id(row: &Row, at: usize) -> Option<Option<Id>>
     Some(Some(id(row, at)?))
 }
 
-/// The number of a sublot or none. `None` where a number stands that no sublot can have.
+/// The number of a sublot or none. `None` where there is a number that no sublot can have.
 #[tactic(auto, unfolding(crate::specs::Reading::sublot_or_null))]
 pub(crate) fn optional_sublot(row: &Row, at: usize) -> Option<Option<u16>>
     ensures { result ≡ sublot_or_null (column row.now at) }
@@ -216,7 +216,7 @@ pub(crate) fn optional_sublot(row: &Row, at: usize) -> Option<Option<u16>>
     Some(Some(sublot_number(row, at)?))
 }
 
-/// A moment or none. `None` where a number stands that is no moment.
+/// A moment or none. `None` where there is a number that is no moment.
 #[tactic(auto, unfolding(crate::specs::Reading::moment_or_null))]
 pub(crate) fn optional_moment(row: &Row, at: usize) -> Option<Option<Moment>>
     ensures { result ≡ moment_or_null (column row.now at) }
@@ -227,7 +227,7 @@ pub(crate) fn optional_moment(row: &Row, at: usize) -> Option<Option<Moment>>
     Some(Some(moment(row, at)?))
 }
 
-/// A text that people read, or none. `None` where bytes stand that are no such text.
+/// A text that people read, or none. `None` where there are bytes that are no such text.
 #[tactic(auto, unfolding(crate::specs::Reading::readable_or_null))]
 pub(crate) fn optional_text(row: &Row, at: usize) -> Option<Option<Text>>
     ensures { result ≡ readable_or_null (column row.now at) }

@@ -27,7 +27,7 @@ pub enum RecallState {
 }
 
 impl RecallState {
-    /// The word that stands for it in the table.
+    /// Its word in the table.
     pub fn name(self) -> &'static str
         ensures { result.now ≡ recall_state_name self }
     {
@@ -70,23 +70,23 @@ pub struct StatedRecall {
     pub by: Text,
     /// The operator's note; empty where there is none.
     pub note: Text,
-    /// When it was lifted, where the row tells it.
+    /// When it was lifted, where the row has it.
     pub lift_at: Option<Moment>,
-    /// Who lifted it, where the row tells it.
+    /// Who lifted it, where the row has it.
     pub lift_by: Option<Text>,
-    /// What was said then, where the row tells it.
+    /// What was said then, where the row has it.
     pub lift_note: Option<Text>,
 }
 
 impl StatedRecall {
-    /// Whether it tells of no lifting.
+    /// Whether it has no column of a lifting.
     fn has_no_lifting(&self) -> bool
         ensures { result ≡ has_no_lifting self.now }
     {
         self.lift_at.is_none() && self.lift_by.is_none() && self.lift_note.is_none()
     }
 
-    /// The lifting, where it tells all of it.
+    /// The lifting, where it has all of it.
     fn complete_lifting(&self) -> Option<Lifting>
         ensures { result ≡ complete_lifting self.now }
     {
@@ -96,7 +96,7 @@ impl StatedRecall {
         Some(Lifting { at, by, note })
     }
 
-    /// The lifting of a recall in its state. `None` where its columns tell another.
+    /// The lifting of a recall in its state. `None` where its columns are those of another.
     fn lifting(&self) -> Option<Option<Lifting>>
         ensures { result ≡ lifting_from self.now }
     {
@@ -115,7 +115,7 @@ impl StatedRecall {
         }
     }
 
-    /// The recall that it tells of. `None` exactly where the columns of its lifting aren't those of its state: an open
+    /// The recall that is decoded from it. `None` exactly where the columns of its lifting aren't those of its state: an open
     /// recall has none of them, and a lifted one has all.
     #[tactic(auto, unfolding(crate::specs::StatedRecalls::recall_from))]
     pub fn recall(&self) -> Option<Recall>

@@ -41,7 +41,7 @@ fn ascii_or_empty(bytes: &[u8]) -> &str
     }
 }
 
-/// A content. `None` where no text stands; an error where there is no memory.
+/// A content. `None` where there is no text; an error where there is no memory.
 #[tactic(auto, unfolding(crate::specs::Reading::content_from))]
 fn content(alloc: Global, row: &Row, at: usize) -> Result<Option<Content>, AllocError>
     ensures { IfOk result (λ content. content ≡ content_from (column row.now at)) }
@@ -65,7 +65,7 @@ pub fn receipt_values<'a>(row: &'a Receipt, seq: ValueRef<'a>) -> [ValueRef<'a>;
     ]
 }
 
-/// The receipt that a stored row stands for. `None` where the row has another number of columns, or a value breaks its
+/// The receipt that is decoded from a stored row. `None` where the row has another number of columns, or a value breaks its
 /// rule; an error where there is no memory.
 #[tactic(auto, unfolding(crate::specs::TableColumns::receipt_from))]
 fn decode_receipt(alloc: Global, row: &Row) -> Result<Option<Receipt>, AllocError>
@@ -90,9 +90,9 @@ fn decode_receipt(alloc: Global, row: &Row) -> Result<Option<Receipt>, AllocErro
     }))
 }
 
-/// The receipts that all stored rows stand for, in their order. `None` where one stands for none: where it has another
+/// The receipts that are decoded from all stored rows, in their order. `None` where one can't be: where it has another
 /// number of columns, or its reference or its number breaks its rule. Any text is read as a content: the rule on
-/// receipts tells those that are none. An error where there is no memory.
+/// receipts finds those that are none. An error where there is no memory.
 pub fn decode_receipts(alloc: Global, stored: &[Row]) -> Result<Option<Vec<Receipt>>, AllocError>
     ensures { IfOk result (λ rows. option_map (λ list. list.items) rows
         ≡ all_from receipt_from stored.now) }

@@ -39,14 +39,14 @@ module _ {R : Type 0} (row_from : Row → Option R) (written : R → Row) (P : R
       let each : AllByRecursion P (p1.0 ∷ p2.0) = subst (AllByRecursion P) (sym same) all in
       (λ i. back x p1.0 p1.1 each.0 i ∷ all_back xs p2.0 p2.1 each.1 i) ∙ ap (map written) same
 
--- ---- what stands in a row's own columns is read as the row
+-- ---- a row's own columns are read as the row
 
 module _ {R T : Type 0} (row_from : Row → Option T) (written : R → Row) (made : R → T) (P : R → Type 0) (again : (r : R) → P r → row_from (written r) ≡ Some (made r)) where
   pub all_again : (rs : List R) → AllByRecursion P rs → all_from row_from (map written rs) ≡ Some (map made rs)
   all_again [] all = refl
   all_again (r ∷ rs) all = rw (again r all.0, all_again rs all.1) refl
 
--- ---- the rows of a table that were loaded are those that stand in it
+-- ---- the rows of a table that were loaded are those that it has
 
 same_rows : (db : Database) (table_def : TableDef) (loaded rows : List Row) → Lists db table_def loaded → HasStoredRows db table_def rows → IsPermutation loaded rows
 same_rows db table_def loaded rows a b =

@@ -21,7 +21,7 @@ Tables = List (Vec Row Global)
 abbrev pub at_place : Tables → ℕ → List Row
 at_place tables place = slice_index_or (map (λ table. table.items) tables) place []
 
--- the fact holds of the rows of each of the first tables, by its form
+-- the fact holds of the rows of each of the first tables, by its definition
 abbrev pub Front : (TableDef → List Row → Type 0) → List TableDef → ℕ → Tables → Type 0
 Front P table_defs n tables = (place : ℕ) (table_def : TableDef) → slice_get table_defs place ≡ Some table_def → place < n → P table_def (at_place tables place)
 
@@ -40,7 +40,7 @@ prefix_more P table_defs n tables rows table_def len this it prefix place other 
           rw (at, get_or-append_seam lists rows.items [] []) (subst (λ f. P f rows.items) same it)
     ])
 
--- nothing stands behind the last
+-- nothing comes after the last
 beyond : (table_defs : List TableDef) (tables : Tables) (n : ℕ) → n ≡ length table_defs → length tables ≡ n → (place : ℕ) → slice_get table_defs place ≡ None → at_place tables place ≡ []
 beyond table_defs tables n all len place none =
     let high : length table_defs ≤ place = elim ((slice_get_cases table_defs place).1) [

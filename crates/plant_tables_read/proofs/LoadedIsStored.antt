@@ -1,4 +1,4 @@
--- What was loaded stands in the tables, as the writing side asks.
+-- The tables have what was loaded, as the writing side asks.
 use Rattle.std.proofs.Common.{ℕ}
 use Rattle.sqlite.specs.Effect.{Database, IsDatabase}
 use Rattle.sql_tables.specs.StoredRows.{HaveStoredRows}

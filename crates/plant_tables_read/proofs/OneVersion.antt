@@ -1,4 +1,4 @@
--- A store tells one version at most, and none where the names are free.
+-- A store has one version at most, and none where the names are free.
 use Rattle.std.proofs.Common.{◌≡◌, sym, ap, subst, subst₂, ◌∙◌, ◌≤◌, ◌<◌, length, get_or, Bool, true, false, ℤ, pos, List, [], ◌∷◌, All, arith}
 use Rattle.std.specs.Prelude.{◌↔◌}
 use Rattle.std.proofs.lemmas.Bool.{false≢true}
@@ -24,13 +24,13 @@ version_row db list n lists v = one_permutation v.row list (lists_same db meta_t
 pub no_version : (db : Database) (list : List Row) → Lists db meta_table list → ((row : Row) → list ≡ row ∷ [] → ¬ IsValidMeta row) → (n : ℤ) → ¬ IsVersion db n
 no_version db list lists none n v = none v.row (version_row db list n lists v) v.valid
 
--- equal rows tell one version
+-- equal rows have one version
 schema_kept : (row row' : Row) → row ≡ row' → (a : IsValidMeta row) (b : IsValidMeta row') → a.schema ≡ b.schema
 schema_kept row row' same a b =
     let both : Int (pos 1) ∷ Int a.schema ∷ Int a.seq ∷ Int a.at ∷ [] ≡ Int (pos 1) ∷ Int b.schema ∷ Int b.seq ∷ Int b.at ∷ [] = sym a.is ∙ same ∙ b.is in
     cc
 
--- a row of good numbers is a good row
+-- a row of valid numbers is a valid row
 pub reported_valid : (row : Row) (meta : MetaNumbers) → row ≡ row_of meta → IsValidMeta (row_of meta) → (valid : IsValidMeta row) × (valid.schema ≡ meta.schema)
 reported_valid row meta is valid =
     let numbers : Int meta.k ∷ Int meta.schema ∷ Int meta.seq ∷ Int meta.at ∷ [] ≡ Int (pos 1) ∷ Int valid.schema ∷ Int valid.seq ∷ Int valid.at ∷ [] = valid.is in
@@ -71,7 +71,7 @@ are_free schema free counted = record {
 pub each_free : (schema : Schema) → AreFree desk_table_defs schema → All (IsFree schema) desk_table_defs
 each_free schema free i d low = free.each i _ (slice_get-get_or desk_table_defs i d low)
 
--- where a test of the names tells that not all of them are free
+-- where a test of the names finds that not all of them are free
 pub not_free : (there schema : Schema) (table_defs : List TableDef) (all : Bool) → there ≡ schema → table_defs ≡ desk_table_defs → (all ≡ true) ↔ All (IsFree there) table_defs → all ≡ false → ¬ All (IsFree schema) desk_table_defs
 not_free there schema table_defs all here same reported failed free = false≢true (sym failed ∙ reported.1 (subst₂ (λ s fs. All (IsFree s) fs) (sym here) (sym same) free))
 

@@ -1,4 +1,4 @@
--- The tables of a schema, and those that a later one adds, in what a test of each tells.
+-- The tables of a schema, and those that a later one adds, by what a test of each finds.
 use Rattle.std.proofs.Common.{◌≡◌, ◌∙◌, ap, sym, subst, ℕ, List, take, drop, Bool, true, false, All}
 use Rattle.std.specs.Prelude.{◌↔◌}
 use Rattle.std.proofs.lemmas.Bool.{false≢true}

@@ -15,11 +15,11 @@ pub record Loads (db : Database) (table_def : TableDef) (list : List Row) : Type
   pub rows : Lists db table_def list
   pub rising : Rises (comes_before table_def) list
 
--- the rows of each table, by the place of its form
+-- the rows of each table, by the index of its definition
 abbrev pub contents_loaded : Loaded → Contents
 contents_loaded x place = slice_index_or (map (λ table. table.items) x.tables.items) place []
 
--- the tables at the other places are the same
+-- the tables of the other indexes are the same
 abbrev pub HasOthers : ℕ → Loaded → Loaded → Type 0
 HasOthers place x y = (at : ℕ) → ¬ (at ≡ place) → contents_loaded y at ≡ contents_loaded x at
 

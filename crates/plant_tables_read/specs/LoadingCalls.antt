@@ -14,7 +14,7 @@ use Rattle.plant_tables_read.specs.declared.loaded.Loaded.{Loaded}
 
 -- ---- which tables there are
 
--- they are found in a version exactly where table meta tells it
+-- they are found in a version exactly where table meta has it
 abbrev pub FindsVersion : State → State → Result FoundTables Fault → Type 0
 FindsVersion old new r = HasCleanDisk new → IfOk r (λ found. (n : ℤ) → (found ≡ Version n) ↔ IsVersion old.now n)
 
@@ -32,10 +32,10 @@ WantsMeta old new r = HasCleanDisk new → IfErr r (λ fault. fault ≡ Memory �
 abbrev pub FindsLoaded : ℕ → State → State → Result (Option Loaded) Fault → Type 0
 FindsLoaded schema old new r = HasCleanDisk new → IfOk r (λ found. IfSome found (AreLoaded schema old.now))
 
--- with which each table stands, where the rowids of each rise
+-- with the stored rows of each table, where the rowids of each rise
 abbrev pub FindsStored : ℕ → State → State → Result (Option Loaded) Fault → Type 0
 FindsStored schema old new r = HasCleanDisk new → IsRising old.now → IfOk r (λ found. IfSome found (λ loaded. HaveStoredRows (table_defs_of schema) old.now (contents_loaded loaded)))
 
--- where tables of a known schema don't stand, that is told, and no fault
+-- where tables of a known schema are missing, that is reported, and no fault
 abbrev pub ReportsLacking : ℕ → State → Result (Option Loaded) Fault → Type 0
 ReportsLacking schema old r = IsKnown schema → ¬ HasTablesOf schema old.now.schema → IfErr r (λ _. ⊥)

@@ -26,7 +26,7 @@ abbrev pub AreReadAgain : Type 0
 AreReadAgain = (schema : ℕ) (db : Database) (t : Tables) (x : Loaded) → HoldsTablesOf schema db t → LacksLater schema t → AreInOrder t → HasValidValues t → AreLoaded schema db x
     → rows_from x ≡ Some (rows_in t)
 
--- The rows of good tables have numbers, the columns of their kinds and states, and contents.
+-- The rows of valid tables have numbers, the columns of their kinds and states, and contents.
 abbrev pub AreWholeRows : Type 0
 AreWholeRows = (t : Tables) → HasValidValues t → AreWhole (rows_in t)
 
@@ -38,6 +38,6 @@ AreSameTables = (t : Tables) → tables_in (rows_in t) ≡ t
 abbrev pub IsBookedAgain : Type 0
 IsBookedAgain = (m : Movement) → movement_from (booked_of m) ≡ Some m
 
--- The row that tells of a recall tells of that recall.
+-- The recall that is decoded from a recall's row is that recall.
 abbrev pub IsStatedAgain : Type 0
 IsStatedAgain = (r : Recall) → recall_from (stated_of r) ≡ Some r

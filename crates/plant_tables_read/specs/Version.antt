@@ -1,4 +1,4 @@
--- What table meta tells of the version of the tables.
+-- What table meta says of the version of the tables.
 use Rattle.std.specs.Prelude.{◌≡◌, ◌≤◌, ◌≤ℤ◌, ◌∷◌, [], ℕ, ℤ, pos, All}
 use Rattle.sqlite.specs.Effect.{Database}
 use Rattle.sqlite.specs.Order.{Row}
@@ -27,7 +27,7 @@ pub record IsValidMeta (row : Row) : Type 0 where
   pub at_low : pos 0 ≤ℤ at
   pub at_high : at ≤ℤ pos greatest_moment
 
--- table meta has one row, which is good and tells this version
+-- table meta has one row, which is valid and has this version
 pub record IsVersion (db : Database) (n : ℤ) : Type 0 where
   pub row : Row
   pub alone : Lists db meta_table (row ∷ [])
@@ -38,6 +38,6 @@ pub record IsVersion (db : Database) (n : ℤ) : Type 0 where
 abbrev pub IsKnown : ℕ → Type 0
 IsKnown schema = (1 ≤ schema) × (schema ≤ newest_schema)
 
--- the tables of the schema stand as they are declared, and none that a later one adds
+-- the tables of the schema are declared as their definitions say, and none that a later one adds exists
 abbrev pub HasTablesOf : ℕ → Schema → Type 0
 HasTablesOf schema there = All (HasTable there) (table_defs_of schema) × All (IsFree there) (later_table_defs schema)

@@ -31,7 +31,7 @@ use std::alloc::Global;
 pub enum FoundTables {
     /// None of them: their names are free, and they can be made.
     Nothing,
-    /// Some, but table meta doesn't stand as it is declared, or hasn't one row, or has a row with a number that it can't
+    /// Some, but table meta isn't declared as its definition says, or hasn't one row, or has a row with a number that it can't
     /// have.
     NoMeta,
     /// Some, of this version, which is at least 1.
@@ -47,7 +47,7 @@ struct MetaNumbers {
     at: i64,
 }
 
-/// The number in a column, where one stands there.
+/// The number in a column, where there is one.
 fn number(row: &Row, at: usize) -> Option<i64>
     ensures some { IfSome result (λ n. column row.now at ≡ Int n) }
     ensures none { result ≡ None → (n : ℤ) → column row.now at ≢ Int n }
@@ -86,7 +86,7 @@ fn is_valid(meta: &MetaNumbers) -> bool
         && meta.at <= GREATEST_MOMENT as i64
 }
 
-/// The version that a row of table meta tells, where it is good.
+/// The version in a row of table meta, where the row is valid.
 fn version_of(row: &Row) -> Option<i64>
     ensures some { IfSome result (λ n. (valid : IsValidMeta row.now) × (valid.schema ≡ n)) }
     ensures none { result ≡ None → ¬ IsValidMeta row.now }
@@ -99,7 +99,7 @@ fn version_of(row: &Row) -> Option<i64>
     }
 }
 
-/// The version that the one row tells, where it is good.
+/// The version in the one row, where the row is valid.
 fn version_in(list: &[Row]) -> Option<i64>
     ensures some { IfSome result (λ n. (row : Values) × (list.now ≡ row ∷ [])
         × (valid : IsValidMeta row) × (valid.schema ≡ n)) }
@@ -111,8 +111,8 @@ fn version_in(list: &[Row]) -> Option<i64>
     }
 }
 
-/// The version that table meta tells. `None` where it doesn't stand as it is declared, hasn't one row, or has a row
-/// that isn't good. The faults are those of [`found`].
+/// The version in table meta. `None` where it isn't declared as its definition says, hasn't one row, or has a row
+/// that isn't valid. The faults are those of [`found`].
 fn version<S: Alter>(alloc: Global, conn: &mut Connection<S>) -> Result<Option<i64>, Fault>
     ensures some { HasCleanDisk (state S.Store conn.new)
         → IfOk result (λ found. IfSome found (IsVersion (state S.Store conn.old).now)) }
@@ -131,7 +131,7 @@ fn version<S: Alter>(alloc: Global, conn: &mut Connection<S>) -> Result<Option<i
     Ok(version_in(list.as_slice()))
 }
 
-/// The rows of table meta, as they are stored. Store where it doesn't stand as it is declared, where a transaction is
+/// The rows of table meta, as they are stored. Store where it isn't declared as its definition says, where a transaction is
 /// open, and where the store fails; Memory where there is none. Nothing is changed.
 pub fn read_meta<S: Alter>(alloc: Global, conn: &mut Connection<S>) -> Result<Vec<Row>, Fault>
     ensures rows { HasCleanDisk (state S.Store conn.new)

@@ -18,7 +18,7 @@ use std::alloc::Global;
 use std::mem::replace;
 
 /// Every row of the desk's tables as it is stored: the rows of each table by its key, the tables in the order of their
-/// forms. Values that break a rule are kept as they are.
+/// definitions. Values that break a rule are kept as they are.
 #[derive(Drop)]
 pub struct Loaded {
     /// The rows of each table, as many tables as the schema has.
@@ -37,7 +37,7 @@ fn keep(tables: &mut Vec<Vec<Row>>, rows: Vec<Row>) -> Result<(), Fault>
 }
 
 impl Loaded {
-    /// The rows of the table at this place, the first being 0; none where there is no such table.
+    /// The rows of the table of this index, the first being 0; none where there is no such table.
     pub fn rows(&self, place: usize) -> &[Row]
         ensures { result.now ≡ contents_loaded self.now place }
     {
@@ -47,7 +47,7 @@ impl Loaded {
         }
     }
 
-    /// Takes the rows of the table at this place, the first being 0, out of those that were loaded: none where there is no such
+    /// Takes the rows of the table of this index, the first being 0, out of those that were loaded: none where there is no such
     /// table. Afterwards the table is empty, and the others are as they were.
     #[tactic(auto, using(crate::proofs::MovementsFirst::table_kept))]
     pub(crate) fn take(&mut self, alloc: Global, place: usize) -> Vec<Row>
@@ -60,8 +60,8 @@ impl Loaded {
         }
     }
 
-    /// Reads every row of the tables of a schema, one query a table. `None` where one of them doesn't stand as it is
-    /// declared, or the name of one that a later schema adds isn't free. Store where the schema isn't known, where a
+    /// Reads every row of the tables of a schema, one query a table. `None` where one of them isn't declared as its
+    /// definition says, or the name of one that a later schema adds isn't free. Store where the schema isn't known, where a
     /// transaction is open, and where the store fails; Memory where there is none. Nothing is changed.
     pub fn read<S: Alter>(
         alloc: Global,
@@ -81,7 +81,7 @@ impl Loaded {
         ensures kept { KeepsVisible (state S.Store conn.old) (state S.Store conn.new) }
         ensures mode { BeginsNone (state S.Store conn.old) (state S.Store conn.new) }
         ensures crash { Survives (state S.Store conn.old) (state S.Store conn.new) (λ _. ⊥) }
-        // Memory is wanted for the rows of a schema that is known, all tables of which stand.
+        // Memory is wanted for the rows of a schema that is known, all tables of which exist.
         ensures known { IfErr result (λ fault. fault ≡ Fault.Memory → IsKnown schema) }
         ensures memory { IfErr result (λ fault. fault ≡ Fault.Memory
             → HasTablesOf schema (state S.Store conn.old).now.schema) }
@@ -118,7 +118,7 @@ impl Loaded {
     }
 }
 
-/// Whether the tables of a schema stand as they are declared, and none that a later one adds.
+/// Whether the tables of a schema are declared as their definitions say, and no table that a later one adds exists.
 fn has_tables(there: &Schema, schema: u64) -> bool
     ensures { (result ≡ true) ↔ HasTablesOf schema there.now }
 {

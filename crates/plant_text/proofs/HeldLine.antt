@@ -1,4 +1,4 @@
--- What is held of the coming line tells the same as the whole line.
+-- What is held of the coming line gives the same as the whole line.
 use Rattle.std.proofs.Common.{◌≡◌, ℕ, ◌<◌, ◌≤◌, ◌+◌, ◌-◌, List, [], ◌∷◌, ◌++◌, length, map, take, get_or, Bool, true, false, nat_lt, nat_eq, cond, refl, sym, ap, ◌∙◌, ⊎_elim, arith, length-append}
 use Rattle.std.proofs.lemmas.List.{map-append, take-append-le, take_all, length-take, length-take-le}
 use Rattle.std.proofs.lemmas.Bool.{cases_lt}
@@ -29,7 +29,7 @@ ended_after-append held (b ∷ xs) ys =
     ≡ cond v (strip_carriage_return held ∷ ended_after [] xs) (ended_after (held_with held b) xs) ++ ended_after (cond v (held_after [] xs) (held_after (held_with held b) xs)) ys)
     (ap (λ ls. strip_carriage_return held ∷ ls) (ended_after-append [] xs ys)) (ended_after-append (held_with held b) xs ys) (nat_eq b 10)
 
--- what is told of each line that ends
+-- what each line that ends gives
 pub each-append : {A : Type 0} (f : List ℕ → A) (held xs ys : List ℕ) → map f (ended_after held (xs ++ ys)) ≡ map f (ended_after held xs) ++ map f (ended_after (held_after held xs) ys)
 each-append f held xs ys = ap (map f) (ended_after-append held xs ys) ∙ map-append f (ended_after held xs) (ended_after (held_after held xs) ys)
 
@@ -39,7 +39,7 @@ held_more first held now done piece all before here e = here ∙ ap (λ h. held_
 
 -- ---- against the whole line
 
--- a byte more at the front that is held
+-- one more byte after the prefix that is held
 hold_more : (n : ℕ) (p : List ℕ) (b : ℕ) → length p < n → cond (nat_lt (length (take n p)) n) (take n p ++ b ∷ []) (take n p) ≡ take n (p ++ b ∷ [])
 hold_more n p b l =
     let all : take n p ≡ p = take_all n p (omega arith) in
@@ -59,7 +59,7 @@ length_strip : (l : List ℕ) → length l ≤ length (strip_carriage_return l) 
 length_strip l = by_bool (λ v. length l ≤ length (cond v (take (length l - 1) l) l) + 1)
     (omega (arith, length-take (length l - 1) l)) (omega arith) (nat_eq (get_or l (length l - 1) 0) 13)
 
--- longer lines tell the same
+-- longer lines give the same
 abbrev IsAlikeBeyond : {A : Type 0} → (List ℕ → A) → Type 0
 IsAlikeBeyond f = (l m : List ℕ) → longest_line < length l → longest_line < length m → f l ≡ f m
 
@@ -94,7 +94,7 @@ each-prefix f alike p (b ∷ bs) =
     (ap (λ e. e ∷ map f (ended_after [] bs)) (ended_prefix f alike p) ∙ ap (λ es. f (strip_carriage_return p) ∷ es) (each-prefix f alike [] bs))
     (ap (λ h. map f (ended_after h bs)) (hold_prefix room p b) ∙ each-prefix f alike (p ++ b ∷ []) bs) (nat_eq b 10)
 
--- the line that is held at the end of the bytes tells what the part behind their last LF does
+-- the line that is held at the end of the bytes gives what the part after their last LF does
 pub last_as_whole : {A : Type 0} (f : List ℕ → A) → IsAlikeBeyond f → (bytes held : List ℕ) → held ≡ held_after [] bytes → f held ≡ f (part_from [] bytes)
 last_as_whole f alike bytes held e = ap f (e ∙ held_after-prefix [] bytes) ∙ last_prefix f alike (part_from [] bytes)
 

@@ -11,7 +11,7 @@ use Rattle.plant_text.specs.declared.run.RunEnd.TheVariants as E
 use Rattle.plant_text.specs.declared.turns.TurnError.{TurnError}
 use Rattle.plant_text.specs.declared.turns.TurnError.TheVariants as S
 
--- what `open_crash_state` says of a keeper that ended honest: while it is open, a stop leaves the state that it stands at
+-- what `open_crash_state` says of a keeper that ended honest: while it is open, a stop leaves the state that it represents
 abbrev pub CrashStateIsOwn : States → Bool → (States → Type 0) → Type 0
 CrashStateIsOwn represents shut crash_states = shut ≡ false → (t : State) → represents t → crash_states (λ u. u ≡ t)
 

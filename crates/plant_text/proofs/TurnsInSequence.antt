@@ -53,7 +53,7 @@ pub memory_stops : (k : ℕ) (s : State) (e : Entry) (a b : Option (List ℕ)) (
     → FaultWritten Memory a b stop → represents s → shut ≡ false → RunStopped k s (e ∷ []) a b represents shut crash_states stop
 memory_stops k s e a b represents shut crash_states stop w represented h = record { answered = []; next = e; more = []; cut = refl; between = a; reported = Appends-nil a; stops = stops_by_fault k s e a b represents shut crash_states Memory stop w (represented, h) }
 
--- ---- a stop behind what was told, and before what would have come
+-- ---- a stop after what was written, and before what would have come
 
 pub reported_stops : (k : ℕ) (s : State) (mid now : States) (xs ys : List Entry) (a b c : Option (List ℕ)) (p q : Bool) (shut : Bool) (crash_states : States → Type 0) (stop : TurnError)
     → AreAnswered k s xs a b mid p q → ((t : State) → mid t → RunStopped k t ys b c now shut crash_states stop) → RunStopped k s (xs ++ ys) a c now shut crash_states stop

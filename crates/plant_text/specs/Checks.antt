@@ -21,7 +21,7 @@ abbrev pub IsCommand : ToCheck → Type 0
 IsCommand (to_check.Command e) = ⊤
 IsCommand (to_check.BadForm p) = ⊥
 
--- what comes of a check at an open keeper that stood at s: the answer, and where it stands afterwards
+-- what comes of a check at an open keeper that represented s: the answer, and what it represents afterwards
 abbrev pub ChecksAs : State → States → ToCheck → Result CheckAnswer DeskFault → Type 0
 ChecksAs s represents c (Ok a) = (a ≡ check_answer s c) × represents s
 ChecksAs s represents c (Err Store) = IsCommand c × represents s

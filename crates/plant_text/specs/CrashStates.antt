@@ -12,15 +12,15 @@ use Rattle.plant_text.specs.declared.run.RunEnd.TheVariants as E
 use Rattle.plant_text.specs.declared.turns.TurnError.{TurnError}
 use Rattle.plant_text.specs.declared.turns.TurnError.TheVariants as S
 
--- the keeper stands at this state, and a stop leaves it and no other
+-- the keeper represents this state, and a stop leaves it and no other
 abbrev pub RepresentsDurably : States → (States → Type 0) → State → Type 0
 RepresentsDurably represents crash_states t = represents t × crash_states (λ u. u ≡ t)
 
--- the keeper stands at s, and a stop leaves s or the state after the entry e, and no other
+-- the keeper represents s, and a stop leaves s or the state after the entry e, and no other
 abbrev pub RepresentsEither : States → (States → Type 0) → State → Entry → Type 0
 RepresentsEither represents crash_states s e = represents s × crash_states (λ u. (u ≡ s) ⊎ (u ≡ after s e))
 
--- what a stop leaves after a fault at the entry e, before which the keeper stood at s
+-- what a stop leaves after a fault at the entry e, before which the keeper represented s
 abbrev pub CrashStatesAtFault : DeskFault → States → (States → Type 0) → State → Entry → Type 0
 CrashStatesAtFault Store represents crash_states s e = RepresentsDurably represents crash_states s ⊎ RepresentsEither represents crash_states s e
 CrashStatesAtFault Memory represents crash_states s e = RepresentsDurably represents crash_states s
@@ -45,7 +45,7 @@ CrashStatesAmong s bytes left represents crash_states stop =
     (IsAtEnd left × CrashStatesAfterSome s (entries (all_lines bytes)) represents crash_states stop)
     ⊎ CrashStatesAfterSome s (entries (ended_lines bytes) ++ nothing ∷ []) represents crash_states stop
 
--- What a stop leaves after a run over these bytes that ended so: the state at which the keeper stands, and no other; after
+-- What a stop leaves after a run over these bytes that ended so: the state that the keeper represents, and no other; after
 -- a store's fault at a command the state before the command or that after it.
 abbrev pub CrashStatesOfRun : State → List ℕ → Option (List ℕ) → States → (States → Type 0) → RunEnd → Type 0
 CrashStatesOfRun s bytes left represents crash_states (E.Done refused) = RepresentsDurably represents crash_states (fold s (entries (lines bytes)))

@@ -4,7 +4,7 @@ use Rattle.std.specs.Str.Lines.{strip_carriage_return}
 use Rattle.plant_text.specs.Lines.{longest_line}
 use Rattle.plant_text.specs.Session.{Entry, entries}
 
--- the most bytes of a line that are held: the longest line, its CR, and one byte by which a longer line is told
+-- the most bytes of a line that are held: the longest line, its CR, and one byte by which a longer line is recognized
 abbrev pub room : ℕ
 room = longest_line + 2
 

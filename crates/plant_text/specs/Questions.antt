@@ -68,7 +68,7 @@ trace_of direction d = node_named d >>= (λ node. Ok (Q.Trace direction node))
 abbrev pub edges_of : Direction → Data → Result Question FormatError
 edges_of direction d = node_named d >>= (λ node. Ok (Q.Edges direction node))
 
--- the place that a page goes on from, none where none is given
+-- the cursor that a page goes on from, none where none is given
 abbrev pub cursor_in : Field → Option (Option (List ℕ))
 cursor_in field.Absent = Some None
 cursor_in (field.Id id) = Some (Some id)
@@ -103,25 +103,25 @@ abbrev pub page_asked : Option Worklist → Field → Option Question
 page_asked None cursor = None
 page_asked (Some w) cursor = option_map (Q.List w) (cursor_in cursor)
 
--- the same of the place in a list of recipes
+-- the same of the cursor in a list of recipes
 abbrev pub recipe_cursor_in : Field → Option (Option RecipeCursor)
 recipe_cursor_in field.Absent = Some None
 recipe_cursor_in (field.RecipeCursor place) = Some (Some place)
 recipe_cursor_in _ = None
 
--- and of the place in a list of orders by their due dates
+-- and of the cursor in a list of orders by their due dates
 abbrev pub due_cursor_in : Field → Option (Option DueCursor)
 due_cursor_in field.Absent = Some None
 due_cursor_in (field.DueCursor place) = Some (Some place)
 due_cursor_in _ = None
 
--- and of the place in the list of the holds of all lots
+-- and of the cursor in the list of the holds of all lots
 abbrev pub hold_cursor_in : Field → Option (Option HoldCursor)
 hold_cursor_in field.Absent = Some None
 hold_cursor_in (field.HoldCursor place) = Some (Some place)
 hold_cursor_in _ = None
 
--- and of the place in a ledger
+-- and of the cursor in a ledger
 abbrev pub movement_cursor_in : Field → Option (Option MovementCursor)
 movement_cursor_in field.Absent = Some None
 movement_cursor_in (field.MovementCursor place) = Some (Some place)

@@ -1,4 +1,4 @@
--- What is written for the lines of an input, and where the keeper stands then.
+-- What is written for the lines of an input, and what the keeper represents then.
 use Rattle.std.specs.Prelude.{◌≡◌, ℕ, ◌≤◌, ◌==◌, ◌||◌, List, [], ◌∷◌, ◌++◌, length, map, Bool, true, false, if◌then◌else◌, Option, Some, None, ◌⊎◌}
 use Rattle.std.specs.Str.Lines.{strip_carriage_return, lines}
 use Rattle.std.specs.Io.KnownBytes.{Appends, IsAtEnd}
@@ -33,12 +33,12 @@ use Rattle.plant_text.specs.declared.turns.TurnError.TheVariants as S
 
 -- ---- lines
 
--- the lines that an LF ends, where `part` stands before the bytes; one CR before the LF is dropped
+-- the lines that an LF ends, where `part` comes before the bytes; one CR before the LF is dropped
 abbrev pub ended_from : List ℕ → List ℕ → List (List ℕ)
 ended_from part [] = []
 ended_from part (b ∷ bs) = if b == 10 then strip_carriage_return part ∷ ended_from [] bs else ended_from (part ++ b ∷ []) bs
 
--- what stands behind the last LF
+-- what comes after the last LF
 abbrev pub part_from : List ℕ → List ℕ → List ℕ
 part_from part [] = part
 part_from part (b ∷ bs) = if b == 10 then part_from [] bs else part_from (part ++ b ∷ []) bs
@@ -47,7 +47,7 @@ part_from part (b ∷ bs) = if b == 10 then part_from [] bs else part_from (part
 abbrev pub ended_lines : List ℕ → List (List ℕ)
 ended_lines bytes = ended_from [] bytes
 
--- these and what stands behind them, which may be empty
+-- these and what comes after them, which may be empty
 abbrev pub all_lines : List ℕ → List (List ℕ)
 all_lines bytes = ended_lines bytes ++ part_from [] bytes ∷ []
 
@@ -125,7 +125,7 @@ session k s bytes = texts k s (entries (lines bytes))
 
 -- ---- what a run has done
 
--- these entries have been answered: their replies were written, and the keeper, which stood at s, stands at their fold
+-- these entries have been answered: their replies were written, and the keeper, which represented s, represents their fold
 pub record AreAnswered (k : ℕ) (s : State) (es : List Entry) (old new : Option (List ℕ)) (represents : States) (before now : Bool) : Type 0 where
   pub text : Appends old new (texts k s es)
   pub state : represents (fold s es)
@@ -140,18 +140,18 @@ CrashStatesOfStoreFault s (command c) shut crash_states = (shut ≡ true) × cra
 CrashStatesOfStoreFault s (question q) shut crash_states = shut ≡ false
 CrashStatesOfStoreFault s (check c) shut crash_states = IsCommand c × (shut ≡ false)
 
--- what a fault leaves a keeper at, which stood at s as the entry e came
+-- what a fault leaves of a keeper that represented s as the entry e came
 abbrev pub CrashStatesOfFault : DeskFault → State → Entry → States → Bool → (States → Type 0) → Type 0
 CrashStatesOfFault Store s e represents shut crash_states = represents s × CrashStatesOfStoreFault s e shut crash_states
 CrashStatesOfFault Memory s e represents shut crash_states = represents s × (shut ≡ false)
 CrashStatesOfFault Shut s e represents shut crash_states = ⊥
 
--- the text that comes next, and the keeper beside it: the reply to e, or a fault's line
+-- the text that comes next, and the keeper then: the reply to e, or a fault's line
 abbrev pub ComesNext : ℕ → State → Entry → List ℕ → States → Bool → (States → Type 0) → Type 0
 ComesNext k s e text represents shut crash_states = ((text ≡ entry_text k s e) × represents (after s e) × (shut ≡ false))
     ⊎ ((f : DeskFault) × (text ≡ with_lf (fault_text f)) × CrashStatesOfFault f s e represents shut crash_states)
 
--- how a run stops at the entry e: in its next text, or behind a fault's line
+-- how a run stops at the entry e: in its next text, or after a fault's line
 abbrev pub StopsAt : ℕ → State → Entry → Option (List ℕ) → Option (List ℕ) → States → Bool → (States → Type 0) → TurnError → Type 0
 StopsAt k s e old new represents shut crash_states S.Write = (text : List ℕ) × ComesNext k s e text represents shut crash_states × AppendsPrefix old new text
 StopsAt k s e old new represents shut crash_states (S.Fault f) = Appends old new (with_lf (fault_text f)) × CrashStatesOfFault f s e represents shut crash_states
@@ -170,8 +170,8 @@ pub record RunStopped (k : ℕ) (s : State) (es : List Entry) (old new : Option 
 abbrev pub most_reads : ℕ
 most_reads = 1000000000
 
--- The run stopped: at the end of the input at any line; else at a line whose LF was read, or behind these for want of
--- memory. For what stands behind the last LF counts there as an empty line: nothing of it is executed or answered.
+-- The run stopped: at the end of the input at any line; else at a line whose LF was read, or after these for want of
+-- memory. For what comes after the last LF counts there as an empty line: nothing of it is executed or answered.
 abbrev pub StoppedAmong : ℕ → State → List ℕ → Option (List ℕ) → Option (List ℕ) → Option (List ℕ) → States → Bool → (States → Type 0) → TurnError → Type 0
 StoppedAmong k s bytes left old new represents shut crash_states stop =
     (IsAtEnd left × RunStopped k s (entries (all_lines bytes)) old new represents shut crash_states stop)

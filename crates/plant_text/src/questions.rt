@@ -117,7 +117,7 @@ fn edges_of(value: &Value, direction: Direction) -> Result<Question, FormatError
     }
 }
 
-/// The place that a page goes on from, nothing where none is given.
+/// The cursor that a page goes on from, nothing where none is given.
 fn cursor_in(field: Field) -> Option<Option<Id>>
     ensures { result ≡ cursor_in field }
 {
@@ -163,7 +163,7 @@ fn list_of(kind: ListKind, of: Field) -> Option<Worklist>
     }
 }
 
-/// The place in a list of recipes that a page goes on from, nothing where none is given.
+/// The cursor in a list of recipes that a page goes on from, nothing where none is given.
 fn recipe_cursor_in(field: Field) -> Option<Option<RecipeCursor>>
     ensures { result ≡ recipe_cursor_in field }
 {
@@ -174,7 +174,7 @@ fn recipe_cursor_in(field: Field) -> Option<Option<RecipeCursor>>
     }
 }
 
-/// The place in a list of orders by their due dates that a page goes on from, nothing where none is given.
+/// The cursor in a list of orders by their due dates that a page goes on from, nothing where none is given.
 fn due_cursor_in(field: Field) -> Option<Option<DueCursor>>
     ensures { result ≡ due_cursor_in field }
 {
@@ -185,7 +185,7 @@ fn due_cursor_in(field: Field) -> Option<Option<DueCursor>>
     }
 }
 
-/// The place in the list of the holds of all lots that a page goes on from, nothing where none is given.
+/// The cursor in the list of the holds of all lots that a page goes on from, nothing where none is given.
 fn hold_cursor_in(field: Field) -> Option<Option<HoldCursor>>
     ensures { result ≡ hold_cursor_in field }
 {
@@ -196,7 +196,7 @@ fn hold_cursor_in(field: Field) -> Option<Option<HoldCursor>>
     }
 }
 
-/// The place in a ledger that a page goes on from, nothing where none is given.
+/// The cursor in a ledger that a page goes on from, nothing where none is given.
 fn movement_cursor_in(field: Field) -> Option<Option<MovementCursor>>
     ensures { result ≡ movement_cursor_in field }
 {

@@ -19,19 +19,20 @@ use std::io::{Read, Write};
 #[derive(Clone, Copy, Debug, PartialEq, Eq)]
 pub enum RunEnd {
     /// The input ended, and each line was answered. `refused` says whether some reply was a refusal, as that of a line
-    /// of no form and of a question about an unknown id is.
+    /// that isn't well formed and of a question about an unknown id is.
     Done { refused: bool },
-    /// A read failed. The lines whose LF was read are answered, and what stands behind the last LF is not.
+    /// A read failed. The lines whose LF was read are answered, and what comes after the last LF is not.
     Read,
-    /// A write failed, or took no byte. Of the line that comes next a front was written, and not all of it.
+    /// A write failed, or took no byte. Of the line that comes next a prefix was written, and not all of it.
     Write,
-    /// The run has made its 10^9 reads, each of which gave a byte at least. The lines whose LF was read are answered, and what stands behind the last LF is not.
+    /// The run has made its 10^9 reads, each of which gave a byte at least. The lines whose LF was read are answered, and what
+    /// comes after the last LF is not.
     Endless,
     /// The keeper had this fault, or memory was refused outside it. Its line was written as the last one.
     Fault(DeskFault),
 }
 
-/// The bytes of a line that are held. A longer line than may be read is told by these.
+/// The bytes of a line that are held. A longer line than may be read is recognized by these.
 const ROOM: usize = 262_146;
 
 /// After so many reads a run ends.
@@ -214,7 +215,7 @@ fn run_pieces<R: Read, W: Write, K: Keeper>(
 
 /// Takes the lines of the input one after the other, has the keeper execute and answer them, and writes a line to each.
 ///
-/// A line ends with LF, and one CR before it is dropped; what stands behind the last LF counts as it stands. An empty
+/// A line ends with LF, and one CR before it is dropped; what comes after the last LF counts as it is. An empty
 /// line has no reply. A command is answered as [`crate::reply_line`] says and a question as [`crate::answer_text`], each
 /// in the state after the commands before it. A line of more than 262,144 bytes, LF and CR not counted, is passed over
 /// and answered as BadForm, and so is one that [`crate::read_line`] doesn't read; neither reaches the keeper. The first
@@ -228,8 +229,8 @@ fn run_pieces<R: Read, W: Write, K: Keeper>(
 /// What is written depends on the bytes of the input and not on the pieces in which they come, but for `Endless`. A
 /// read or a write that is interrupted counts as failed.
 ///
-/// In the clause `ends`, `bytes` are those that the reader has lost and `s` is a state that the keeper stood at;
-/// nothing is said of where the keeper stands, and of what a stop leaves, if it doesn't end honest.
+/// In the clause `ends`, `bytes` are those that the reader has lost and `s` is a state that the keeper represented;
+/// nothing is said of what the keeper represents, and of what a stop leaves, if it doesn't end honest.
 pub fn run_lines<R: Read, W: Write, K: Keeper>(
     alloc: Global,
     reader: &mut R,

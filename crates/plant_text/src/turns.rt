@@ -54,7 +54,7 @@ fn is_refusal(reply: &Reply) -> bool
     }
 }
 
-/// Whether an answer tells that the question names something that isn't there.
+/// Whether an answer says that the question names something that isn't there.
 pub fn is_unknown(answer: &Answer) -> bool
     ensures { result ≡ is_unknown answer.now }
 {
@@ -77,7 +77,7 @@ fn write_bad_form<W: Write>(writer: &mut W) -> Result<bool, TurnError>
 
 /// Has a command executed by an open keeper, and writes the reply and an LF. `true` where the reply is a refusal.
 ///
-/// It is handed no allocator, and the reply's text stands in a room of fixed size: between the keeper's reply and the
+/// It is handed no allocator, and the reply's text is in a buffer of fixed size: between the keeper's reply and the
 /// end of its line no memory is taken, so that only the writer can keep the line back.
 ///
 /// `Fault` comes where the keeper's fault does, whose line was written; `Write` where a line couldn't be written whole.
@@ -105,7 +105,7 @@ pub fn take_command<W: Write, K: Keeper>(
 
 /// Writes an answer's text, and says whether the answer names something that isn't there.
 ///
-/// Where memory was refused for the text, that fault's line is written in its place.
+/// Where memory was refused for the text, that fault's line is written instead.
 fn write_made<W: Write>(
     writer: &mut W,
     made: Result<String, AllocError>,
@@ -125,7 +125,7 @@ fn write_made<W: Write>(
 
 /// Writes what came of a question: the answer's text, which may be a refusal, or the line of the fault.
 ///
-/// Where memory is refused for the text, that fault's line is written in its place.
+/// Where memory is refused for the text, that fault's line is written instead.
 fn write_answer<W: Write>(
     alloc: Global,
     writer: &mut W,
@@ -162,7 +162,7 @@ fn take_question<W: Write, K: Keeper>(
 
 /// Writes what came of a check: the answer's text, or the line of the fault.
 ///
-/// Where memory is refused for the text, that fault's line is written in its place.
+/// Where memory is refused for the text, that fault's line is written instead.
 fn write_check<W: Write>(
     alloc: Global,
     writer: &mut W,

@@ -10,14 +10,14 @@ use thiserror::Error;
 /// How many bytes two texts have together at most that are written in one.
 const MOST_TOGETHER: usize = 4096;
 
-/// The writer failed, was interrupted, or took no byte. A front of the text may stand there, and no more is written.
+/// The writer failed, was interrupted, or took no byte. A prefix of the text may have been written, and no more is written.
 #[derive(Clone, Copy, Debug, PartialEq, Eq, Error)]
 #[error("the writer takes no more")]
 pub struct WriteError;
 
 /// Writes the text, in as many writes as the writer needs.
 ///
-/// `WriteError`: a front of the text was written, perhaps none of it but never all, and nothing else.
+/// `WriteError`: a prefix of the text was written, perhaps none of it but never all, and nothing else.
 pub fn write_text<W: Write>(writer: &mut W, text: &[u8]) -> Result<(), WriteError>
     ensures ok { OnOk result (Appends (W.contents writer.old) (W.contents writer.new) text.now) }
     ensures err { OnErr result (AppendsPrefix (W.contents writer.old) (W.contents writer.new) text.now) }
@@ -48,10 +48,10 @@ fn write_each<W: Write>(writer: &mut W, first: &[u8], second: &[u8]) -> Result<(
     }
 }
 
-/// Writes two texts, one behind the other: as one where both are short, since each write to a pipe or a socket costs more than their
-/// copy, and wakes the reader. No memory is taken.
+/// Writes two texts, one after the other: as one where both are short, since each write to a pipe or a socket costs more
+/// than their copy, and wakes the reader. No memory is taken.
 ///
-/// `WriteError`: a front of both was written, perhaps none of them but never all, and nothing else.
+/// `WriteError`: a prefix of both was written, perhaps none of them but never all, and nothing else.
 pub fn write_both<W: Write>(writer: &mut W, first: &[u8], second: &[u8]) -> Result<(), WriteError>
     ensures ok { OnOk result (Appends (W.contents writer.old) (W.contents writer.new)
         (first.now ++ second.now)) }
@@ -67,7 +67,7 @@ pub fn write_both<W: Write>(writer: &mut W, first: &[u8], second: &[u8]) -> Resu
 
 /// Writes the text and an LF.
 ///
-/// `WriteError`: a front of both was written, perhaps none of them but never all, and nothing else.
+/// `WriteError`: a prefix of both was written, perhaps none of them but never all, and nothing else.
 pub fn write_line<W: Write>(writer: &mut W, text: &[u8]) -> Result<(), WriteError>
     ensures ok { OnOk result (Appends (W.contents writer.old) (W.contents writer.new)
         (with_lf text.now)) }

@@ -16,6 +16,6 @@ abbrev pub standing_data : StandingLot → Data
 standing_data s = object (member (codes "def") (string s.known.def) (member (codes "held") (boolean s.known.held) (member (codes "lot") (string s.known.lot)
     (member (codes "recalled") (boolean s.recalled) (member (codes "stock") (natural s.known.stock) (member (codes "sublots") (array (sublots_data s.known.sublots)) no_members))))))
 
--- where goods stand
+-- where goods are
 abbrev pub stands_data : List StandingLot → Data
 stands_data lots = object (member (codes "lots") (array (items_of (map standing_data lots))) no_members)

@@ -50,7 +50,8 @@ fn order_value(alloc: Global, answer: &OrderAnswer) -> Result<Value, AllocError>
 ///   "next":N,"order":ID,"phases":N,"produced":[{"amount":N,"def":ID,"lot":ID,"seq":N}],"recipe":ID,"size":N,
 ///   "state":WORD,"version":N}`
 /// - of a trace `{"nodes":[{"lot":ID},{"batch":ID}]}`
-/// - of where goods stand `{"lots":[{"def":ID,"held":BOOL,"lot":ID,"recalled":BOOL,"stock":N,"sublots":[{"no":N,"place":TEXT,"stock":N}]}]}`
+/// - of where goods are
+///   `{"lots":[{"def":ID,"held":BOOL,"lot":ID,"recalled":BOOL,"stock":N,"sublots":[{"no":N,"place":TEXT,"stock":N}]}]}`
 /// - of the genealogy around a lot or batch `{"edges":[{"amount":N,"from":{"lot":ID},"to":{"batch":ID}}],
 ///   "nodes":[{"def":ID,"held":BOOL,"lot":ID,"recalled":BOOL,"stock":N,"unit":UNIT},{"batch":ID}]}`
 /// - of a recall `{"lot":ID,"nodes":[{"lot":ID},{"batch":ID}],"recall":ID,"state":WORD}`

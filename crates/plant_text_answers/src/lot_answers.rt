@@ -43,7 +43,7 @@ fn lots_value(alloc: Global, lots: &[StandingLot]) -> Result<Value, AllocError>
     Ok(Value::Array(list))
 }
 
-/// What is shown of where goods stand.
+/// What is shown of where goods are.
 pub(crate) fn stands_value(alloc: Global, lots: &[StandingLot]) -> Result<Value, AllocError>
     ensures { IfOk result (λ v. view v ≡ stands_data lots.now) }
 {

@@ -12,7 +12,7 @@ use Rattle.plant_text_commands.specs.declared.checks.ToCheck.TheVariants as to_c
 use Rattle.plant_text_checks.specs.declared.answers.CheckAnswer.{CheckAnswer}
 use Rattle.plant_text_checks.specs.declared.answers.CheckAnswer.TheVariants as answer
 
--- of a command with something wrong whatever the state that is told, else what the state says
+-- of a command that is wrong whatever the state, that is reported, else what the state says
 abbrev pub answer_by : Option CommandError → Checked → CheckAnswer
 answer_by (Some m) c = answer.BadForm (reason.Whole m)
 answer_by None Accepted = answer.Accepted

@@ -1,4 +1,4 @@
--- The step of each command makes something of values of its types, so the problem that is told says what is wrong.
+-- The step of each command makes something of values of its types, so the problem that is reported says what is wrong.
 use Rattle.std.proofs.Common.{◌≡◌, ℕ, ◌+◌, List, [], ◌∷◌, Bool, true, false, cond, Option, Some, None, Result, Ok, Err, option_and_then, codes, refl, subst}
 use Rattle.std.specs.Prelude.{is_some, ⊤}
 use Rattle.std.specs.Str.{bytes_eq}

@@ -52,7 +52,7 @@ abbrev pub kind_at : Data → Option CommandKind
 kind_at d = option_and_then command_kind (option_and_then as_str (get (codes "do") d))
 
 -- first the members that it has of its own, then its list, then a member that doesn't belong there; an object of no kind has a flaw in
--- `do`, which is told before
+-- `do`, which is reported before
 abbrev pub command_by : Option CommandKind → List Field → Data → Result Envelope FormatError
 command_by None shared d = Err (format_error.Object shape_error.Malformed)
 command_by (Some kind) shared d =

@@ -1,4 +1,4 @@
-//! Which objects are commands, and what is wrong with the others: one reading tells both.
+//! Which objects are commands, and what is wrong with the others: one reading decides both.
 ghost use Rattle.std.specs.Prelude.{◌≡◌};
 ghost use Rattle.serde_json.specs.View.{view};
 ghost use Rattle.plant_base.specs.Values.{is_text, only};

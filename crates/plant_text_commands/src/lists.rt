@@ -22,7 +22,7 @@ pub(crate) trait Item: Sized + Drop {
     ghost use Rattle.plant_message_schema.specs.declared.words.Row.{Row};
     ghost use Rattle.plant_message_schema.specs.declared.fields.Field.{Field};
 
-    /// The member under which the list stands.
+    /// The member that has the list.
     ghost list: { Member };
 
     /// Which row an object is.
@@ -31,7 +31,7 @@ pub(crate) trait Item: Sized + Drop {
     /// The one that a row's values make.
     ghost make: { Row → List Field → Option Self };
 
-    /// The member under which the list stands.
+    /// The member that has the list.
     fn list() -> Member
         ensures { result ≡ list };
 

@@ -48,12 +48,12 @@ distinct_sorted xs s i j d l h e =
     let at : node_cmp (get_or xs i d) (get_or xs i d) ≡ Less = subst (λ (y : Node). node_cmp (get_or xs i d) y ≡ Less) (sym e) less in
     cc
 
--- a node is at one place
+-- a node is at one position
 pub distinct_at : (xs : List Node) → AreDistinct xs → (i j : ℕ) (x : Node) → i < length xs → j < length xs → get_or xs i x ≡ x → get_or xs j x ≡ x → i ≡ j
 distinct_at xs d i j x a b p q =
     ⊎_elim (λ e. e) (λ o. ⊎_elim (λ l. absurd (d i j x l b (p ∙ sym q))) (λ l. absurd (d j i x l a (q ∙ sym p))) o) (cases_order i j)
 
--- a node isn't before its place
+-- a node isn't before its position
 pub not_before : (xs : List Node) (i : ℕ) (d : Node) → AreDistinct xs → i < length xs → Contains (take i xs) (get_or xs i d) → ⊥
 not_before xs i d s h (k, l, e) =
     let len : length (take i xs) ≡ i = length-take-le i xs (omega (arith, h)) in

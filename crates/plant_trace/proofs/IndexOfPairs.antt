@@ -28,7 +28,7 @@ or_last true false = refl
 or_last false true = refl
 or_last false false = refl
 
--- an empty set stands for no set
+-- an empty set counts as no set
 default_has : (o : Option (BTreeSet Node)) (empty : BTreeSet Node) → empty.keys ≡ [] → (y : Node) → contains node_cmp (unwrap_or o empty) y ≡ set_has o y
 default_has None empty e y = rw e refl
 default_has (Some s) empty e y = refl

@@ -1,4 +1,4 @@
--- How the places of a list are noted one by one.
+-- How the positions of a list are noted one by one.
 use Rattle.std.proofs.Common.{◌≡◌, ◌∙◌, ℕ, ◌+◌, ◌<◌, ◌≤◌, Bool, true, false, cond, List, [], ◌∷◌, ◌++◌, take, length, get_or, Option, Some, refl, sym, ap, subst, ⊎_elim, arith, Contains, append_assoc}
 use Rattle.std.specs.Prelude.{zero, suc, IsSome, slice_get}
 use Rattle.std.specs.Ordering.{is_eq}
@@ -29,7 +29,7 @@ Grows-longer xs ys (more, e) = rw e (omega (arith, length-append xs more))
 pub Grows-prefix : (n : ℕ) (xs ys : List Node) → n ≤ length xs → Grows xs ys → take n ys ≡ take n xs
 Grows-prefix n xs ys h (more, e) = rw e (take-append-le n xs more h)
 
--- ---- places
+-- ---- positions
 
 pub slice_get_prefix : (xs ys : List Node) (n : ℕ) (x : Node) → slice_get xs n ≡ Some x → slice_get (xs ++ ys) n ≡ Some x
 slice_get_prefix [] ys n x e = absurd cc
@@ -55,7 +55,7 @@ module _ (xs : List Node) (old new : BTreeMap Node ℕ) (x : Node) (put : Update
   found_last : IsSome (get node_cmp new x)
   found_last = rw put.1 refl
 
-  -- one more node in its place
+  -- one more node at its position
   pub placed : AreIndexes (xs ++ x ∷ []) new
   placed = record {
     found = λ y h. ⊎_elim

@@ -25,7 +25,7 @@ still_or_on here = inl refl
 still_or_on (on r) = inr r
 
 module _ (p : Node × Node) (ps : List (Node × Node)) where
-  -- a walk along the pairs behind the first, or up to the first and on from it
+  -- a walk along the pairs after the first, or up to the first and on from it
   abbrev Splits : Node → Node → Type 0
   Splits a b = Reach (HasEdge ps) a b ⊎ (UpTo (HasEdge ps) a p.0 × UpTo (HasEdge ps) p.1 b)
 

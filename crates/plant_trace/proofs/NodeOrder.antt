@@ -29,7 +29,7 @@ node_eq_itself a b e = subst (λ c. equal.eq a c ≡ true) e (node_ties a a ∙ 
 pub node_eq_decides : (a b : Node) → Decides (equal.eq a b) (a ≡ b)
 node_eq_decides a b = (node_eq_exact a b, node_eq_itself a b)
 
--- nodes that `!=` tells apart are two
+-- nodes that differ by `!=` are two
 pub node_ne_exact : (a b : Node) → not (equal.eq a b) ≡ true → a ≡ b → ⊥
 node_ne_exact a b n e = both_ways (equal.eq a b) (not-true (equal.eq a b) n) (node_eq_itself a b e)
 

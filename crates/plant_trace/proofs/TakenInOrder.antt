@@ -156,7 +156,7 @@ module _ (pairs : List (Node × Node)) (left : BTreeMap Node ℕ) (ready : List 
     placed_at : (x : Node) → Contains ready x → (n : ℕ) × (get node_cmp positions x ≡ Some n)
     placed_at x h = some_at (get node_cmp positions x) (ranks.found x h)
 
-    -- a node's place is its position
+    -- a node's index is its position
     place_is : (x : Node) (i n : ℕ) → slice_get ready i ≡ Some x → get node_cmp positions x ≡ Some n → i ≡ n
     place_is x i n e f =
         let t = ranks.there x n f in

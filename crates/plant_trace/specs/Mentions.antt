@@ -1,4 +1,4 @@
--- Places of nodes in the order in which pairs first mention them.
+-- Positions of nodes in the order in which pairs first mention them.
 use Rattle.std.specs.Prelude.{ℕ, ◌+◌, List, [], ◌∷◌, ◌++◌, length, fold, Option, Some, None, find}
 use Rattle.grouped_rows.specs.Groups.{is_keyed}
 use Rattle.plant_trace.specs.Nodes.{node_cmp}
@@ -30,7 +30,7 @@ mentioned mentions p = noted_end (noted_start mentions p.0) p.1
 abbrev pub mentions_in : List (Node × Node) → List Mention
 mentions_in pairs = fold mentioned [] pairs
 
--- a lot that isn't mentioned stands before all, a batch behind
+-- a lot that isn't mentioned is before all, a batch after all
 abbrev pub rank_without : Node → ℕ → ℕ
 rank_without (Lot id) mentions = 0
 rank_without (Batch id) mentions = mentions + 1
@@ -39,6 +39,6 @@ abbrev pub rank_or : Option Mention → ℕ → ℕ
 rank_or None other = other
 rank_or (Some m) other = m.at
 
--- the place of the first mention of the node
+-- the position of the first mention of the node
 abbrev pub mention_rank : List Mention → Node → ℕ
 mention_rank mentions x = rank_or (find (λ m. is_keyed node_cmp (Some m.node) x) mentions) (rank_without x (length mentions))

@@ -1,4 +1,4 @@
--- Positions of nodes, as their places in a list.
+-- Positions of nodes in a list.
 use Rattle.std.specs.Prelude.{◌≡◌, ◌<◌, ℕ, List, ◌++◌, Contains, Some, IsSome, slice_get}
 use Rattle.std.specs.BTreeMap.{BTreeMap, get, btree_map_len}
 use Rattle.plant_trace.specs.Nodes.{node_cmp}
@@ -7,7 +7,7 @@ use Rattle.plant_trace.specs.Ranks.{rank_of, Rises}
 use Rattle.plant_trace.specs.Waiting.{IsMentioned}
 use Rattle.plant_trace.specs.declared.node.Node.{Node}
 
--- each node of the list has a position, and a node that has one stands in the list there
+-- each node of the list has a position, and the list has there each node that has one
 pub record AreIndexes (nodes : List Node) (positions : BTreeMap Node ℕ) : Type 0 where
   pub found : (x : Node) → Contains nodes x → IsSome (get node_cmp positions x)
   pub there : (x : Node) (n : ℕ) → get node_cmp positions x ≡ Some n → slice_get nodes n ≡ Some x
@@ -20,7 +20,7 @@ IsUnled pairs x = (w : Node) → HasEdge pairs w x → ⊥
 abbrev pub HasFirst : List (Node × Node) → List Node → Type 0
 HasFirst pairs nodes = (x y : Node) → HasEdge pairs x y → IsUnled pairs x → Contains nodes x
 
--- the positions are the places of a list of nodes, each first one among them
+-- the positions are those of a list of nodes, each first one among them
 abbrev pub ArePositions : List (Node × Node) → BTreeMap Node ℕ → Type 0
 ArePositions pairs positions = (nodes : List Node) × HasFirst pairs nodes × AreIndexes nodes positions
 

@@ -35,7 +35,7 @@ pub record Lists (P : Node → Type 0) (nodes : List Node) : Type 0 where
   pub only : (y : Node) → Contains nodes y → P y
   pub all : (y : Node) → P y → Contains nodes y
 
--- whether one or more pairs lead from a to b: those behind the first do, or they lead up to where the first begins and
+-- whether one or more pairs lead from a to b: those after the first do, or they lead up to where the first begins and
 -- on from where it ends
 unfoldable pub leads : List (Node × Node) → Node → Node → Bool
 leads [] a b = false

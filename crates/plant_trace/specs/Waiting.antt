@@ -25,7 +25,7 @@ pub record AreSoMany (P : Node → Type 0) (count : ℕ) : Type 0 where
 abbrev pub Awaits : List (Node × Node) → List Node → Node → Node → Type 0
 Awaits pairs taken x w = HasEdge pairs w x × (Contains taken w → ⊥)
 
--- each node that awaits others has a count of them, and each that awaits none is ready, at one place
+-- each node that awaits others has a count of them, and each that awaits none is ready, at one position
 pub record AreWaiting (awaits : Node → Node → Type 0) (IsNode : Node → Type 0) (left : BTreeMap Node ℕ) (ready : List Node) : Type 0 where
   pub distinct : AreDistinct ready
   pub apart : (x : Node) → Contains ready x → get node_cmp left x ≡ None

@@ -10,11 +10,12 @@ use crate::positions::positions_of;
 use std::alloc::{AllocError, Global};
 use std::collections::BTreeMap;
 
-/// Whether no node reaches itself along the pairs. Pairs may stand twice and in any order.
+/// Whether no node reaches itself along the pairs. Pairs may occur twice and in any order.
 /// The only error is that memory was refused.
 ///
-/// It takes about as long as sorting the pairs: they lead on in an order of the nodes, at best in the one in which they stand,
-/// or else in the one in which each node is taken once all that lead to it are. Where they lead on in neither, there is a cycle.
+/// It takes about as long as sorting the pairs: they lead on in an order of the nodes, at best in the one in which they
+/// are given, or else in the one in which each node is taken once all that lead to it are. Where they lead on in neither,
+/// there is a cycle.
 pub fn acyclic(alloc: Global, pairs: &[(Node, Node)]) -> Result<bool, AllocError>
     ensures { IfOk result (λ yes. IsTrue yes ↔ IsAcyclic pairs.now) }
 {

@@ -1,4 +1,4 @@
-//! Whether pairs already stand in an order in which they lead on, as those of a plant's movements do.
+//! Whether pairs already are in an order in which they lead on, as those of a plant's movements do.
 
 ghost use Rattle.std.specs.Prelude.{◌≡◌, ◌<◌, ◌↔◌, ◌^◌, IfOk, IsTrue, OnOk};
 ghost use Rattle.plant_trace.specs.Mentions.{mentions_in, noted, noted_end, noted_start, mention_rank, rank_without};
@@ -14,7 +14,7 @@ use std::alloc::{AllocError, Global};
 pub struct Mention {
     /// The node.
     pub node: Node,
-    /// Its place among the mentions, from 1 on.
+    /// Its position among the mentions, from 1 on.
     pub at: usize,
 }
 
@@ -35,7 +35,7 @@ impl Grouping for ByNode {
     }
 }
 
-/// Mentions a node behind the others.
+/// Mentions a node after the others.
 fn note(mentions: &mut Vec<Mention>, node: Node) -> Result<(), AllocError>
     ensures { OnOk result (mentions.new.items ≡ noted mentions.old.items node) }
 {
@@ -77,8 +77,8 @@ fn mentions_in(alloc: Global, pairs: &[(Node, Node)]) -> Result<Vec<Mention>, Al
     Ok(mentions)
 }
 
-/// The place of a node's first mention. A lot that has none comes of nothing, and stands before all; of a batch that has none
-/// nothing comes, and it stands behind all.
+/// The position of a node's first mention. A lot that has none comes of nothing, and is before all; of a batch that has none
+/// nothing comes, and it is after all.
 fn mention_rank(mentions: &Grouped<ByNode>, node: Node) -> usize
     ensures { result ≡ mention_rank mentions.now.rows.now node }
 {
@@ -88,7 +88,7 @@ fn mention_rank(mentions: &Grouped<ByNode>, node: Node) -> usize
     }
 }
 
-/// The place of a node that isn't mentioned, among so many mentions.
+/// The position of a node that isn't mentioned, among so many mentions.
 fn rank_without(node: &Node, mentions: usize) -> usize
     requires { mentions < 2 ^ 63 }
     ensures { result ≡ rank_without node.now mentions }
@@ -105,7 +105,7 @@ fn leads_on(mentions: &Grouped<ByNode>, pair: (Node, Node)) -> bool
     mention_rank(mentions, pair.0) < mention_rank(mentions, pair.1)
 }
 
-/// Whether each pair leads to a later place.
+/// Whether each pair leads to a later position.
 fn rises(mentions: &Grouped<ByNode>, pairs: &[(Node, Node)]) -> bool
     ensures { IsTrue result ↔ Rises (mention_rank mentions.now.rows.now) pairs.now }
 {
@@ -118,7 +118,7 @@ fn rises(mentions: &Grouped<ByNode>, pairs: &[(Node, Node)]) -> bool
 }
 
 /// Whether each pair leads to a node that is first mentioned later. The only error is that memory was refused.
-/// A no says nothing: pairs without a cycle may stand in another order.
+/// A no says nothing: pairs without a cycle may be in another order.
 pub fn rises_by_mention(alloc: Global, pairs: &[(Node, Node)]) -> Result<bool, AllocError>
     ensures { IfOk result (λ yes. IsTrue yes → IsAcyclic pairs.now) }
 {

@@ -8,7 +8,7 @@ use std::cmp::Ordering;
 use std::fmt;
 
 /// What material can come from or go into: a lot, as IEC 62264-2 has material lots, or a batch, the
-/// job whose response tells the material actually used and made, as in IEC 62264-4.
+/// job whose response lists the material actually used and made, as in IEC 62264-4.
 /// A lot and a batch of one id are two nodes. Lots come before batches, each kind in the order of the ids' bytes.
 #[derive(Clone, Copy, Debug, PartialEq, Eq)]
 pub enum Node {

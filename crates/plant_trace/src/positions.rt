@@ -14,7 +14,7 @@ use crate::seen::list_of;
 use std::alloc::{AllocError, Global};
 use std::collections::{BTreeMap, BTreeSet};
 
-/// Positions of nodes: their places in a list in which each node that nothing leads to is. The only error is that memory
+/// Positions of nodes in a list in which each node that nothing leads to is. The only error is that memory
 /// was refused.
 ///
 /// No two nodes have one position, and each position is below the number of nodes that have one: a node is taken once,

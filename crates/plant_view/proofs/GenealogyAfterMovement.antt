@@ -1,4 +1,4 @@
--- What movements do to the genealogy of a sound state.
+-- What movements do to the genealogy of a consistent state.
 use Rattle.std.proofs.Common.{◌≡◌, ◌∙◌, ℕ, true, false, List, [], ◌∷◌, ◌++◌, Option, Some, None, is_some, sym, subst, ap, ⊎_elim}
 use Rattle.std.specs.List.{AllByRecursion, cons_option}
 use Rattle.std.proofs.lemmas.Bool.{false≢true}

@@ -1,4 +1,4 @@
--- Why a lot's stock in a sound state is what was born in it less what left it.
+-- Why a lot's stock in a consistent state is what was born in it less what left it.
 use Rattle.std.proofs.Common.{◌≡◌, ℕ, ◌+◌, ◌-◌, Bool, true, false, cond, List, [], ◌∷◌, map, filter, refl, ap, arith}
 use Rattle.std.specs.Prelude.{◌&&◌, not, sum_by}
 use Rattle.std.proofs.lemmas.List.Sums.{sum_by-cons}

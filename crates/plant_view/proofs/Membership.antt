@@ -120,7 +120,7 @@ module _ {R : Type 0} (order : R → R → Ordering) (total : IsTotalOrder order
   put_once r y [] sorted h tie = ⊎_elim (λ e. sym e) (λ i. absurd (none_in y i)) (first_or_rest r [] y h)
   put_once r y (x ∷ xs) sorted h tie = put_once_by r x y xs sorted.0 (put_once r y xs sorted.1) (order r x) refl h tie
 
-  -- ---- of an order that tells all rows apart
+  -- ---- of an order in which only equal rows tie
   module _ (exact : CmpEqualImpliesEq order) where
     pub put_stays : (r y : R) (xs : List R) → Contains xs y → Contains (put order r xs) y
     put_stays r y xs h = stays order exact r y xs h

@@ -98,7 +98,7 @@ module _ {R : Type 0} (order : R → R → Ordering) (total : IsTotalOrder order
   put_first [] a = refl
   put_first (x ∷ xs) a = ap (λ o. match_ordering o (r ∷ x ∷ xs) (r ∷ xs) (x ∷ put order r xs)) a.0
 
-  -- behind rows that are all less
+  -- after rows that are all less
   pub put_last : (rows : List R) → AllByRecursion (λ y. order y r ≡ Less) rows → put order r rows ≡ rows ++ r ∷ []
   put_last [] a = refl
   put_last (x ∷ xs) a =
@@ -188,7 +188,7 @@ module _ {R : Type 0} (order : R → R → Ordering) (total : IsTotalOrder order
   sorted_put_all [] rows sorted = sorted
   sorted_put_all (r ∷ rs) rows sorted = sorted_put_all rs (put order r rows) (sorted_put order total r rows sorted)
 
-  -- ascending rows that go in behind the others
+  -- ascending rows that go in after the others
   put_behind : (rs rows : List R) → IsStrictlySortedBy order rs → AllByRecursion (λ a. AllByRecursion (λ r. order a r ≡ Less) rs) rows → put_all order rs rows ≡ rows ++ rs
   unfolding IsStrictlySortedBy
   put_behind [] rows sorted a = sym (append-nil rows)

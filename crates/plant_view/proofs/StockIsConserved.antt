@@ -1,4 +1,4 @@
--- Why nothing is lost and nothing made in a sound state.
+-- Why nothing is lost and nothing made in a consistent state.
 use Rattle.std.proofs.Common.{◌≡◌, ◌∙◌, ℕ, ◌+◌, Bool, true, false, cond, List, refl, ap, arith}
 use Rattle.std.specs.Prelude.{◌&&◌}
 use Rattle.plant_base.specs.State.{State}

@@ -1,4 +1,4 @@
--- Material of one definition: what came in, what went out, and what stands.
+-- Material of one definition: what came in, what went out, and what is in stock.
 use Rattle.std.specs.Prelude.{◌≡◌, ℕ, ◌+◌, Bool, true, false, ◌&&◌, if◌then◌else◌, List, Option, Some, None, sum_by}
 use Rattle.plant_base.specs.State.{State, same, lot_at}
 use Rattle.plant_base.specs.declared.rows.Lot.{Lot}

@@ -21,7 +21,7 @@ IsOneMaterial s (Some k) None = ⊤
 IsOneMaterial s (Some k) (Some j) = (def : List ℕ) → is_of s def k.0 ≡ is_of s def j.0
 
 pub record DecisionInvariant (s : State) : Type 0 where
-  -- the rows of each list stand in the order of their keys, and none has another's key
+  -- the rows of each list are in the order of their keys, and none has another's key
   pub classes : IsStrictlySortedBy class_order s.classes
   pub definitions : IsStrictlySortedBy definition_order s.definitions
   pub lots : IsStrictlySortedBy lot_order s.lots

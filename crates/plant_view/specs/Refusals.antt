@@ -14,7 +14,7 @@ refuse b r rest = if b then Some r else rest
 abbrev pub at_limit : State → Bool
 at_limit s = nat_le greatest_seq s.seq
 
--- what stands in a sublot: what entered it less what left it
+-- the stock of a sublot: what entered it less what left it
 abbrev pub sublot_standing : State → List ℕ → ℕ → ℕ
 sublot_standing s lot number = entered s.movements lot number - left s.movements lot number
 

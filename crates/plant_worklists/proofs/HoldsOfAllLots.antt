@@ -1,4 +1,4 @@
--- The holds after a place are the further ones of its lot, and those of the lots after it.
+-- The holds after a cursor are the further ones of its lot, and those of the lots after it.
 use Rattle.std.proofs.Common.{◌≡◌, ◌∙◌, Bool, true, false, ◌&&◌, ◌||◌, Some, refl, ap, filter}
 use Rattle.std.proofs.Math.Bool.{or-false}
 use Rattle.std.proofs.lemmas.Cmp.{then_total, on_total, nat_list_cmp_total}

@@ -33,12 +33,12 @@ module _ {R : Type 0} (order : R → R → Ordering) where
   first_alone xs [] more x first none = rw first (ap (λ l. x ∷ l) (sym (alone more)))
   first_alone xs (y ∷ ys) more x first none = absurd (omega (arith, none))
 
-  -- ---- fronts
+  -- ---- prefixes
 
   take_prefix : (k n : ℕ) (xs : List R) → k ≤ n → take k (take n xs) ≡ take k xs
   take_prefix k n xs few = grind (common_steps, arith)
 
-  -- the front of two lists as one is that of their fronts
+  -- the prefix of two lists as one is that of their prefixes
   take_merged : (k n m : ℕ) (xs ys : List R) → k ≤ n → k ≤ m → take k (merged (take n xs) (take m ys)) ≡ take k (merged xs ys)
   take_merged zero n m xs ys few some = refl
   take_merged (suc k) zero m xs ys few some = absurd (omega (arith, few))
@@ -58,7 +58,7 @@ module _ {R : Type 0} (order : R → R → Ordering) where
       (λ e. rw e (let more = covers xs ys in (omega (arith, more.0), omega (arith, more.1))))
       (λ e. rw e (let more = covers (x ∷ xs) ys in (omega (arith, more.0), omega (arith, more.1))))
 
-  -- whether more stand behind the front, by whether more stand behind either front, and by what both fronts have
+  -- whether more come after the prefix, by whether more come after either prefix, and by what both prefixes have
   more_by : (n : ℕ) (xs ys : List R) (a b : Bool) → nat_lt n (length xs) ≡ a → nat_lt n (length ys) ≡ b
       → (nat_lt n (length xs) || (nat_lt n (length ys) || nat_lt n (length (merged (take n xs) (take n ys))))) ≡ nat_lt n (length (merged xs ys))
   more_by n xs ys true b e f =

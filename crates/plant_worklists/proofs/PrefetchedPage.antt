@@ -1,4 +1,4 @@
--- A page of what comes after a lot is all there is of each lot before its last, and of all where nothing stands behind it.
+-- A page of what comes after a lot is all there is of each lot before its last, and of all where nothing comes after it.
 use Rattle.std.proofs.Common.{◌≡◌, ◌∙◌, ℕ, ◌+◌, ◌-◌, ◌<◌, ◌≤◌, Bool, true, false, cond, nat_lt, List, [], ◌∷◌, ◌++◌, filter, take, drop, length, get_or, slice_get, option_map, Option, Some, None, refl, sym, ap, arith}
 use Rattle.std.specs.Prelude.{if◌then◌else◌}
 use Rattle.std.specs.Ordering.{is_eq, is_lt, ordering_index, ordering_reverse}
@@ -41,7 +41,7 @@ module _ {R : Type 0} (lot_of : R → List ℕ) where
     abbrev prefix : List R
     prefix = take page_size rows
 
-    -- behind a row of a later lot there is none of this one
+    -- after a row of a later lot there is none of this one
     cut_at : (z : R) → slice_get prefix (length prefix - 1) ≡ Some z → is_lt (id_cmp lot (lot_of z)) ≡ true → page_size < length rows → rows_of lot_of lot prefix ≡ rows_of lot_of lot rows
     cut_at z last before more = sym (prefix_and_rest (λ r. same (lot_of r) lot) page_size rows ∙ ap (λ l. rows_of lot_of lot prefix ++ l) none ∙ append-nil (rows_of lot_of lot prefix))
       where
@@ -58,7 +58,7 @@ module _ {R : Type 0} (lot_of : R → List ℕ) where
             let at : ordering_index (id_cmp (lot_of (get_or rows (page_size - 1) d)) lot) ≡ 2 = ap (λ r. ordering_index (id_cmp (lot_of r) lot)) (there d) ∙ behind lot (lot_of z) (id_cmp lot (lot_of z)) refl before in
             is_of lot_of lot (get_or (drop page_size rows) k d) ∙ ap (λ r. is_eq (id_cmp (lot_of r) lot)) (get_or-drop page_size rows k d) ∙ last_index (id_cmp (lot_of (get_or rows (page_size + k) d)) lot) (omega (arith, up, at)))
 
-    -- a page that more rows stand behind has rows
+    -- a page after which more rows come has rows
     cut_by : (o : Option R) → slice_get prefix (length prefix - 1) ≡ o → is_before (option_map lot_of o) lot ≡ true → page_size < length rows → rows_of lot_of lot prefix ≡ rows_of lot_of lot rows
     cut_by None last before more = absurd (none_there prefix (let whole = length-take page_size rows in omega (arith, whole, more)) last)
       where

@@ -1,4 +1,4 @@
--- Rows in the order of their lots: what stands between two halvings is what is of the lot.
+-- Rows in the order of their lots: what is between the positions that two searches find is what is of the lot.
 use Rattle.std.proofs.Common.{◌≡◌, ◌∙◌, ℕ, suc, ◌+◌, ◌<◌, ◌≤◌, Bool, true, false, List, [], ◌∷◌, ◌++◌, filter, take, drop, length, get_or, refl, sym, ap, arith}
 use Rattle.std.specs.List.Sorted.{IsNonDecreasingBy, IsPartitionPoint, IsPartitionedBy}
 use Rattle.std.specs.Ordering.{is_eq, is_le, is_lt, ordering_index}

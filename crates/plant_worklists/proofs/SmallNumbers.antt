@@ -1,4 +1,4 @@
--- Numbers of few digits are small, and a text with no dot names no place.
+-- Numbers of few digits are small, and a text with no dot names no cursor.
 use Rattle.std.proofs.Common.{◌≡◌, ℕ, ◌<◌, ◌≤◌, ◌^◌, Bool, true, false, ◌&&◌, cond, List, length, Option, Some, None, nat_le, refl, ap, subst, arith, []}
 use Rattle.std.specs.Char.{is_ascii_digit}
 use Rattle.std.specs.List.{list_all, position_or_len, before_first, after_first}

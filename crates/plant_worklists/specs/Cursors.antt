@@ -1,4 +1,4 @@
--- Places in lists whose rows have keys of two values, and how such a place is written.
+-- Cursors in lists whose rows have keys of two values, and how such a cursor is written.
 use Rattle.std.specs.Prelude.{ℕ, Bool, List, Option, Some, None, ◌==◌}
 use Rattle.std.specs.List.{before_first, after_first}
 use Rattle.plant_base.specs.Dates.{is_due}

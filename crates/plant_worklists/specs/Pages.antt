@@ -6,6 +6,6 @@ use Rattle.plant_worklists.specs.declared.page.Page.{Page}
 abbrev pub page_size : ℕ
 page_size = 100
 
--- the first so many of all, and whether more stand behind them
+-- the first so many of all, and whether more come after them
 abbrev pub page_of : {R : Type 0} → List R → Page R
 page_of all = record { rows = take page_size all; has_more = nat_lt page_size (length all) }

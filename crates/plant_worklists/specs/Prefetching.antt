@@ -30,14 +30,14 @@ is_before (Some end) lot = is_lt (id_cmp lot end)
 abbrev pub is_between : Bool → Option (List ℕ) → Option (List ℕ) → List ℕ → Bool
 is_between is_read after before lot = is_read && (is_after after lot && is_before before lot)
 
--- the last lot of a page that more rows stand behind: some of its rows may be among these
+-- the last lot of a page after which more rows come: some of its rows may be among these
 abbrev pub end_of : {R : Type 0} → (R → List ℕ) → List R → Bool → Option (List ℕ)
 end_of lot_of rows has_more = if has_more then option_map lot_of (slice_get rows (length rows - 1)) else None
 
 abbrev pub Rise : {R : Type 0} → (R → List ℕ) → List R → Type 0
 Rise lot_of rows = IsSortedByKey lot_of id_cmp rows
 
--- They stand in the order of their lots, and of each lot between the bounds they are all rows of the list.
+-- They are in the order of their lots, and of each lot between the bounds they are all rows of the list.
 pub record AreRead {R : Type 0} (lot_of : R → List ℕ) (all rows : List R) (is_read : Bool) (after before : Option (List ℕ)) : Type 0 where
   pub rise : Rise lot_of rows
   pub whole : (lot : List ℕ) → is_between is_read after before lot ≡ true → rows_of lot_of lot rows ≡ rows_of lot_of lot all
@@ -80,7 +80,7 @@ wants_page lot a = not (is_answered lot a) && is_page_due lot a
 abbrev pub counted : {R : Type 0} → List ℕ → ReadAhead R → ReadAhead R
 counted lot a = record a { policy = if is_answered lot a then after_hit a.policy else after_miss (row_at lot a) (is_page_due lot a) a.policy }
 
--- a page of what comes after the lot before is in the place of what was read
+-- a page of what comes after the lot before is there instead of what was read
 abbrev pub with_page : {R : Type 0} → (R → List ℕ) → Page R → ReadAhead R → ReadAhead R
 with_page lot_of page a = record a { rows = page.rows; is_read = true; after = a.last; before = end_of lot_of page.rows page.has_more }
 

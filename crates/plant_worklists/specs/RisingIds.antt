@@ -1,4 +1,4 @@
--- The rows of a sound state stand in the order of their lots.
+-- The rows of a consistent state are in the order of their lots.
 use Rattle.std.proofs.Common.{◌≡◌, ◌∙◌, ℕ, zero, suc, ◌+◌, Bool, false, List, [], ◌∷◌, map, filter, refl, ap, arith}
 use Rattle.std.specs.List.Sorted.{IsStrictlySortedBy}
 use Rattle.std.specs.Ordering.{is_lt, nat_cmp, ordering_reverse, ordering_then}
@@ -27,7 +27,7 @@ module _ {R : Type 0} (order : R → R → Ordering) (lot_of : R → List ℕ) (
       let next : suc k + 1 ≡ suc (k + 1) = omega arith in
       rw next (rise (y ∷ rows) sorted.1 k d (omega arith) (omega (arith, high)))
 
--- an id that comes first isn't behind the other
+-- an id that comes first isn't after the other
 not_behind : (a b : List ℕ) (o : Ordering) → id_cmp a b ≡ o → (o ≡ Greater → ⊥) → is_lt (id_cmp b a) ≡ false
 not_behind a b Less e other = ap is_lt (nat_list_cmp_total.antisymm b a ∙ ap ordering_reverse e)
 not_behind a b Equal e other = ap is_lt (nat_list_cmp_total.antisymm b a ∙ ap ordering_reverse e)
@@ -51,7 +51,7 @@ lots_rise s test sound = rise lot_order (λ (l : Lot). l.id) (λ a b e. not_behi
 pub holds_rise : (s : State) (test : Hold → Bool) → DecisionInvariant s → Rise (λ (h : Hold). h.lot) (filter test s.holds)
 holds_rise s test sound = rise hold_order (λ (h : Hold). h.lot) (λ a b e. by_first a.lot b.lot (id_cmp a.id b.id) e) (filter test s.holds) (IsStrictlySortedBy-filter hold_order test s.holds sound.holds)
 
--- with their stock places stand as they stood
+-- places with their stock keep their order
 pub sublots_rise : (s : State) (test : Sublot → Bool) → DecisionInvariant s → Rise (λ (r : Sublot). r.lot) (filter test (map (sublot_row s.movements) s.places))
 sublots_rise s test sound =
     let list = map (sublot_row s.movements) s.places in

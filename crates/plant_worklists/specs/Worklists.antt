@@ -111,12 +111,12 @@ holds_after s cursor = filter (λ h. is_after cursor h.lot) s.holds
 
 -- ---- lists whose keys are of two values
 
--- the place that a list of recipes is to come after: where none is given, one that each recipe comes after
+-- the cursor that a list of recipes is to come after: where none is given, one that each recipe comes after
 abbrev pub recipe_after : Option RecipeCursor → RecipeCursor
 recipe_after None = record { recipe = []; version = 0 }
 recipe_after (Some place) = place
 
--- the version of the recipe comes after this place
+-- the version of the recipe comes after this cursor
 abbrev pub is_recipe_after : Option RecipeCursor → Recipe → Bool
 is_recipe_after cursor r = is_gt (numbered_cmp r.header.recipe r.header.version (recipe_after cursor).recipe (recipe_after cursor).version)
 
@@ -127,7 +127,7 @@ is_recipe_in state cursor r = same (recipe_state_name r.state) (recipe_state_nam
 abbrev pub recipes_in : State → RecipeState → Option RecipeCursor → List Recipe
 recipes_in s state cursor = filter (is_recipe_in state cursor) s.recipes
 
--- the place that a list of orders by their due dates is to come after: where none is given, one that each order comes after
+-- the cursor that a list of orders by their due dates is to come after: where none is given, one that each order comes after
 abbrev pub due_after : Option DueCursor → DueCursor
 due_after None = record { due = []; order = [] }
 due_after (Some place) = place
@@ -136,7 +136,7 @@ due_after (Some place) = place
 abbrev pub due_order : Job → Job → Ordering
 due_order a b = ordering_then (id_cmp a.order.due b.order.due) (id_cmp a.order.order b.order.order)
 
--- the order comes after this place
+-- the order comes after this cursor
 abbrev pub is_due_after : Option DueCursor → Job → Bool
 is_due_after cursor j = is_gt (ordering_then (id_cmp j.order.due (due_after cursor).due) (id_cmp j.order.order (due_after cursor).order))
 
@@ -166,16 +166,16 @@ receipts_by_number s cursor = in_order number_order (filter (is_number_after cur
 
 -- ---- ledgers
 
--- the place that a ledger is to come after: where none is given, one that each movement comes after
+-- the cursor that a ledger is to come after: where none is given, one that each movement comes after
 abbrev pub movement_after : Option MovementCursor → MovementCursor
 movement_after None = record { seq = 0; line = 0 }
 movement_after (Some place) = place
 
--- the movement comes after this place
+-- the movement comes after this cursor
 abbrev pub is_movement_after : Option MovementCursor → Movement → Bool
 is_movement_after cursor m = is_gt (ordering_then (nat_cmp m.seq (movement_after cursor).seq) (nat_cmp m.line (movement_after cursor).line))
 
--- the hold comes after this place; where none is given, after the front
+-- the hold comes after this cursor; where none is given, each hold does
 abbrev pub is_hold_after : Option HoldCursor → Hold → Bool
 is_hold_after None h = is_after None h.lot
 is_hold_after (Some place) h = is_gt (ordering_then (id_cmp h.lot place.lot) (id_cmp h.id place.hold))

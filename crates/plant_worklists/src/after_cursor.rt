@@ -1,4 +1,4 @@
-//! The place in a list from which a page goes on.
+//! The cursor in a list from which a page goes on.
 ghost use Rattle.std.specs.Prelude.{◌≡◌};
 ghost use Rattle.plant_worklists.specs.Worklists.{text_after, is_after, recipe_after, is_recipe_after};
 ghost use Rattle.plant_worklists.specs.Worklists.{movement_after, is_movement_after, due_after, is_due_after, number_after, is_number_after};
@@ -23,7 +23,7 @@ pub fn is_after(id: &Id, cursor: &Option<Id>) -> bool
     id.as_str() > text_after(cursor)
 }
 
-/// The id of the recipe that a list's recipes are to come after, or be: the empty text where no place is given.
+/// The id of the recipe that a list's recipes are to come after, or be: the empty text where no cursor is given.
 pub fn recipe_text_after(cursor: &Option<RecipeCursor>) -> &str
     ensures { result.now ≡ (recipe_after cursor.now).recipe }
 {
@@ -33,7 +33,7 @@ pub fn recipe_text_after(cursor: &Option<RecipeCursor>) -> &str
     }
 }
 
-/// The version of that recipe that its further versions are to come after: 0 where no place is given.
+/// The version of that recipe that its further versions are to come after: 0 where no cursor is given.
 pub fn version_after(cursor: &Option<RecipeCursor>) -> u16
     ensures { result ≡ (recipe_after cursor.now).version }
 {
@@ -43,7 +43,7 @@ pub fn version_after(cursor: &Option<RecipeCursor>) -> u16
     }
 }
 
-/// Whether a version of a recipe comes after this place.
+/// Whether a version of a recipe comes after this cursor.
 pub fn is_recipe_after(row: &Recipe, cursor: &Option<RecipeCursor>) -> bool
     ensures { result ≡ is_recipe_after cursor.now row.now }
 {
@@ -53,7 +53,7 @@ pub fn is_recipe_after(row: &Recipe, cursor: &Option<RecipeCursor>) -> bool
     by_recipe.then(by_version).is_gt()
 }
 
-/// The place that a ledger's movements are to come after: where none is given, one that each movement comes after.
+/// The cursor that a ledger's movements are to come after: where none is given, one that each movement comes after.
 pub fn movement_after(cursor: &Option<MovementCursor>) -> MovementCursor
     ensures { result ≡ movement_after cursor.now }
 {
@@ -63,7 +63,7 @@ pub fn movement_after(cursor: &Option<MovementCursor>) -> MovementCursor
     }
 }
 
-/// Whether a movement comes after this place.
+/// Whether a movement comes after this cursor.
 pub fn is_movement_after(row: &Movement, cursor: &Option<MovementCursor>) -> bool
     ensures { result ≡ is_movement_after cursor.now row.now }
 {
@@ -72,7 +72,7 @@ pub fn is_movement_after(row: &Movement, cursor: &Option<MovementCursor>) -> boo
     by_seq.then(row.line.cmp(&place.line)).is_gt()
 }
 
-/// The due date that a list's orders are to come after, or be due on: the empty text where no place is given.
+/// The due date that a list's orders are to come after, or be due on: the empty text where no cursor is given.
 pub fn due_text_after(cursor: &Option<DueCursor>) -> &str
     ensures { result.now ≡ (due_after cursor.now).due }
 {
@@ -82,7 +82,7 @@ pub fn due_text_after(cursor: &Option<DueCursor>) -> &str
     }
 }
 
-/// The id of the order of that day that its further orders are to come after: the empty text where no place is given.
+/// The id of the order of that day that its further orders are to come after: the empty text where no cursor is given.
 pub fn order_text_after(cursor: &Option<DueCursor>) -> &str
     ensures { result.now ≡ (due_after cursor.now).order }
 {
@@ -92,7 +92,7 @@ pub fn order_text_after(cursor: &Option<DueCursor>) -> &str
     }
 }
 
-/// Whether an order comes after this place in a list by due dates.
+/// Whether an order comes after this cursor in a list by due dates.
 pub fn is_due_after(row: &Job, cursor: &Option<DueCursor>) -> bool
     ensures { result ≡ is_due_after cursor.now row.now }
 {

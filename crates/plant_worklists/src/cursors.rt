@@ -1,4 +1,4 @@
-//! Places in lists whose rows have keys of two values, and how such a place is written.
+//! Cursors in lists whose rows have keys of two values, and how such a cursor is written.
 ghost use Rattle.std.specs.Prelude.{◌≡◌};
 ghost use Rattle.plant_base.specs.Digits.{digits_of};
 ghost use Rattle.plant_worklists.specs.Cursors.{due_cursor, hold_cursor, recipe_cursor, movement_cursor};
@@ -7,7 +7,7 @@ ghost use Rattle.plant_base.specs.Values.{only};
 
 use plant_base::{Due, Id, read_digits};
 
-/// A version of a recipe as a place in a list of recipes. It needn't be there.
+/// A version of a recipe as a cursor in a list of recipes. It needn't be there.
 #[derive(Clone, Copy, Debug, PartialEq, Eq)]
 pub struct RecipeCursor {
     /// The recipe, by which the list is ordered first.
@@ -16,7 +16,7 @@ pub struct RecipeCursor {
     pub version: u16,
 }
 
-/// An order as a place in a list of orders by their due dates. It needn't be there.
+/// An order as a cursor in a list of orders by their due dates. It needn't be there.
 #[derive(Clone, Copy, Debug, PartialEq, Eq)]
 pub struct DueCursor {
     /// The due date, by which the list is ordered first.
@@ -25,7 +25,7 @@ pub struct DueCursor {
     pub order: Id,
 }
 
-/// A hold as a place in the list of the holds of all lots. It needn't be there.
+/// A hold as a cursor in the list of the holds of all lots. It needn't be there.
 #[derive(Clone, Copy, Debug, PartialEq, Eq)]
 pub struct HoldCursor {
     /// The lot, by which the list is ordered first.
@@ -34,7 +34,7 @@ pub struct HoldCursor {
     pub hold: Id,
 }
 
-/// A movement as a place in the ledger of a lot: the number of its command, and its line. It needn't be there.
+/// A movement as a cursor in the ledger of a lot: the number of its command, and its line. It needn't be there.
 #[derive(Clone, Copy, Debug, PartialEq, Eq)]
 pub struct MovementCursor {
     /// The number of the command, by which the list is ordered first; at most 16 digits as a text.
@@ -44,8 +44,8 @@ pub struct MovementCursor {
 }
 
 impl RecipeCursor {
-    /// The place that a text names: a recipe and a version of at most 3 digits, with a dot between them.
-    /// `None` where the text isn't of this form.
+    /// The cursor that a text names: a recipe and a version of at most 3 digits, with a dot between them.
+    /// `None` where the text isn't written so.
     pub fn read(text: &str) -> Option<Self>
         ensures { result ≡ recipe_cursor text.now }
     {
@@ -58,8 +58,8 @@ impl RecipeCursor {
 }
 
 impl DueCursor {
-    /// The place that a text names: a due date and an order, with a dot between them.
-    /// `None` where the text isn't of this form.
+    /// The cursor that a text names: a due date and an order, with a dot between them.
+    /// `None` where the text isn't written so.
     pub fn read(text: &str) -> Option<Self>
         ensures { result ≡ due_cursor text.now }
     {
@@ -79,8 +79,8 @@ fn read_due(text: &str) -> Option<Due>
 }
 
 impl HoldCursor {
-    /// The place that a text names: a lot and a hold, with a dot between them.
-    /// `None` where the text isn't of this form.
+    /// The cursor that a text names: a lot and a hold, with a dot between them.
+    /// `None` where the text isn't written so.
     pub fn read(text: &str) -> Option<Self>
         ensures { result ≡ hold_cursor text.now }
     {
@@ -93,8 +93,8 @@ impl HoldCursor {
 }
 
 impl MovementCursor {
-    /// The place that a text names: a number of at most 16 digits and a line of at most 3, with a dot between them.
-    /// `None` where the text isn't of this form.
+    /// The cursor that a text names: a number of at most 16 digits and a line of at most 3, with a dot between them.
+    /// `None` where the text isn't written so.
     pub fn read(text: &str) -> Option<Self>
         ensures { result ≡ movement_cursor text.now }
     {

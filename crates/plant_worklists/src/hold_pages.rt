@@ -16,7 +16,7 @@ use plant_base::{Hold, Id};
 use plant_view::ViewFault;
 use std::alloc::Global;
 
-/// The holds of all lots, by lot and id: what comes after a place, or the front where none is given.
+/// The holds of all lots, by lot and id: what comes after a cursor, or the beginning where none is given.
 /// `View` where the view failed, `Memory` where memory was refused.
 pub fn all_holds<V: Worklists>(
     alloc: Global,
@@ -33,7 +33,7 @@ pub fn all_holds<V: Worklists>(
     }
 }
 
-// The further holds of the place's lot, and those of the lots after it.
+// The further holds of the cursor's lot, and those of the lots after it.
 fn holds_beyond<V: Worklists>(
     alloc: Global,
     view: &mut V,
@@ -50,7 +50,7 @@ fn holds_beyond<V: Worklists>(
     joined(alloc, &near, &far)
 }
 
-// The holds of the place's lot that come after it.
+// The holds of the cursor's lot that come after it.
 fn holds_on<V: Worklists>(
     view: &mut V,
     place: HoldCursor,

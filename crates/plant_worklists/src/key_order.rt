@@ -1,4 +1,4 @@
-//! Rows by the place that their key gives them.
+//! Rows in the order of their keys.
 ghost use Rattle.std.specs.Prelude.{◌≡◌};
 
 use plant_base::{Hold, Job, Movement, Recipe};

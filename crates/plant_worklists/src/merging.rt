@@ -52,7 +52,7 @@ fn merged_rows<R: HasKeyOrder + Copy>(
     Ok(rows)
 }
 
-/// The first row of two lists in order, and what is left of both behind it.
+/// The first row of two lists in order, and what is left of both after it.
 #[tactic(auto, using(crate::proofs::MergedLists::first_alone))]
 fn take_first<'r, R: HasKeyOrder>(
     first: &'r [R],

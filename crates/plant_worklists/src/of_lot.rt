@@ -9,7 +9,7 @@ use crate::view::Worklists;
 use plant_base::{Hold, Id, Lot, Sublot};
 use plant_view::ViewFault;
 
-/// A row of a lot: the lot itself, or what stands under its id.
+/// A row of a lot: the lot itself, or what is recorded of its id.
 pub trait OfLot: Sized + Copy {
     ghost use Rattle.std.specs.Prelude.{◌≡◌, ℕ, Bool, List, IfOk, filter};
     ghost use Rattle.plant_base.specs.State.{State};
@@ -24,7 +24,7 @@ pub trait OfLot: Sized + Copy {
     /// All such rows of a state.
     ghost all: { State → List Self };
 
-    /// In a sound state any of them stand in the order of their lots.
+    /// In a consistent state any of them are in the order of their lots.
     ghost rise: { (s : State) (test : Self → Bool) → DecisionInvariant s → Rise lot_of (filter test (all s)) };
 
     /// The id of its lot.

@@ -7,7 +7,7 @@ use plant_base::Items;
 /// No page has more rows.
 pub const PAGE_SIZE: u16 = 100;
 
-/// The first rows of a list, and whether more of it stand behind them.
+/// The first rows of a list, and whether the list goes on after them.
 #[derive(Drop)]
 pub struct Page<R> {
     /// At most [`PAGE_SIZE`], in the order of the list.

@@ -3,7 +3,7 @@
 ghost use Rattle.std.specs.Prelude.{◌≡◌};
 ghost use Rattle.plant_worklists.specs.FetchPolicy.{after_hit, after_miss, first_policy, is_due, next_pause, row_with, was_worth};
 
-/// A page takes the time of some thirty look-ups: behind one that answered so many lots the next is read at once.
+/// A page takes the time of some thirty look-ups: after one that answered so many lots the next is read at once.
 const WORTH: u32 = 32;
 
 /// So many lots are looked up before a page is read where nothing speaks for one: more than a page of a list has.
@@ -12,12 +12,12 @@ const PAUSE: u32 = 128;
 /// So many lots in a row that are each near the one before speak for a first page.
 const IN_A_ROW: u32 = 4;
 
-/// What was asked for, as far as it tells whether to read a page ahead.
+/// What was asked for, as far as it decides whether to read a page ahead.
 #[derive(Clone, Copy, Debug)]
 pub struct PrefetchPolicy {
     /// How many lots are to be looked up yet before a page is read.
     wait: u32,
-    /// How many are to be looked up behind the next page, where it answers few lots.
+    /// How many are to be looked up after the next page, where it answers few lots.
     pause: u32,
     /// How many lots in a row were each near the one before.
     row: u32,

@@ -26,9 +26,9 @@ pub struct ReadAhead<R> {
     pub before: Option<Id>,
     /// The lot that is asked for.
     pub asked: Option<Id>,
-    /// The lot that was asked for before it, behind which a page is read.
+    /// The lot that was asked for before it, after which a page is read.
     pub last: Option<Id>,
-    /// What tells when to read a page.
+    /// Decides when to read a page.
     pub policy: PrefetchPolicy,
 }
 
@@ -81,7 +81,7 @@ impl<R: OfLot> ReadAhead<R> {
         self.asked = Some(*lot);
     }
 
-    /// Puts the page of what comes after the lot before in the place of what was read.
+    /// Puts the page of what comes after the lot before instead of what was read.
     pub(crate) fn put(&mut self, page: Page<R>)
         ensures read { self.new ≡ with_page R.lot_of page self.old }
         ensures valid { (all : List R) → Rise R.lot_of (rows_after R.lot_of self.old.last all)
@@ -109,7 +109,7 @@ impl<R: OfLot> ReadAhead<R> {
     }
 }
 
-/// Whether a lot's id is that of another but for its last character: such lots mostly stand near each other.
+/// Whether a lot's id is that of another but for its last character: such lots are mostly near each other.
 fn are_near(lot: &Id, other: &Option<Id>) -> bool
     ensures { result ≡ are_near lot.now other.now }
 {
@@ -129,7 +129,7 @@ fn is_before(lot: &Id, before: &Option<Id>) -> bool
     }
 }
 
-// Where a page ends before the rows do: the last lot of it, of which more rows may stand behind the page.
+// Where a page ends before the rows do: the last lot of it, which may have more rows after the page.
 fn end_of<R: OfLot>(rows: &[R], has_more: bool) -> Option<Id>
     ensures { result ≡ end_of R.lot_of rows.now has_more }
 {

@@ -6,11 +6,11 @@ use plant_base::{
 };
 use plant_view::View;
 
-/// The rows of a state, and what questions alone look up: pages of its lists, of each list what comes after an id or a place of
-/// two values, or its front where none is given, the movements of a lot, and pages of what lots have, lot by lot. The id or place
-/// needn't be there.
+/// The rows of a state, and what questions alone look up: pages of its lists, of each list what comes after an id or a
+/// cursor of two values, or its beginning where none is given, the movements of a lot, and pages of what lots have, lot by
+/// lot. The id or cursor needn't be there.
 ///
-/// A page is told as every look-up of a [`View`] is. So it is in every state.
+/// The contract of a page is like that of every look-up of a [`View`], and holds in every state.
 pub trait Worklists: View {
     ghost use Rattle.std.specs.Prelude.{◌≡◌, IfOk};
     ghost use Rattle.plant_trace.specs.HoldsIfHonest.{HoldsIfHonest};
@@ -25,7 +25,7 @@ pub trait Worklists: View {
         ensures { HoldsIfHonest Self.honest Self.kept Self.frame self.old self.new
             (IfOk result (λ page. page ≡ page_of (orders_in (Self.state self.old) state cursor))) };
 
-    /// The orders in a state by their due dates, and those of one day by their ids: what comes after a place.
+    /// The orders in a state by their due dates, and those of one day by their ids: what comes after a cursor.
     fn orders_by_due(
         &mut self,
         state: JobState,
@@ -81,7 +81,7 @@ pub trait Worklists: View {
         ensures { HoldsIfHonest Self.honest Self.kept Self.frame self.old self.new
             (IfOk result (λ page. page ≡ page_of (definitions_in (Self.state self.old) class cursor))) };
 
-    /// The versions of recipes in a state, by their recipes and their numbers: what comes after a place.
+    /// The versions of recipes in a state, by their recipes and their numbers: what comes after a cursor.
     fn recipes_in(
         &mut self,
         state: RecipeState,
@@ -91,7 +91,7 @@ pub trait Worklists: View {
             (IfOk result (λ page. page ≡ page_of (recipes_in (Self.state self.old) state cursor))) };
 
     /// The ledger of a lot: the movements that bring to it or take from it, or move within it, by their numbers and lines,
-    /// those into it by a split or a merge among them; what comes after a place.
+    /// those into it by a split or a merge among them; what comes after a cursor.
     fn ledger_of(
         &mut self,
         lot: Id,
@@ -112,7 +112,7 @@ pub trait Worklists: View {
             (IfOk result (λ page. page ≡ page_of (lots_after (Self.state self.old) cursor))) };
 
     /// The sublots of the lots that come after one, with their stock, by lot and number. The stocks are right where the state is
-    /// sound.
+    /// consistent.
     fn sublots_after(&mut self, cursor: Option<Id>) -> Result<Page<Sublot>, Self::Fault>
         ensures { HoldsIfHonest Self.honest Self.kept Self.frame self.old self.new
             (DecisionInvariant (Self.state self.old)

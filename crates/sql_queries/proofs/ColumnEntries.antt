@@ -1,4 +1,4 @@
--- The columns of a form as a query meets them.
+-- The columns of a table definition as a query meets them.
 use Rattle.std.proofs.Common.{◌≡◌, refl, ap, ap₂, List, ℕ, ◌-◌, ◌+◌, ◌<◌, ◌≤◌, [], ◌∷◌, map, None, Some, Option, true, false, arith, nat_lt, nat_le, length, ◌&&◌, add-one}
 use Rattle.std.specs.List.{list_all}
 use Rattle.std.proofs.lemmas.Bool.{and_parts, not-true}
@@ -72,7 +72,7 @@ given_column table_def tree column_index h =
     let known : is_named table_def column_index ≡ true = parts.0 in
     (are_columns table_def tree (column_index ∷ []) (rw known refl), is_given table_def tree column_index parts.1)
 
--- in a table without a rowid of its own each column stands after the rowid
+-- in a table without a rowid of its own each column comes after the rowid
 pub places_are : (table_def : TableDef) (tree : ℕ) (column_indexes : List ℕ) → list_all (is_named table_def) column_indexes ≡ true → places_of (table_of table_def tree) (entries table_def column_indexes) ≡ column_indexes
 places_are table_def tree [] h = refl
 places_are table_def tree (p ∷ ps) h =
@@ -87,7 +87,7 @@ pub record Readable (table_def : TableDef) (by : List ℕ) : Type 0 where
   pub order : list_all (is_named table_def) by ≡ true
   pub few : length table_def.columns + length by + 12 < max_budget
 
--- what the test of a form says
+-- what the test of a table definition says
 pub readable : (table_def : TableDef) → is_readable table_def ≡ true → Readable table_def (first_of table_def.keys)
 readable table_def h =
     let few = nat_lt (length table_def.columns + length (first_of table_def.keys) + 12) max_budget in

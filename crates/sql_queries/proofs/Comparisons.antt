@@ -39,7 +39,7 @@ abbrev pub tests_of : Table → ℕ → List Entry → List Term
 tests_of table n [] = []
 tests_of table n (e ∷ es) = test_of table e n ∷ tests_of table (suc n) es
 
--- after its rowid a row's columns stand as in those without it
+-- after its rowid a row's columns are as in those without it
 past_rowid : (table_def : TableDef) (row : Row) (column_index : ℕ) → 0 < column_index → column (Null ∷ columns_of table_def row) column_index ≡ column row column_index
 past_rowid table_def row zero h = absurd (omega arith)
 past_rowid table_def [] (suc k) h = sym (padded_column (length table_def.columns) [] k)

@@ -1,4 +1,4 @@
--- A file that was just opened: its tables stand in the order of their rowids.
+-- A file that was just opened: the rows of its tables are in the order of their rowids.
 use Rattle.std.proofs.Common.{◌≡◌, ◌∙◌, ℕ, true, inl, inr, List, [], ◌∷◌, sym, ap, subst}
 use Rattle.std.proofs.Math.Logic.{∥∥₁_elim}
 use Rattle.std.specs.List.{AllZip}

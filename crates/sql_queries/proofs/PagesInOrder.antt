@@ -1,4 +1,4 @@
--- The rows that a query of a form's table answers stand in the order of the columns that it names, as a store compares values.
+-- The rows that a query of a definition's table answers are in the order of the columns that it names, as a store compares values.
 use Rattle.std.proofs.Common.{◌≡◌, refl, sym, subst, ap, List, ℕ, zero, suc, ◌+◌, ◌-◌, ◌<◌, [], ◌∷◌, map, drop, true, false, length, arith, All, slice_index_or}
 use Rattle.std.specs.Prelude.{filter, IsPermutation, IsSorted}
 use Rattle.std.specs.List.{list_all}

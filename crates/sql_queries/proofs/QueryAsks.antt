@@ -1,4 +1,4 @@
--- What a text asks that selects rows of a form's table, whatever its tests and its limit.
+-- What a text asks that selects rows of a definition's table, whatever its tests and its limit.
 use Rattle.std.proofs.Common.{◌≡◌, ◌⊎◌, inl, inr, refl, sym, ap, ◌∙◌, Ok, Err, List, ℕ, ◌-◌, ◌+◌, ◌<◌, ◌≤◌, [], ◌∷◌, Option, false, length, arith}
 use Rattle.std.proofs.lemmas.List.{length-map}
 use Rattle.std.proofs.lemmas.List.FromFn.{length-map-range_with_len}

@@ -1,4 +1,4 @@
--- The query that SELECT of columns of one table stands for, whatever else the schema has.
+-- The query that SELECT of columns of one table means, whatever else the schema has.
 use Rattle.std.proofs.Common.{◌≡◌, refl, ◌∙◌, ◌⊎◌, inl, inr, Ok, Err, List, ℕ, suc, negsuc, ◌-◌, ◌+◌, ◌<◌, [], ◌∷◌, ◌++◌, map, None, Some, Option, true, false, slice_get, arith, nat_lt, length, append-nil, ◌&&◌}
 use Rattle.std.proofs.lemmas.List.{append_assoc}
 use Rattle.std.proofs.lemmas.Bool.{cases_Bool}

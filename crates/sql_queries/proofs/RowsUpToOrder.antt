@@ -11,7 +11,7 @@ use Rattle.sql_tables.specs.Rows.{columns_of}
 use Rattle.sql_tables.specs.StoredRows.{IsDeclared}
 use Rattle.sql_queries.specs.Reading.{Lists}
 
--- a table that is declared twice over stands in one tree
+-- a table that is declared twice over has one tree
 pub one_tree : (schema : Schema) (table_def : TableDef) (at tree at' tree' : ℕ) → IsDeclared schema table_def at tree → IsDeclared schema table_def at' tree' → tree ≡ tree'
 one_tree schema table_def at tree at' tree' p q =
     let named = p.named in

@@ -1,4 +1,4 @@
--- What a text reads that selects from a form's table.
+-- What a text reads that selects from a definition's table.
 use Rattle.std.proofs.Common.{◌≡◌, refl, ap, Ok, List, ℕ, ◌-◌, ◌<◌, ◌≤◌, [], ◌∷◌, map, Option, None, true, not, nat_le, length, arith, ◌&&◌}
 use Rattle.std.specs.Prelude.{filter, IsPermutation}
 use Rattle.std.specs.List.{AllByRecursion, list_all}

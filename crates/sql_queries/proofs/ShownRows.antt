@@ -4,7 +4,7 @@ use Rattle.std.specs.List.{list_all}
 use Rattle.sqlite_value.specs.Order.{Row, column}
 use Rattle.sqlite_sql.specs.Term.{Term, holds}
 
--- the values at these places, 0 being the rowid
+-- the values of these column indexes, 0 being the rowid
 abbrev pub at_places : List ℕ → Row → Row
 at_places column_indexes row = map (column row) column_indexes
 

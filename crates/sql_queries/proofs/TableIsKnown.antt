@@ -15,7 +15,7 @@ use Rattle.sql_queries.specs.Reading.{Lists}
 pub shaped_at : (db : Database) (at : ℕ) (table : Table) → IsRising db → slice_get db.schema.tables at ≡ Some table → IsShaped shape.Table (db.trees table.tree)
 shaped_at db at table rising is = rising.rises table (has_got db.schema.tables at table is)
 
--- what was read of a table stands in it, as the writing side asks
+-- a table has the rows that were read of it, as the writing side asks
 pub listed_stands : (db : Database) (table_def : TableDef) (rows : List Row) → IsRising db → Lists db table_def rows → HasStoredRows db table_def rows
 listed_stands db table_def rows rising lists = record {
   at = lists.at;

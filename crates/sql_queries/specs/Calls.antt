@@ -15,6 +15,6 @@ FindsUnchanged old new r = HasCleanDisk new → IfOk r (λ found. IfSome found (
 abbrev pub KeepsVisible : State → State → Type 0
 KeepsVisible old new = HasCleanDisk new → Keeps old new
 
--- no transaction is open behind it, where none was before
+-- no transaction is open after it, where none was before
 abbrev pub BeginsNone : State → State → Type 0
 BeginsNone old new = old.in_transaction ≡ false → new.in_transaction ≡ false

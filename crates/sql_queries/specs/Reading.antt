@@ -1,4 +1,4 @@
--- What a reading of a form's table tells.
+-- What a reading of a definition's table returns.
 use Rattle.std.specs.Prelude.{ℕ, ◌<◌, ◌^◌, List, filter, map, IsPermutation}
 use Rattle.sqlite.specs.Order.{Row}
 use Rattle.sqlite.specs.Effect.{Database}
@@ -7,7 +7,7 @@ use Rattle.sql_tables.specs.Rows.{columns_of}
 use Rattle.sql_tables.specs.StoredRows.{IsDeclared}
 use Rattle.sql_queries.specs.Found.{has_values}
 
--- The form's table is declared, and these are its rows, each once, in some order.
+-- The definition's table is declared, and these are its rows, each once, in some order.
 pub record Lists (db : Database) (table_def : TableDef) (rows : List Row) : Type 0 where
   pub at : ℕ
   pub tree : ℕ
@@ -15,7 +15,7 @@ pub record Lists (db : Database) (table_def : TableDef) (rows : List Row) : Type
   pub low : tree < 2 ^ 31
   pub same : IsPermutation rows (map (columns_of table_def) (db.trees tree))
 
--- The form's table is declared, and these are its rows with the given values in these places, each once, in some order.
+-- The definition's table is declared, and these are its rows with the given values in the columns with these indexes, each once, in some order.
 pub record Finds (db : Database) (table_def : TableDef) (column_indexes : List ℕ) (values : Row) (rows : List Row) : Type 0 where
   pub at : ℕ
   pub tree : ℕ

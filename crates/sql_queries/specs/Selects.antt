@@ -1,4 +1,4 @@
--- Fixed texts that read the rows of a form's table.
+-- Fixed texts that read the rows of a definition's table.
 use Rattle.std.specs.Prelude.{◌≡◌, ℕ, ◌+◌, ◌-◌, Bool, true, false, not, ◌&&◌, ◌==◌, nat_lt, nat_le, List, [], ◌∷◌, map, length, Option, Some, None, Ok, slice_index_or}
 use Rattle.std.specs.List.{list_all, range_with_len}
 use Rattle.sqlite.specs.Kind.TheVariants.{Integer}
@@ -13,7 +13,7 @@ use Rattle.sql_tables.specs.TableDefs.{TableDef, strict_column, table_of}
 use Rattle.sql_tables.specs.Written.{Name}
 use Rattle.sql_queries.specs.Written.{select_of, parsed_as}
 
--- the column at a place, the first being 1
+-- the column with an index, the first being 1
 abbrev pub column_at : TableDef → ℕ → Column
 column_at table_def column_index = slice_index_or table_def.columns (column_index - 1) (strict_column [] Integer false)
 
@@ -23,7 +23,7 @@ names_at table_def = map (λ column_index. (column_at table_def column_index).na
 abbrev pub all_column_indexes : TableDef → List ℕ
 all_column_indexes table_def = range_with_len 1 (length table_def.columns)
 
--- the places of the first key
+-- the column indexes of the first key
 abbrev pub first_of : List (List ℕ) → List ℕ
 first_of [] = []
 first_of (key ∷ keys) = key
@@ -32,7 +32,7 @@ abbrev pub is_at : Option ℕ → ℕ → Bool
 is_at None column_index = false
 is_at (Some k) column_index = k + 1 == column_index
 
--- a column stands at this place, and is the one that its name finds
+-- the column index is that of a column, and of the one that the column's name finds
 abbrev pub is_named : TableDef → ℕ → Bool
 is_named table_def column_index = nat_lt 0 column_index && (nat_le column_index (length table_def.columns) && is_at (column_named (table_of table_def 0) (column_at table_def column_index).name) column_index)
 
@@ -40,7 +40,7 @@ abbrev pub is_binary : Collation → Bool
 is_binary Binary = true
 is_binary _ = false
 
--- the column at this place is compared as it is stored
+-- the column with this index is compared as it is stored
 abbrev pub is_plain : TableDef → ℕ → Bool
 is_plain table_def column_index = let column = column_at table_def column_index in column.is_strict && (not (is_filler column) && is_binary column.collation)
 

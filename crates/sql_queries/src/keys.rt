@@ -1,4 +1,4 @@
-//! The order of stored rows by columns of their table, whatever values stand in them.
+//! The order of stored rows by columns of their table, whatever their values are.
 
 ghost use Rattle.std.specs.Prelude.{◌≡◌, ◌∷◌};
 ghost use Rattle.sqlite.specs.Order.{column};
@@ -12,7 +12,7 @@ use sqlite::Row;
 use sqlite::types::ValueRef;
 use std::cmp::Ordering;
 
-/// The value in the column at this place, the first column being 1; NULL where there is no such column.
+/// The value in the column with this index, the first column being 1; NULL where there is no such column.
 fn value_at(row: &Row, column_index: usize) -> ValueRef<'_>
     ensures { owned result ≡ column (Null ∷ row.now) column_index }
 {
@@ -54,7 +54,7 @@ fn value_order(a: ValueRef<'_>, b: ValueRef<'_>) -> Ordering
         .then(text_of(a).cmp(text_of(b)))
 }
 
-/// The order of two rows by the columns at these places.
+/// The order of two rows by the columns with these indexes.
 fn key_order(column_indexes: &[usize], a: &Row, b: &Row) -> Ordering
     ensures { result ≡ key.key_order column_indexes.now a.now b.now }
 {
@@ -67,7 +67,7 @@ fn key_order(column_indexes: &[usize], a: &Row, b: &Row) -> Ordering
     Ordering::Equal
 }
 
-/// The places of the first key of a form, the first column being 1; none where it has no key.
+/// The column indexes of the first key of a table definition, the first column being 1; none where it has no key.
 pub fn first_key<'a>(table_def: &TableDef<'a>) -> &'a [usize]
     ensures { result.now ≡ first_of table_def.now.keys }
 {
@@ -77,7 +77,7 @@ pub fn first_key<'a>(table_def: &TableDef<'a>) -> &'a [usize]
     }
 }
 
-/// Whether the row stands before the other by the columns at these places.
+/// Whether the row comes before the other by the columns with these indexes.
 pub(crate) fn is_before(column_indexes: &[usize], a: &Row, b: &Row) -> bool
     ensures { result ≡ key.is_before column_indexes.now a.now b.now }
 {

@@ -24,8 +24,8 @@ const MOST_UNLOGGED: usize = 0x80_0000;
 const MOST_LOGGED: usize = 0x40_0000;
 
 /// A connection over a store that was just opened: no transaction is open, it shows what was committed and a stop leaves
-/// just that, and each table stands in the order of its rowids. What it answers where it doesn't open: the store's error,
-/// and the store.
+/// just that, and the rows of each table are in the order of their rowids. Where it doesn't open, the error is the store's,
+/// and comes with the store.
 pub fn open_over<S: Alter + Drop>(alloc: Global, store: S) -> Result<Connection<S>, (Error, S)>
     requires { IsClean (S.Store.view store) → IsFresh (S.Store.view store) }
     ensures opens { IfOk result (λ c. HasCleanDisk (state S.Store c)
@@ -72,8 +72,8 @@ pub fn open_in_memory(alloc: Global) -> Result<Connection<MemStore>, AllocError>
     Connection::open_in_memory(alloc)
 }
 
-/// A connection over a file, which is made where it isn't there, as [`open_over`] opens one. `start` stands for what the
-/// file holds before it is opened. What it answers where the file doesn't open: the store's error.
+/// A connection over a file, which is made where it isn't there, as [`open_over`] opens one. `start` represents what the
+/// file holds before it is opened. The error is the store's where the file doesn't open.
 pub fn open_file<S: Start>(
     rt: &HostRuntime,
     file: &str,

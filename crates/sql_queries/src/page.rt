@@ -17,7 +17,7 @@ use sqlite::types::ValueRef;
 use sqlite::{Alter, Connection, Row};
 use std::alloc::Global;
 
-/// Rows of a table, and whether more of those that were asked for stand behind them.
+/// Rows of a table, and whether more of those that were asked for come after them.
 #[derive(Drop)]
 pub struct Page {
     /// The rows, in the order that was asked for.
@@ -26,9 +26,9 @@ pub struct Page {
     pub has_more: bool,
 }
 
-/// The first rows in the order of the columns at these places, so many at most, of those that have the given values and
+/// The first rows in the order of the columns with these indexes, so many at most, of those that have the given values and
 /// one above another in a further column, from a fixed text that selects them; the last value is one more than so many.
-/// Store where the table doesn't stand as it is declared, where a transaction is open, where a row that is answered doesn't
+/// Store where the table isn't declared as its definition says, where a transaction is open, where a row that is answered doesn't
 /// come after the one before it, and where the store fails; Memory where there is none. Nothing is changed.
 pub fn find_page<S: Alter>(
     alloc: Global,
@@ -48,7 +48,7 @@ pub fn find_page<S: Alter>(
     ensures kept { KeepsVisible (state S.Store conn.old) (state S.Store conn.new) }
     ensures mode { BeginsNone (state S.Store conn.old) (state S.Store conn.new) }
     ensures crash { Survives (state S.Store conn.old) (state S.Store conn.new) (λ _. ⊥) }
-    // Memory is wanted for a row that was given, of a table that stands.
+    // Memory is wanted for a row that was given, of a table that exists.
     ensures memory { HasCleanDisk (state S.Store conn.new)
         → IfErr result (λ fault. fault ≡ Fault.Memory
         → HasTable conn.old.schema table_def.now

@@ -18,7 +18,7 @@ use sqlite::types::ValueRef;
 use sqlite::{Alter, Connection, Row, Rows};
 use std::alloc::{AllocError, Global};
 
-/// Whether the row may follow the list, in the order of the columns at these places.
+/// Whether the row may follow the list, in the order of the columns with these indexes.
 fn may_follow(by: &[usize], list: &[Row], row: &Row) -> bool
     ensures follows { IsTrue result → (d : Values) → 0 < length list.now
         → key.is_before by.now (slice_index_or list.now (length list.now - 1) d) row.now
@@ -83,7 +83,7 @@ fn keep(list: &mut Vec<Row>, row: Row) -> Result<(), Fault>
     }
 }
 
-/// All rows of the answer to a fixed text that only reads, one at a time and in the order of the columns at these places.
+/// All rows of the answer to a fixed text that only reads, one at a time and in the order of the columns with these indexes.
 /// Store where the store fails, or answers a row that doesn't come after the one before it; Memory where there is none.
 /// Nothing is changed.
 pub fn read_rows<S: Alter>(

@@ -19,7 +19,7 @@ use sqlite::{Alter, Connection, Row};
 use sqlite_schema::schema::Schema;
 use std::alloc::Global;
 
-/// Whether each of the tables stands as it is declared. It reads the schema alone, and takes no memory.
+/// Whether each of the tables is declared as its definition says. It reads the schema alone, and takes no memory.
 pub fn are_all_declared(schema: &Schema, table_defs: &[TableDef<'_>]) -> bool
     ensures { (result ≡ true) ↔ All (HasTable schema.now) table_defs.now }
 {
@@ -31,7 +31,7 @@ pub fn are_all_declared(schema: &Schema, table_defs: &[TableDef<'_>]) -> bool
     true
 }
 
-/// Whether none of the tables stands, and their names are free: no table, index or view bears one, and no foreign key
+/// Whether none of the tables exists, and their names are free: no table, index or view bears one, and no foreign key
 /// names one. It reads the schema alone, and takes no memory.
 pub fn all_free(schema: &Schema, table_defs: &[TableDef<'_>]) -> bool
     ensures { (result ≡ true) ↔ All (IsFree schema.now) table_defs.now }
@@ -45,7 +45,7 @@ pub fn all_free(schema: &Schema, table_defs: &[TableDef<'_>]) -> bool
 }
 
 /// The rows of the table that have the given values, by the first key of the table, from a fixed text that selects
-/// them. Store where the table doesn't stand as it is declared, where a transaction is open, and where the store
+/// them. Store where the table isn't declared as its definition says, where a transaction is open, and where the store
 /// fails; Memory where there is none. Nothing is changed.
 pub fn find_rows<S: Alter>(
     alloc: Global,
@@ -64,7 +64,7 @@ pub fn find_rows<S: Alter>(
     ensures kept { KeepsVisible (state S.Store conn.old) (state S.Store conn.new) }
     ensures mode { BeginsNone (state S.Store conn.old) (state S.Store conn.new) }
     ensures crash { Survives (state S.Store conn.old) (state S.Store conn.new) (λ _. ⊥) }
-    // Memory is wanted for a row that was given, of a table that stands.
+    // Memory is wanted for a row that was given, of a table that exists.
     ensures memory { HasCleanDisk (state S.Store conn.new)
         → IfErr result (λ fault. fault ≡ Fault.Memory
         → HasTable conn.old.schema table_def.now
@@ -76,8 +76,8 @@ pub fn find_rows<S: Alter>(
     read_rows(alloc, conn, first_key(table_def), sql, values)
 }
 
-/// All rows of the table, by its first key, from the fixed text that selects them. Store where the table doesn't stand
-/// as it is declared, where a transaction is open, and where the store fails; Memory where there is none. Nothing is
+/// All rows of the table, by its first key, from the fixed text that selects them. Store where the table isn't declared
+/// as its definition says, where a transaction is open, and where the store fails; Memory where there is none. Nothing is
 /// changed.
 pub fn read_table<S: Alter>(
     alloc: Global,
@@ -93,7 +93,7 @@ pub fn read_table<S: Alter>(
     ensures kept { KeepsVisible (state S.Store conn.old) (state S.Store conn.new) }
     ensures mode { BeginsNone (state S.Store conn.old) (state S.Store conn.new) }
     ensures crash { Survives (state S.Store conn.old) (state S.Store conn.new) (λ _. ⊥) }
-    // Memory is wanted for a row of a table that stands.
+    // Memory is wanted for a row of a table that exists.
     ensures memory { HasCleanDisk (state S.Store conn.new)
         → IfErr result (λ fault. fault ≡ Fault.Memory → HasTable conn.old.schema table_def.now) }
 {

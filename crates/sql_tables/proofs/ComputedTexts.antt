@@ -27,14 +27,14 @@ use Rattle.sql_tables.specs.Texts.{IsDeleteStatement, IsInsertStatement, IsUpser
 use Rattle.sql_tables.proofs.WhereGiven.{Entry, AreColumns, IsGiven, test_of, one_deleted, two_deleted}
 use Rattle.sql_tables.proofs.ExcludedTerms.{AreExcluded, excluded_terms, update_read}
 
--- the column at a place of the form's rows, the first being 1
+-- the column with an index in the definition's rows, the first being 1
 abbrev pub column_at : TableDef → ℕ → Column
 column_at table_def column_index = get_or table_def.columns (column_index - 1) (strict_column [] Integer true)
 
 abbrev pub entry_at : TableDef → ℕ → Entry
 entry_at table_def column_index = record { name = (column_at table_def column_index).name; at = column_index - 1; column = column_at table_def column_index }
 
--- the places are those of columns that WHERE finds by their names, and that are compared as they are
+-- the indexes are those of columns that WHERE finds by their names, and that are compared as they are
 pub record IsCompared (table_def : TableDef) (key : List ℕ) (entries : List Entry) (tests : ℕ → List Term) : Type 0 where
   pub above : list_all (λ p. ltb 0 p) key ≡ true
   pub found : (tree : ℕ) → AreColumns (table_of table_def tree) entries
@@ -78,7 +78,7 @@ takes_two text table_def p i j reads statement untimed compared given = record {
 abbrev pub names_of : TableDef → List Name
 names_of table_def = map (λ (c : Column). c.name) table_def.columns
 
--- ON CONFLICT over the columns of a key, DO UPDATE SET a = excluded.a, .. for each column of the form
+-- ON CONFLICT over the columns of a key, DO UPDATE SET a = excluded.a, .. for each column of the table definition
 abbrev pub clause_of : TableDef → List ℕ → Upsert
 clause_of table_def key = record { target = map (λ column_index. (column_at table_def column_index).name) key; sets = excluded_sets (names_of table_def); filter = None }
 
@@ -86,7 +86,7 @@ abbrev pub is_at : ℕ → Option ℕ → Bool
 is_at p None = false
 is_at p (Some q) = eqb q p
 
--- each name is that of the column at the next place, of a table as its rows are given after the parameters
+-- each name is that of the column with the next index, of a table as its rows are given after the parameters
 abbrev pub are_excluded : Table → ℕ → ℕ → List Name → Bool
 are_excluded table base p [] = true
 are_excluded table base p (name ∷ more) = is_at p (column_named (given table base) name) && (is_some (slice_get (given table base).columns p) && are_excluded table base (p + 1) more)
@@ -109,7 +109,7 @@ excluded_are table base p (name ∷ more) h =
 abbrev pub all_column_indexes : TableDef → List ℕ
 all_column_indexes table_def = range_with_len 1 (length table_def.columns)
 
--- The target's columns are those of the key, SET finds each column of the form, and together they make the new row.
+-- The target's columns are those of the key, SET finds each column of the table definition, and together they make the new row.
 pub record IsUpdated (table_def : TableDef) (key : List ℕ) : Type 0 where
   pub aims : (tree : ℕ) → places (table_of table_def tree) (clause_of table_def key).target ≡ Ok key
   pub apart : same_name table_def.name (codes "excluded") ≡ false

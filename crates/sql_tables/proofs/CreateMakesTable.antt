@@ -1,4 +1,4 @@
--- What a text that makes a form's table leaves.
+-- What a text that makes a definition's table leaves.
 use Rattle.std.proofs.Common.{◌≡◌, inl, inr, ℕ, ◌+◌, ◌<◌, List, [], ◌∷◌, ◌++◌, map, length, Bool, true, false, not, cond, Option, Some, None, Ok, refl, sym, ap, subst, ◌∙◌, slice_get, get_or, codes, is_some, arith, add-zero, option_and_then}
 use Rattle.std.proofs.lemmas.Bool.{cases_Bool, and_parts, not-false, not-true}
 use Rattle.std.proofs.lemmas.Bool.Decides.{nat_tests}

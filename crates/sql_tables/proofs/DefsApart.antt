@@ -1,4 +1,4 @@
--- Forms that are apart.
+-- Table definitions that are apart.
 use Rattle.std.proofs.Common.{◌≡◌, inl, inr, ℕ, ◌+◌, ◌<◌, zero, suc, List, [], ◌∷◌, true, false, not, Some, sym, subst, slice_get, arith}
 use Rattle.std.proofs.lemmas.Bool.{and_parts, cases_order, not-true}
 use Rattle.std.specs.List.{list_all}
@@ -9,7 +9,7 @@ use Rattle.sqlite_catalog.proofs.StepLemmas.{same_itself}
 use Rattle.sql_tables.specs.TableDefs.{TableDef, table_of}
 use Rattle.sql_tables.specs.Moves.{differs_from, all_differ, AreApart}
 
--- two forms whose names differ, and the names of the one's indexes from that of the other
+-- two table definitions whose names differ, and the names of the one's indexes from that of the other
 pub record Differ (f g : TableDef) : Type 0 where
   pub names : same_name f.name g.name ≡ false
   pub guards : (tree : ℕ) → list_all (λ (i : Index). not (same_name i.name g.name)) (automatics (table_of f tree) 0 (tree + 1) f.keys) ≡ true
@@ -36,7 +36,7 @@ apart_at table_defs apart = differ_at table_defs apart.apart
 apart_names : {a b : List ℕ} → same_name a b ≡ false → a ≡ b → ⊥
 apart_names {a} {b} differ same = let equal = same_itself a in let none = rw (sym same) at differ in cc
 
--- a name tells the place
+-- equal names are at equal positions
 pub same_column_index : (table_defs : List TableDef) → AreApart table_defs → (i j : ℕ) (f g : TableDef) → slice_get table_defs i ≡ Some f → slice_get table_defs j ≡ Some g → f.name ≡ g.name → i ≡ j
 same_column_index table_defs apart i j f g is there same = elim (cases_order i j) [
   | inl at ↦ at

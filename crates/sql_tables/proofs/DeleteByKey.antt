@@ -1,4 +1,4 @@
--- What a text that takes away a row by its key makes of the form's table.
+-- What a text that takes away a row by its key makes of the definition's table.
 use Rattle.std.proofs.Common.{◌≡◌, ◌⊎◌, inl, inr, ℕ, suc, ◌+◌, List, [], ◌∷◌, ◌++◌, map, drop, filter, length, true, false, not, Option, Some, None, Ok, Err, refl, sym, ap, subst, ◌∙◌, slice_get, ltb}
 use Rattle.sqlite.specs.Order.{Row}
 use Rattle.sqlite.specs.Term.{Term}

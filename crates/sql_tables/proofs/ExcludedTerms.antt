@@ -31,12 +31,12 @@ placed_given : (table : Table) (base p : ℕ) → place_of (given table base) p 
 unfolding given
 placed_given table base p = refl
 
--- each name is that of the column at the next place, where rows are given after the parameters
+-- each name is that of the column with the next index, where rows are given after the parameters
 abbrev pub AreExcluded : Table → ℕ → ℕ → List Name → Type 0
 AreExcluded table base p [] = ⊤
 AreExcluded table base p (name ∷ more) = (column_named (given table base) name ≡ Some p) × ((c : Column) × (slice_get (given table base).columns p ≡ Some c)) × AreExcluded table base (p + 1) more
 
--- the terms that read as many columns from this place on
+-- the terms that read as many columns from this index on
 abbrev pub excluded_terms : ℕ → List Name → List Term
 excluded_terms n [] = []
 excluded_terms n (name ∷ more) = col 0 n ∷ excluded_terms (n + 1) more
@@ -72,7 +72,7 @@ module _ (s : Schema) (table : Table) (at base : ℕ) (differs : same_name table
   unfolding lower_to node opened spend begin finish passes ast_views
   lower_excluded name p c next budget last is got enough depth = rw (enough, excluded_read name p c (state_at next (budget - 1) nothing) is got) refl
 
-  -- SET of these columns ends with these places and terms
+  -- SET of these columns ends with these indexes and terms
   abbrev pub Reads : List ℕ → List ℕ × List Term → List Name → ℕ → Carried → List Term → Type 0
   Reads column_indexes so_far names budget last terms = (left : ℕ) × (now : Carried) × (sets_from update_context table so_far (excluded_sets names) (state_at 2 budget last) ≡ Ok ((column_indexes, terms), state_at 2 left now))
 

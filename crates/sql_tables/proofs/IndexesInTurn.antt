@@ -175,7 +175,7 @@ indexed_by text index says old new at tree count d h =
 
 -- ---- in turn
 
--- what stands once the first so many indexes are made
+-- what is there once the first so many indexes are made
 pub record Grown (table_defs : List TableDef) (indexes : List IndexDef) (count : ℕ) (contents : Contents) (old new : Database) : Type 0 where
   pub has_rows : HaveStoredRows table_defs new contents
   pub made : (i : ℕ) (index : IndexDef) → i < count → slice_get indexes i ≡ Some index → HasIndex new.schema index
@@ -195,7 +195,7 @@ none_indexed table_defs indexes s contents have_rows = record {
   free = λ more differ unused. unused;
 }
 
--- what every one of a list passes, the one at a place passes
+-- what every one of a list passes, the one at a position passes
 passed_at : {X : Type 0} (p : X → Bool) (xs : List X) (i : ℕ) (x : X) → list_all p xs ≡ true → slice_get xs i ≡ Some x → p x ≡ true
 passed_at p [] i x all is = absurd cc
 passed_at p (y ∷ ys) zero x all is = let same : y ≡ x = cc in subst (λ z. p z ≡ true) same (and_parts _ _ all).0
@@ -204,7 +204,7 @@ passed_at p (y ∷ ys) (suc i) x all is = passed_at p ys i x (and_parts _ _ all)
 named_apart : (indexes : List IndexDef) (more : List TableDef) (i j : ℕ) (index : IndexDef) (table_def : TableDef) → are_named_apart indexes more ≡ true → slice_get indexes i ≡ Some index → slice_get more j ≡ Some table_def → same_name index.name table_def.name ≡ false
 named_apart indexes more i j index table_def apart is at = not-true _ (passed_at _ more j table_def (passed_at _ indexes i index apart is) at)
 
--- the place of one of a list
+-- the position of one of a list
 pub placed : {X : Type 0} (xs : List X) (x : X) → Has xs x → (i : ℕ) × (slice_get xs i ≡ Some x)
 placed [] x none = absurd none
 placed (y ∷ ys) x (inl is) = (zero, ap Some (sym is))

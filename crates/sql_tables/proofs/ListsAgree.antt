@@ -1,4 +1,4 @@
--- Lists that agree at each place, and what stands at some place.
+-- Lists that agree at each position, and what is at some position.
 use Rattle.std.proofs.Common.{◌≡◌, inl, inr, refl, sym, ap, ap₂, subst, List, ℕ, zero, suc, [], ◌∷◌, ◌<◌, false, map, length, get_or, slice_get, Some, ◌∙◌, arith, ◌+◌, ◌≤◌}
 use Rattle.std.proofs.lemmas.Bool.{cases_Bool, cases_lt}
 use Rattle.std.specs.List.{list_any, AllByRecursion, AllZip}
@@ -19,7 +19,7 @@ same_map f [] (y ∷ ys) len same = absurd (omega arith)
 same_map f (x ∷ xs) [] len same = absurd (omega arith)
 same_map f (x ∷ xs) (y ∷ ys) len same = ap₂ (λ a b. a ∷ b) (same 0 x y (omega arith)) (same_map f xs ys (omega arith) (λ k d e low. same (suc k) d e (omega arith)))
 
--- where each text says what stands at its place, so does the one at this place
+-- where each text says what is at its position, so does the one at this position
 pub there_too : {X Y : Type 0} (Says : List ℕ → Y → Type 0) (f : X → List ℕ) (texts : List X) (ys : List Y) → AllZip Says (map f texts) ys → (i : ℕ) (d : X) → i < length texts
     → (y : Y) × (slice_get ys i ≡ Some y) × Says (f (get_or texts i d)) y
 there_too Says f [] ys says i d low = absurd (omega arith)
@@ -27,7 +27,7 @@ there_too Says f (t ∷ texts) [] says i d low = absurd says
 there_too Says f (t ∷ texts) (y ∷ ys) says zero d low = (y, refl, says.0)
 there_too Says f (t ∷ texts) (y ∷ ys) says (suc i) d low = there_too Says f texts ys says.1 i d (omega arith)
 
--- and what has a place has one below the number of texts
+-- and what has a position has one below the number of texts
 pub past_all : {X Y : Type 0} (Says : List ℕ → Y → Type 0) (f : X → List ℕ) (texts : List X) (ys : List Y) → AllZip Says (map f texts) ys → (count : ℕ) → length texts ≤ count → (i : ℕ) (y : Y) → slice_get ys i ≡ Some y → i < count
 past_all Says f texts ys says count whole i y is = omega (arith, slice_get_within ys i y is, AllZip-long Says (map f texts) ys says, length-map texts f)
 
@@ -49,7 +49,7 @@ image_at f [] (y ∷ ys) same k d e low = absurd (omega arith)
 image_at f (x ∷ xs) (y ∷ ys) same zero d e low = cc
 image_at f (x ∷ xs) (y ∷ ys) same (suc k) d e low = let more : xs ≡ map f ys = cc in image_at f xs ys more k d e (omega arith)
 
--- what holds at each place holds of each element
+-- what holds at each position holds of each element
 pub each_has : {X : Type 0} (P : X → Type 0) (xs : List X) → ((k : ℕ) (d : X) → k < length xs → P (get_or xs k d)) → (x : X) → Has xs x → P x
 each_has P [] h x none = absurd none
 each_has P (y ∷ ys) h x (inl is) = subst P (sym is) (h 0 y (omega arith))

@@ -1,4 +1,4 @@
--- What a statement that puts a row makes of the form's table and of the others.
+-- What a statement that puts a row makes of the definition's table and of the others.
 use Rattle.std.proofs.Common.{◌≡◌, ◌≢◌, ◌⊎◌, inl, inr, ℕ, ◌/◌, ℤ, List, [], ◌∷◌, map, filter, drop, length, Bool, true, false, not, Option, Some, None, Ok, Err, Result, refl, sym, ap, subst, true≢false, ◌∙◌, append-nil, ltb, ◌++◌, ◌+◌, is_eq}
 use Rattle.std.proofs.lemmas.Bool.{and_parts, or_cases, not-true}
 use Rattle.std.proofs.lemmas.Cmp.{tied_itself}
@@ -64,7 +64,7 @@ went (inr on) = on
 pub same_value : {B E : Type 0} {a b : B} → ◌≡◌ {A = Result B E} (Ok a) (Ok b) → a ≡ b
 same_value e = cc
 
--- the form's tree and the others, after a step
+-- the definition's tree and the others, after a step
 pub record Trees_turn (schema : Schema) (table_def : TableDef) (tree : ℕ) (db next : Trees) (rows : List Row) : Type 0 where
   pub shaped : IsShaped shape.Table (next tree)
   pub same : IsPermutation rows (map (columns_of table_def) (next tree))

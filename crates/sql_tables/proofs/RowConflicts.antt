@@ -1,4 +1,4 @@
--- Which rows a row of a form's table meets, and that no foreign key acts.
+-- Which rows a row of a definition's table meets, and that no foreign key acts.
 use Rattle.std.proofs.Common.{◌≡◌, inl, inr, ℕ, zero, suc, ℤ, List, [], ◌∷◌, filter, drop, Bool, true, false, not, ◌&&◌, Option, Some, None, refl, sym, ap, subst, subst₂, eq-eqb, ◌∙◌, Ordering, Less, Equal, Greater, is_eq, slice_get, get_or, ltb, eqb, arith}
 use Rattle.std.proofs.lemmas.Bool.{cases_Bool, false_from_ne_true, and_parts, and_from, or_cases}
 use Rattle.std.proofs.lemmas.Bool.Decides.{nat_tests}

@@ -45,7 +45,7 @@ without_is (id ∷ ids) rows =
     without_is ids (without_rowid id rows) ∙ (filter_both (λ r. not (has_rowid id r)) (λ r. not (list_any (λ j. has_rowid j r) ids)) rows
     ∙ filter_on _ _ rows (λ r _. nor (has_rowid id r) (list_any (λ j. has_rowid j r) ids)))
 
--- a row whose rowid is free comes into its place
+-- a row whose rowid is free comes where its rowid belongs
 pub put_moves : (new : Row) (rows : List Row) → is_taken rows new ≡ false → IsPermutation (new ∷ rows) (put_row new rows)
 put_moves new [] free = IsPermutation-refl (new ∷ [])
 put_moves new (r ∷ rs) free =

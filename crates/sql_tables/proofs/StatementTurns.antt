@@ -1,4 +1,4 @@
--- What a statement makes of the form's table, of the schema and of the other tables.
+-- What a statement makes of the definition's table, of the schema and of the other tables.
 use Rattle.std.proofs.Common.{◌≡◌, ◌≢◌, ℕ, ◌+◌, List, [], ◌∷◌, length, true, false, cond, None, Ok, refl, sym, ap, subst, inl, inr, Err, slice_get, slice_range, ◌∙◌, map}
 use Rattle.sqlite.specs.Order.{Row}
 use Rattle.sqlite.specs.Tree.{Trees}
@@ -55,7 +55,7 @@ pub ran_whole : (text : List ℕ) (params : Row) (old new : State) (count : ℕ)
 ran_whole text params old new count p c is whole h =
     subst (λ t. Runs old new None c t params count) (ap (statement_of text) (understood_as old.now.schema text (plain_command p c) is) ∙ whole) (ran_as text params old new count p c is h)
 
--- A table that is still declared, and whose tree is the same, still stands.
+-- A table that is still declared, and whose tree is the same, still has its rows.
 pub represents_still : (old new : Database) (table_def : TableDef) (rows : List Row) (there : HasStoredRows old table_def rows) → IsDeclared new.schema table_def there.at there.tree → new.trees there.tree ≡ old.trees there.tree → HasStoredRows new table_def rows
 represents_still old new table_def rows there declared same = record {
   at = there.at;
@@ -91,7 +91,7 @@ turns_from old new table_def at tree rows schema sound declared turned shown = r
   shown = shown;
 }
 
--- a statement on the rows of the form's table leaves them so, where its write does
+-- a statement on the rows of the definition's table leaves them so, where its write does
 pub turned_by : (old new : State) (table_def : TableDef) (params : Row) (rows become : List Row) (has_rows : HasStoredRows old.now table_def rows) (command : Command) (text : List ℕ) (count : ℕ) (w : Writes old new None command text params count)
     → AtPlace (λ (table : Table). OnRows (record { limit = old.step_limit; keys = Enforced; schema = old.now.schema; table = table; params = params }) (mode_of old) None command old.now.trees)
     (slice_get old.now.schema.tables has_rows.at) (Ok (w.tally, new.now))

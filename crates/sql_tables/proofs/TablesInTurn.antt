@@ -16,7 +16,7 @@ use Rattle.sql_tables.proofs.CreateMakesTable.{create_makes, free_still, counted
 use Rattle.sql_tables.proofs.ListsAgree.{one_further, there_too, past_all}
 use Rattle.std.proofs.lemmas.Option.{slice_get_within}
 
--- what stands once the first so many forms' tables are made
+-- what is there once the tables of the first so many definitions are made
 pub record Begun (table_defs : List TableDef) (count : ℕ) (old new : Database) : Type 0 where
   pub sound : IsDatabase new
   pub counted : lacks_sequence new.schema ≡ false
@@ -29,7 +29,7 @@ pub record Begun (table_defs : List TableDef) (count : ℕ) (old new : Database)
 abbrev pub Founding : List TableDef → ℕ → State → State → Type 0
 Founding table_defs count old new = IsDatabase old.now → AreFree table_defs old.now.schema → Begun table_defs count old.now new.now
 
--- what is got of the second list is got behind the first
+-- what is got of the second list is got after the first
 pub got_behind : {X : Type 0} (xs ys : List X) (j : ℕ) (y : X) → slice_get ys j ≡ Some y → slice_get (xs ++ ys) (length xs + j) ≡ Some y
 got_behind [] ys j y is = let same : j ≡ 0 + j = omega arith in subst (λ k. slice_get ys k ≡ Some y) same is
 got_behind (x ∷ xs) ys j y is =

@@ -100,7 +100,7 @@ module _ (schema : Schema) (at : ℕ) (table : Table) (base : ℕ) (clause : Ups
     | inr wrong ↦ rw (sets, updates, wrong) refl
   ]
 
-  -- the places of some UNIQUE's columns
+  -- the indexes of some UNIQUE's columns
   indexed : (columns : Option (List ℕ)) → option_map (λ (i : Index). i.columns) (find (is_key_at table key) schema.indexes) ≡ columns → (length clause.target == 0) ≡ false → bytes_eq key (0 ∷ []) ≡ false
       → Reads (key_meant schema table clause.target) (λ target. target)
   unfolding key_meant key_at

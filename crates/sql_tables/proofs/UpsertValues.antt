@@ -47,7 +47,7 @@ values_given table_def params fit =
     one_row params (terms_of table_def) (length table_def.columns + 1) (ap suc (parameters_length 0 table_def.columns) ∙ omega arith) (omega arith)
     ∙ ap (λ row. (Null ∷ row) ∷ []) (parameters_are [] params table_def.columns [] fit)
 
--- ---- a row that is given after the parameters, and what stands before it
+-- ---- a row that is given after the parameters, and what comes before it
 
 pub fits_length : (cs : List Column) (vs : Row) → fits_columns cs vs ≡ true → length vs ≡ length cs
 fits_length [] [] fit = refl

@@ -31,7 +31,7 @@ use Rattle.sqlite_ast.specs.declared.Expr.{Expr}
 use Rattle.sqlite_ast.specs.declared.Expr.TheVariants as e
 use Rattle.sqlite_ast.specs.declared.Binary.TheVariants as op
 
--- a name, the place among the columns where it is found, and the column
+-- a name, the index among the columns where it is found, and the column
 pub record Entry : Type 0 where
   pub name : Name
   pub at : ℕ
@@ -70,7 +70,7 @@ module _ (s : Schema) (table : Table) (name : Name) (at : ℕ) (is : slice_get s
   unfolding affinity_of of_column
   its_affinity outs e got g = rw (is, got, g.named, g.strict) refl
 
-  -- a column is compared with a parameter as it stands
+  -- a column is compared with a parameter as it is
   pub compared_given : (outs : List Output) (which : CompareOp) (how : Collation) (e : Entry) (m : ℕ) → slice_get table.columns e.at ≡ Some e.column → IsGiven table e
       → compared (context_of s name at outs false) (by.Compare which how) (col 1 (suc e.at)) (col 0 m) ≡ op2 (by.Compare which how) (col 1 (suc e.at)) (col 0 m)
   unfolding compared

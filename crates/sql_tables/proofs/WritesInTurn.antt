@@ -68,7 +68,7 @@ module _ (table_defs : List TableDef) (apart : AreApart table_defs) (old new : S
   pub keeping : KeepsOtherTables table_defs old.now new.now
   keeping = record { kept = other_kept }
 
--- the table at a place gets other rows
+-- the table of an index gets other rows
 pub moves_from : (table_defs : List TableDef) → AreApart table_defs → (old new : State) (i : ℕ) (table_def : TableDef) → slice_get table_defs i ≡ Some table_def → (become : List Row → List Row)
     → ((rows : List Row) → IsDatabase old.now → (has_rows : HasStoredRows old.now table_def rows) → Turns old new table_def has_rows.tree (become rows))
     → Shows old new new.now old.committed true → Moves table_defs old new (λ contents j. cond (eqb j i) (become (contents i)) (contents j))

@@ -17,7 +17,7 @@ use Rattle.sqlite_resolve.specs.Compile.{first, is_reserved}
 use Rattle.sql_tables.specs.TableDefs.{TableDef, table_of}
 use Rattle.sql_tables.specs.StoredRows.{Contents, IsDeclared, HasStoredRows, HaveStoredRows, KeepsOtherTables, AreFree}
 
--- an index of the form's table, over the columns at these places, the first column being 1
+-- an index of the definition's table, over the columns with these indexes, the first column being 1
 pub record IndexDef : Type 0 where
   pub name : List ℕ
   pub table : TableDef
@@ -49,13 +49,13 @@ pub record IsCreateIndexStatement (text : List ℕ) (index : IndexDef) : Type 0 
   pub own_name : is_reserved index.table.name ≡ false
   pub defines : (tree : ℕ) → define.index (table_of index.table tree) def ≡ Ok (index_of index tree 0)
 
--- each text makes the index at its place
+-- each text makes the index at its position
 abbrev pub AreCreateIndexStatements : List (List ℕ) → List IndexDef → Type 0
 AreCreateIndexStatements texts indexes = AllZip IsCreateIndexStatement texts indexes
 
 -- ---- what the texts leave
 
--- each index is of some form's table
+-- each index is of some definition's table
 abbrev pub AreOf : List IndexDef → List TableDef → Type 0
 AreOf indexes table_defs = AllByRecursion (λ (index : IndexDef). Has table_defs index.table) indexes
 
@@ -63,7 +63,7 @@ AreOf indexes table_defs = AllByRecursion (λ (index : IndexDef). Has table_defs
 abbrev pub are_named_apart : List IndexDef → List TableDef → Bool
 are_named_apart indexes table_defs = list_all (λ (index : IndexDef). list_all (λ (table_def : TableDef). not (same_name index.name table_def.name)) table_defs) indexes
 
--- Where the forms' tables stand the indexes are made, and each table that stood has the rows that it had. Nothing is
+-- Where the tables of the definitions exist the indexes are made, and each table that existed has the rows that it had. Nothing is
 -- committed, and the transaction goes on. Tables that could be made, and whose names are not those of the indexes, still can.
 pub record AddsIndexes (table_defs : List TableDef) (indexes : List IndexDef) (old new : State) : Type 0 where
   pub made : (contents : Contents) → HaveStoredRows table_defs old.now contents → (i : ℕ) (index : IndexDef) → slice_get indexes i ≡ Some index → HasIndex new.now.schema index
@@ -73,7 +73,7 @@ pub record AddsIndexes (table_defs : List TableDef) (indexes : List IndexDef) (o
   pub free : (contents : Contents) → HaveStoredRows table_defs old.now contents → (more : List TableDef) → are_named_apart indexes more ≡ true → AreFree more old.now.schema → AreFree more new.now.schema
   pub shown : IsTrue old.is_open → IsTrue old.in_transaction → Shows old new new.now old.committed true
 
--- The texts were run: where they make indexes of tables of these forms, those are made.
+-- The texts were run: where they make indexes of tables of these definitions, those are made.
 abbrev pub MakesIndexes : List (List ℕ) → State → State → Type 0
 MakesIndexes texts old new = (table_defs : List TableDef) (indexes : List IndexDef) → AreOf indexes table_defs → AreCreateIndexStatements texts indexes → AddsIndexes table_defs indexes old new
 

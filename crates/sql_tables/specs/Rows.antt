@@ -1,4 +1,4 @@
--- Rows of a form's table, as lists of the values of their columns, without the rowid.
+-- Rows of a definition's table, as lists of the values of their columns, without the rowid.
 use Rattle.std.specs.Prelude.{ℕ, zero, suc, ◌+◌, Bool, true, false, not, ◌&&◌, List, [], ◌∷◌, drop, filter, length}
 use Rattle.std.specs.List.{list_any}
 use Rattle.sqlite.specs.Order.{Row}
@@ -18,8 +18,8 @@ padded zero row = row
 padded (suc n) [] = Null ∷ padded n []
 padded (suc n) (v ∷ row) = v ∷ padded n row
 
--- the columns of a stored row of the form's table, without its rowid; a row that stood there before columns were added
--- lacks the last ones
+-- the columns of a stored row of the definition's table, without its rowid; a row older than added columns
+-- lacks these
 abbrev pub columns_of : TableDef → Row → Row
 columns_of table_def row = padded (length table_def.columns) (drop 1 row)
 
@@ -42,15 +42,15 @@ fits_columns (c ∷ cs) (v ∷ vs) = fits_kind c.kind v && not (c.not_null && is
 abbrev pub same_key : List ℕ → Row → Row → Bool
 same_key key a b = agree plain key (Null ∷ a) key (Null ∷ b)
 
--- two rows are equal in some key of the form
+-- two rows are equal in some key of the table definition
 abbrev pub meets : TableDef → Row → Row → Bool
 meets table_def a b = list_any (λ key. same_key key a b) table_def.keys
 
--- the rows with this one, in place of any that it meets
+-- the rows with this one, instead of any that it meets
 abbrev pub put : TableDef → Row → List Row → List Row
 put table_def row rows = row ∷ filter (λ r. not (meets table_def r row)) rows
 
--- the places of as many values, from this one on
+-- the column indexes of as many values, from this one on
 abbrev pub column_indexes_from : ℕ → List ℕ → List ℕ
 column_indexes_from n [] = []
 column_indexes_from n (column_index ∷ key) = n ∷ column_indexes_from (n + 1) key

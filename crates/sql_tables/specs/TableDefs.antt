@@ -14,7 +14,7 @@ use Rattle.sql_tables.specs.declared.table_def.ColumnDef.TheVariants as column
 pub record TableDef : Type 0 where
   pub name : List ℕ
   pub columns : List Column
-  -- the places of the columns of each key, the first column being 1
+  -- the column indexes of each key, the first column being 1
   pub keys : List (List ℕ)
 
 -- a column of a STRICT table, which has no default and compares texts by their bytes
@@ -43,7 +43,7 @@ column_of (column.TextOrNull name) = text_or_null name.now
 abbrev pub plains : List (List ℕ) → List Order
 plains keys = map (λ key. plain) keys
 
--- the table that the form declares, at this tree
+-- the table that the definition declares, at this tree
 abbrev pub table_of : TableDef → ℕ → Table
 table_of table_def tree = record {
   name = table_def.name;

@@ -1,4 +1,4 @@
--- What a fixed text says of a form's table, whatever else the schema has. Each is shown of a text by computing it.
+-- What a fixed text says of a definition's table, whatever else the schema has. Each is shown of a text by computing it.
 use Rattle.std.specs.Prelude.{◌≡◌, ◌⊎◌, ℕ, ◌+◌, ◌==◌, Bool, true, false, List, [], ◌∷◌, ◌++◌, length, Option, Ok, Err, slice_get, slice_range, Some, ltb}
 use Rattle.std.specs.List.{list_all}
 use Rattle.sqlite.specs.declared.types.Value.TheVariants.{Null}
@@ -29,7 +29,7 @@ use Rattle.sqlite_value.specs.Keys.{plain}
 use Rattle.sql_tables.specs.TableDefs.{TableDef, table_of}
 use Rattle.sql_tables.specs.Rows.{column_indexes_from}
 
--- ---- a text that makes the form's table
+-- ---- a text that makes the definition's table
 
 pub record IsCreateStatement (text : List ℕ) (table_def : TableDef) : Type 0 where
   pub parsed : Parsed
@@ -55,7 +55,7 @@ parameters_from n (c ∷ cs) = col 0 n ∷ parameters_from (n + 1) cs
 abbrev pub terms_of : TableDef → List Term
 terms_of table_def = lit Null ∷ parameters_from 0 table_def.columns
 
--- the places of each key are those of columns, and not of the rowid
+-- the indexes of each key are those of columns, and not of the rowid
 abbrev pub are_above : List (List ℕ) → Bool
 are_above keys = list_all (list_all (λ p. ltb 0 p)) keys
 
@@ -76,7 +76,7 @@ updating table_def tree =
     let count = length table_def.columns in
     simple (Inner tree ∷ []) (equal Binary (col 1 0) (col 0 count) ∷ []) (col 1 0 ∷ col 1 0 ∷ parameters_from (count + 2) table_def.columns)
 
--- the same, ON CONFLICT over the columns at these places DO UPDATE of each column
+-- the same, ON CONFLICT over the columns with these indexes DO UPDATE of each column
 pub record IsUpsertStatement (text : List ℕ) (table_def : TableDef) : Type 0 where
   pub clause : Upsert
   pub inserts : IsInsertStatement text table_def (clause ∷ [])

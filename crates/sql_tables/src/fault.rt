@@ -5,7 +5,7 @@ use sqlite::Error;
 /// Why a call on the store gave no answer.
 #[derive(Clone, Copy, Debug, PartialEq, Eq, thiserror::Error)]
 pub enum Fault {
-    /// The store failed, be it for want of memory of its own, or what stands in it isn't what was asked for.
+    /// The store failed, be it for want of memory of its own, or what it contains isn't what was asked for.
     #[error("the store failed")]
     Store,
     /// There was no memory for a growth of the desk's own, as of a list or a copy of a text.
@@ -13,7 +13,7 @@ pub enum Fault {
     Memory,
 }
 
-/// The fault that an error of the store is told as, whatever it was: also want of memory that SQLite answers is the
+/// The fault by which an error of the store is reported, whatever it was: want of memory that SQLite reports is the
 /// store's.
 pub fn fault_of(_: Error) -> Fault
     ensures { result ≡ Fault.Store }

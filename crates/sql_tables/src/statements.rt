@@ -28,9 +28,9 @@ fn run<S: Alter>(
     tx.execute(sql, params)
 }
 
-/// Puts a row, in place of those that are equal to it in some key, by a text that adds it, or that updates the row with
+/// Puts a row instead of those that are equal to it in some key, by a text that adds it, or that updates the row with
 /// its key. The one fault is [`Fault::Store`], where the store refuses the text, as it does where a row would have to go
-/// that the text doesn't update, and may where it isn't one of a table that stands.
+/// that the text doesn't update, and may where it isn't one of a table that exists.
 pub fn put_row<S: Alter>(
     tx: &mut Transaction<'_, S>,
     sql: &str,

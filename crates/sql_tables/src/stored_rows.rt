@@ -1,4 +1,4 @@
-//! Whether a schema declares a table as a form says.
+//! Whether a schema declares a table as a table definition says.
 ghost use Rattle.std.specs.Prelude.{◌≡◌, ◌↔◌, ◌==◌, ◌<◌, ◌^◌, true, false, not, map, List, IsTrue, codes, []};
 ghost use Rattle.std.specs.Prelude.{None, length};
 ghost use Rattle.std.specs.List.{list_all, list_any};
@@ -100,7 +100,7 @@ fn are_plain(orders: &[Order], keys: &[&[usize]]) -> bool
     true
 }
 
-/// Whether the table has nothing that CREATE adds beside columns and keys.
+/// Whether CREATE gave the table nothing but columns and keys.
 fn is_bare(table: &Table) -> bool
     ensures { (result ≡ true) ↔ ((table.now.key ≡ None) × (table.now.primary ≡ [])
         × (table.now.checks ≡ []) × (table.now.references ≡ []) × (table.now.computed ≡ [])
@@ -118,7 +118,7 @@ fn is_bare(table: &Table) -> bool
         && !table.is_counted
 }
 
-/// Whether the form declares the table.
+/// Whether the table definition declares the table.
 fn is_table(table: &Table, table_def: &TableDef<'_>) -> bool
     ensures { (result ≡ true) ↔ (table.now ≡ table_of table_def.now table.now.tree) }
 {
@@ -166,8 +166,8 @@ pub fn is_taken(schema: &Schema, name: &[u8]) -> bool
         || schema.view_named(name).is_some()
 }
 
-/// Whether the name of the form's table is free: no table, index or view bears it, and no foreign key names it. It reads the schema
-/// alone, and takes no memory.
+/// Whether the name of the definition's table is free: no table, index or view bears it, and no foreign key names it. It
+/// reads the schema alone, and takes no memory.
 pub fn is_free(schema: &Schema, table_def: &TableDef<'_>) -> bool
     ensures { (result ≡ true) ↔ IsFree schema.now table_def.now }
 {
@@ -187,7 +187,7 @@ fn is_own(schema: &Schema, tree: u32, table_def: &TableDef<'_>) -> bool
     true
 }
 
-/// Whether the places are those of one of the keys.
+/// Whether the column indexes are those of one of the keys.
 fn is_some_key(column_indexes: &Items<usize>, keys: &[&[usize]]) -> bool
     ensures { (result ≡ true) ↔ Has (map (λ key. key.now) keys.now) column_indexes.now }
 {
@@ -220,8 +220,8 @@ fn has_no_other_key(schema: &Schema, tree: u32, table_def: &TableDef<'_>) -> boo
     true
 }
 
-/// Whether the form's table stands as the form declares it: no other table has its tree, no UNIQUE was added to it, and no foreign key
-/// names it. It reads the schema alone, and takes no memory.
+/// Whether the table is declared as its table definition says: no other table has its tree, no UNIQUE was added to it,
+/// and no foreign key names it. It reads the schema alone, and takes no memory.
 pub fn is_declared(schema: &Schema, table_def: &TableDef<'_>) -> bool
     ensures { (result ≡ true) ↔ HasTable schema.now table_def.now }
 {
@@ -231,7 +231,7 @@ pub fn is_declared(schema: &Schema, table_def: &TableDef<'_>) -> bool
     let Some(table) = schema.tables.get(at) else {
         return false;
     };
-    // That no other table has its tree tells of the table itself, too.
+    // That no other table has its tree also decides how the table itself is declared.
     if table.tree >= 1 << 31 {
         return false;
     }

@@ -14,7 +14,7 @@ pub enum ColumnDef<'a> {
 }
 
 /// How a table is declared: STRICT, with this name, these columns, and a UNIQUE over each of these keys, which
-/// are the places of their columns, the first column being 1.
+/// are the indexes of their columns, the first column being 1.
 #[derive(Debug, Drop)]
 pub struct TableDef<'a> {
     /// The name of the table.

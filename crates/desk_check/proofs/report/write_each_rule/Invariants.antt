@@ -3,6 +3,6 @@ use Rattle.std.specs.Io.KnownBytes.{Appends}
 use Rattle.desk_check.specs.Reports.{each_text}
 use Rattle.desk_check.proofs.report.write_each_rule.Given as goal
 
--- the rules so far are told
+-- the rules so far are written
 abbrev pub invariant-loop-rule : goal.invariant-loop-rule
 invariant-loop-rule g l = Appends (g.W.Write.contents l.fn.writer) (g.W.Write.contents l.writer) (each_text l.tested (take l.rule-index l.rules))

@@ -4,7 +4,7 @@ use Rattle.plant_trace.specs.HoldsIfHonest.{HoldsIfHonest}
 use Rattle.plant_answers.specs.BatchViews.{booked_on}
 use Rattle.plant_answers.proofs.bookings.booked_by.Given as goal
 
--- what the movements so far tell
+-- what the movements so far book
 abbrev pub invariant-loop-movement : goal.invariant-loop-movement
 invariant-loop-movement g l =
     let e = g.V.Edges in

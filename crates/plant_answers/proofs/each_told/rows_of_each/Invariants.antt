@@ -5,7 +5,7 @@ use Rattle.plant_view.specs.DecisionInvariant.{DecisionInvariant}
 use Rattle.plant_answers.specs.KnownLots.{AreKnown}
 use Rattle.plant_answers.proofs.each_told.rows_of_each.Given as goal
 
--- what is told of the items so far, and what is known after them
+-- what is reported of the items so far, and what is known after them
 abbrev pub invariant-loop-item : goal.invariant-loop-item
 invariant-loop-item g l =
     let e = g.V.Edges in

@@ -2,6 +2,6 @@ use Rattle.std.proofs.Common.{◌≡◌, ◌+◌, drop}
 use Rattle.plant_check_rows.specs.Values.{first_unread}
 use Rattle.plant_check_rows.proofs.values.value_fault.Given as goal
 
--- the rows so far stand for something: the first that doesn't is one of those that are left
+-- the rows so far can be decoded: the first that can't is one of those that are left
 abbrev pub invariant-loop-at : goal.invariant-loop-at
 invariant-loop-at g l = first_unread l.table (g.R.Decoded.row_from) (l.at + 1) (drop l.at l.rows) ≡ first_unread l.table (g.R.Decoded.row_from) 1 l.rows

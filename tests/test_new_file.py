@@ -266,10 +266,43 @@ class MetCalls(NewFileTestCase):
             self.check_run(f"{case}, verified", ["verify", "plant.db"], good(answered))
             self.check_made(case)
 
+    def test_two_desks_within_the_making_leave_a_file_of_small_pages(self):
+        """Pauses two desks, each before each of its calls, and has the first end before the second goes on."""
+        for first, second in itertools.product(range(1, self.calls_of_a_making() + 1), repeat=2):
+            self.clear()
+            case, output = f"calls {first} and {second}", b""
+            with contextlib.ExitStack() as stack:
+                desks = [self.paused_at(*it, stack) for it in ((first, CLASS), (second, OTHER))]
+                for it in desks:
+                    it.send_signal(signal.SIGCONT)
+                    output += it.stdout.read()
+                    self.check_true(f"{case}, a status of {it.wait()}", it.returncode in (0, 3))
+            answered = output.count(b'{"ok":')
+            self.check_true(f"{case}, {output}", answered > 0)
+            self.check_run(f"{case}, verified", ["verify", "plant.db"], good(answered))
+            self.check_made(case)
+
+    def calls_of_a_making(self):
+        """Returns how many calls a desk makes about its new file."""
+        runs = 0
+        for _, env in self.meetings("a stop", lambda number: faults.met_call(number, signal.SIGKILL, self.mark)):
+            self.desk.run("init", "plant.db", env=env)
+            runs += 1
+        return runs - 1
+
+    def paused_at(self, number, line, stack):
+        """Starts a desk with this line, and returns it once it is paused before the call of this number or has ended."""
+        env = faults.met_call(number, signal.SIGSTOP, self.mark)
+        paused = stack.enter_context(self.desk.start("run", "plant.db", stdin=subprocess.PIPE, env=env))
+        stack.callback(paused.kill)
+        paused.stdin.write(line)
+        paused.stdin.close()
+        wait_for_pause(paused)
+        return paused
+
     def other_behind(self, paused):
         """Has another desk work once a desk is paused or has ended."""
-        while state_of(paused) not in "TZ":
-            pass
+        wait_for_pause(paused)
         return self.desk.run("run", "plant.db", told=OTHER)
 
 
@@ -277,6 +310,12 @@ def state_of(process):
     """Returns the letter of a process's state: T where it is paused, Z where it has ended."""
     with open(f"/proc/{process.pid}/stat", encoding="utf-8") as stat:
         return stat.read().rpartition(")")[2].split()[0]
+
+
+def wait_for_pause(process):
+    """Waits until a process is paused or has ended."""
+    while state_of(process) not in "TZ":
+        pass
 
 
 class AtOnce(NewFileTestCase):

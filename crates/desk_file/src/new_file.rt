@@ -1,4 +1,4 @@
-//! A file that isn't there: made beside its name, as an empty database with small pages, and then given the name.
+//! A file that isn't there: made under another name, as an empty database with small pages, and then given the name.
 ghost use Rattle.std.specs.Prelude.{◌≡◌, ◌⊎◌, ◌↔◌, length, take, IsTrue, IfErr};
 ghost use Rattle.desk_file.specs.NewFile.{new_page};
 
@@ -14,7 +14,7 @@ use std::os::unix::fs::{FileExt, MetadataExt, OpenOptionsExt};
 /// pages are cheaper.
 const PAGE_SIZE: usize = 1024;
 
-/// What stands in front of the first page, behind which it is zero: the header of a database with one page, and the head of a leaf of
+/// The first bytes of the first page, after which it is zero: the header of a database with one page, and the head of a leaf of
 /// its table of tables, which is empty.
 const FRONT: [u8; 108] = [
     83, 81, 76, 105, 116, 101, 32, 102, 111, 114, 109, 97, 116, 32, 51, 0, 4, 0, 2, 2, 0, 64, 32,
@@ -32,7 +32,7 @@ fn first_page() -> [u8; PAGE_SIZE]
     page
 }
 
-/// Whether a file that holds this is one whose making stopped: it is empty, or has the page's front, or all of it.
+/// Whether a file that holds this is one whose making stopped: it is empty, or has the page's first bytes, or all of it.
 fn is_begun(found: &[u8]) -> bool
     ensures { IsTrue result ↔ (found.now ≡ take (length found.now) new_page) }
 {
@@ -46,7 +46,7 @@ enum Unmade {
     Busy,
     /// Memory was refused for a name.
     Memory,
-    /// The system didn't do it, or what stands beside it is somebody else's.
+    /// The system didn't do it, or what is next to it is somebody else's.
     Refused,
 }
 
@@ -68,8 +68,8 @@ impl From<AllocError> for Unmade {
 /// no other has made FILE meanwhile, and its first name is taken away. Who does so holds a lock on it. A stop leaves FILE-new, or both as names
 /// of one file, or FILE, and the next call goes on from there. The folder is synced by the opening of the store, before that reads.
 ///
-/// What the system refuses isn't told: where FILE isn't there the opening makes it in its own way, with pages of 4,096 bytes, or
-/// tells what is wrong. `DatabaseBusy`: another desk is making the file. `OutOfMemory`: memory was refused.
+/// What the system refuses isn't reported: where FILE isn't there the opening makes it in its own way, with pages of 4,096
+/// bytes, or reports what is wrong. `DatabaseBusy`: another desk is making the file. `OutOfMemory`: memory was refused.
 pub(crate) fn make_missing(rt: &HostRuntime, file: &str) -> Result<(), Error>
     ensures { IfErr result (λ e. (e ≡ Error.SqliteFailure ErrorCode.DatabaseBusy) ⊎ (e ≡ Error.SqliteFailure ErrorCode.OutOfMemory)) }
 {
@@ -143,17 +143,27 @@ fn open_beside(rt: &HostRuntime, beside: &str) -> Result<File, Unmade> {
     let opened = match found_at(rt, beside)? {
         Some(found) if !found.is_file() => return Err(Unmade::Refused),
         Some(_) => OpenOptions::new().read(true).write(true).open(rt, beside)?,
-        None => OpenOptions::new()
-            .read(true)
-            .write(true)
-            .create_new(true)
-            .mode(0o644)
-            .open(rt, beside)?,
+        None => create_beside(rt, beside)?,
     };
     if opened.as_raw_fd() > 2 {
         return Ok(opened);
     }
     Ok(opened.try_clone()?)
+}
+
+/// Makes the file of this name, which nothing had. Where something has it now, another desk has begun to make it meanwhile.
+fn create_beside(rt: &HostRuntime, beside: &str) -> Result<File, Unmade> {
+    let created = OpenOptions::new()
+        .read(true)
+        .write(true)
+        .create_new(true)
+        .mode(0o644)
+        .open(rt, beside);
+    match created {
+        Ok(created) => Ok(created),
+        Err(error) if error.kind() == ErrorKind::AlreadyExists => Err(Unmade::Busy),
+        Err(error) => Err(Unmade::from(error)),
+    }
 }
 
 /// Whether the open file is the one of this name and of no other, and has a page at most.

@@ -1,37 +1,11 @@
 """What each region of make/tables.py repeats of the tables: a template of a line or of a few, or a function where a template doesn't do."""
 from __future__ import annotations
 
-import dataclasses
 import string
 
-
-@dataclasses.dataclass(frozen=True)
-class Region:
-    """The region of this name in a file below crates/; or a file that is generated as a whole."""
-
-    path: str
-    name: str
-    text: str
-    whole: bool = False
-
-    @property
-    def place(self):
-        """The file."""
-        return f"crates/{self.path}"
-
+from regions import Region, camel, chain, nested, packed
 
 # ---- words of a table
-
-
-def chain(items):
-    """A list in specs and proofs."""
-    return " ∷ ".join([*items, "[]"])
-
-
-def nested(items, last=None):
-    """Items in pairs, the second of a pair being the next one."""
-    items = [*items] if last is None else [*items, last]
-    return "".join(f"({it}, " for it in items[:-1]) + items[-1] + ")" * (len(items) - 1)
 
 
 def names(columns):
@@ -84,7 +58,7 @@ def words(table):
     return {
         **{name: getattr(table, name) for name in NAMED},
         "NAME": table.name.upper(),
-        "Name": "".join(part.capitalize() for part in table.name.split("_")),
+        "Name": camel(table.name),
         "keys": chain(f"({chain(str(table.number(column.name)) for column in columns)})" for columns in table.keys),
         "key_places": chain(str(table.number(column.name)) for column in key),
         "key_field": key[0].field,
@@ -109,16 +83,6 @@ def many(tables, template, between="\n"):
 def imports(module, tables, template, before=(), after=()):
     """The line of specs and proofs that uses a name of each table."""
     return f"use Rattle.{module}.{{{', '.join([*before, *(filled(template, table) for table in tables), *after])}}}"
-
-
-def packed(items, opening, closing, indent=4, width=99):
-    """Names in the layout of a `use`, in lines that are as full as they can be."""
-    lines = [""]
-    for item in items:
-        if lines[-1] and indent + len(lines[-1]) + len(item) + 2 > width:
-            lines.append("")
-        lines[-1] += f"{' ' if lines[-1] else ''}{item},"
-    return "\n".join([opening, *(" " * indent + line for line in lines), closing])
 
 
 def bracketed(items, width=60):

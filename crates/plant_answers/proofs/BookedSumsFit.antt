@@ -75,16 +75,16 @@ module _ (s : State) (sound : DecisionInvariant s) (e : EdgeRow) where
   unfolding left
   taken differs =
       let less = sum_by-le-sum_by (booked_along e) (λ m. cond (of_place (mine e.from) (comes m)) m.amount 0) s.movements (λ m. out_of e m.lot m.sub m.amount m.kind differs) in
-      let all = total s sound (mine e.from) comes s.movements (all_weaker _ _ (λ m n. n.1) s.movements sound.named) in
-      let few = bounded e.from (λ p. left s.movements p.lot p.number) (λ p. omega (arith, sound.covered p.lot p.number, sound.small p.lot p.number)) s sound in
+      let all = total s sound (mine e.from) comes s.movements (all_weaker _ _ (λ m n. n.1) s.movements sound.stock.named) in
+      let few = bounded e.from (λ p. left s.movements p.lot p.number) (λ p. omega (arith, sound.stock.covered p.lot p.number, sound.stock.small p.lot p.number)) s sound in
       omega (arith, less, all, few)
 
   brought : e.kind ≡ BatchToLot → amount_of s.movements e < 2 ^ 64
   unfolding entered
   brought is =
       let less = sum_by-le-sum_by (booked_along e) (λ m. cond (of_place (mine e.to) (goes m)) m.amount 0) s.movements (λ m. into e m.lot m.sub m.amount m.kind is) in
-      let all = total s sound (mine e.to) goes s.movements (all_weaker _ _ (λ m n. n.0) s.movements sound.named) in
-      let few = bounded e.to (λ p. entered s.movements p.lot p.number) (λ p. sound.small p.lot p.number) s sound in
+      let all = total s sound (mine e.to) goes s.movements (all_weaker _ _ (λ m n. n.0) s.movements sound.stock.named) in
+      let few = bounded e.to (λ p. entered s.movements p.lot p.number) (λ p. sound.stock.small p.lot p.number) s sound in
       omega (arith, less, all, few)
 
   pub amount_fits : amount_of s.movements e < 2 ^ 64

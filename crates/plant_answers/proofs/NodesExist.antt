@@ -43,7 +43,7 @@ module _ (s : State) (sound : DecisionInvariant s) where
   housed lot n (Some p) e h =
       let test = λ (q : Place). same q.lot lot && q.number == n in
       let key = same_key p.lot lot p.number n (found_passes test s.places p e) in
-      subst (λ (l : List ℕ). is_some (lot_at s l) ≡ true) key.0 (found_keeps (λ (q : Place). is_some (lot_at s q.lot) ≡ true) test s.places p sound.housed e)
+      subst (λ (l : List ℕ). is_some (lot_at s l) ≡ true) key.0 (found_keeps (λ (q : Place). is_some (lot_at s q.lot) ≡ true) test s.places p sound.stock.housed e)
 
   there : (lot : List ℕ) (n : ℕ) → is_some (place_at s lot n) ≡ true → is_some (lot_at s lot) ≡ true
   there lot n h = housed lot n (place_at s lot n) refl h
@@ -62,7 +62,7 @@ module _ (s : State) (sound : DecisionInvariant s) where
   edge_there a b h =
       let from = picked_from edge_of s.movements (a, b) h in
       let m = from.0 in
-      let named_there = all_at _ s.movements m sound.named from.1.0 in
+      let named_there = all_at _ s.movements m sound.stock.named from.1.0 in
       ends_there m.kind m.lot m.sub (a, b) named_there.0 named_there.1 from.1.1
 
   reached_there : (direction : Direction) (start y : Node) → IsReached direction (edges_of s) start y → IsHoused y
@@ -94,7 +94,7 @@ module _ (s : State) (sound : DecisionInvariant s) where
   found id (Some l) e h =
       let test = λ (r : Lot). same r.id id in
       let is : l.id ≡ id = same_id l.id id (found_passes test s.lots l e) in
-      defined l (definition_at s l.def) (found_keeps (λ (r : Lot). is_some (definition_at s r.def) ≡ true) test s.lots l sound.defined e) ∙ ap (λ (i : List ℕ). Some (node.Lot i)) is
+      defined l (definition_at s l.def) (found_keeps (λ (r : Lot). is_some (definition_at s r.def) ≡ true) test s.lots l sound.catalogue.defined e) ∙ ap (λ (i : List ℕ). Some (node.Lot i)) is
 
   reported : (y : Node) → IsHoused y → IsReported y
   reported (node.Lot id) h = found id (lot_at s id) refl h

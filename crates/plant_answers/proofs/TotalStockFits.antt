@@ -64,7 +64,7 @@ module _ (lot : List ℕ) (f : Place → ℕ) (small : (p : Place) → f p ≤ g
 
   pub bounded : (s : State) → DecisionInvariant s → sum_by of_lot s.places < 2 ^ 64
   bounded s sound =
-      let bound = bounded_from 0 s.places (omega arith) sound.places sound.numbered (all_of (λ (p : Place). same p.lot lot ≡ true → 0 ≤ p.number) (λ p e. omega arith) s.places) in
+      let bound = bounded_from 0 s.places (omega arith) sound.stock.places sound.stock.numbered (all_of (λ (p : Place). same p.lot lot ≡ true → 0 ≤ p.number) (λ p e. omega arith) s.places) in
       omega (arith, bound)
 
 pub total_fits : (s : State) → DecisionInvariant s → (lot : List ℕ) → sum_by (λ r. r.stock) (sublots_of s lot) < 2 ^ 64
@@ -72,4 +72,4 @@ total_fits s sound lot =
     let here = filter (λ (p : Place). same p.lot lot) s.places in
     let stock_of = λ (p : Place). (sublot_row s.movements p).stock in
     let summed = sum_map (λ (r : Sublot). r.stock) (sublot_row s.movements) here ∙ sum_filtered stock_of (λ (p : Place). same p.lot lot) s.places in
-    omega (arith, summed, bounded lot stock_of (λ p. omega (arith, sound.small p.lot p.number)) s sound)
+    omega (arith, summed, bounded lot stock_of (λ p. omega (arith, sound.stock.small p.lot p.number)) s sound)

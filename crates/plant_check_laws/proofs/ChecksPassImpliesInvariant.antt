@@ -124,26 +124,30 @@ module _ (r : Rows) (p : PassesAll r) where
     module _ (o : AreInOrder (tables_in r)) where
       sound : DecisionInvariant (state_in r)
       sound = record {
-        classes = o.keyed.classes;
-        definitions = o.keyed.definitions;
-        lots = o.keyed.lots;
-        places = sorted_mapped place_order place_of_row r.sublots o.keyed.sublots;
-        holds = o.keyed.holds;
-        recalls_sorted = o.keyed.recalls;
-        classified = (classes_exact r.classes r.definitions).0 p.classes;
-        defined = lots.defined;
-        housed = lots.housed;
-        placed = lots.placed;
-        numbered = all_mapped (λ (q : Place). q.number ≤ greatest_sublot) place_of_row r.sublots (all_weaker HasSublotValues (λ s. s.number ≤ greatest_sublot) (λ s h. h.number) r.sublots v.sublots);
-        named = named;
-        one_material = of_each _ (λ m h. h.defined.0);
-        small = all_small (state_in r) r.sublots named lots.births.each lots.small values_moved;
-        covered = all_covered (state_in r) r.sublots named stocked;
+        catalogue = record {
+          classes = o.keyed.classes;
+          definitions = o.keyed.definitions;
+          classified = (classes_exact r.classes r.definitions).0 p.classes;
+          defined = lots.defined;
+        };
         recipes = consistent_recipes r.definitions r.recipes r.master_lines p.recipes v.recipes v.master_lines o.keyed.recipes o.keyed.master_lines;
-        orders = consistent_orders r.recipes r.batches r.jobs p.orders o.keyed.jobs v.jobs;
-        batches = consistent_batches r.recipes r.master_lines r.jobs formed sized r.batches r.control_lines p.batches r.events (sorted_mapped batch_order batch_of_row r.batches o.keyed.batches) o.keyed.control_lines v.batches runs.1;
-        runs = consistent_runs r.recipes r.master_lines r.jobs formed sized r.batches r.control_lines p.batches r.events ((orders_exact r.recipes r.batches r.jobs).0 p.orders) runs.0;
+        production = record {
+          orders = consistent_orders r.recipes r.batches r.jobs p.orders o.keyed.jobs v.jobs;
+          batches = consistent_batches r.recipes r.master_lines r.jobs formed sized r.batches r.control_lines p.batches r.events (sorted_mapped batch_order batch_of_row r.batches o.keyed.batches) o.keyed.control_lines v.batches runs.1;
+          runs = consistent_runs r.recipes r.master_lines r.jobs formed sized r.batches r.control_lines p.batches r.events ((orders_exact r.recipes r.batches r.jobs).0 p.orders) runs.0;
+        };
+        stock = record {
+          lots = o.keyed.lots;
+          places = sorted_mapped place_order place_of_row r.sublots o.keyed.sublots;
+          housed = lots.housed;
+          numbered = all_mapped (λ (q : Place). q.number ≤ greatest_sublot) place_of_row r.sublots (all_weaker HasSublotValues (λ s. s.number ≤ greatest_sublot) (λ s h. h.number) r.sublots v.sublots);
+          named = named;
+          one_material = of_each _ (λ m h. h.defined.0);
+          small = all_small (state_in r) r.sublots named lots.births.each lots.small values_moved;
+          covered = all_covered (state_in r) r.sublots named stocked;
+        };
         genealogy = record { batched = of_each _ (λ m h. h.batched); acyclic = (acyclic_exact (edges_among ms)).0 p.descent };
+        bars = record { holds = o.keyed.holds; placed = lots.placed; recalls = o.keyed.recalls };
       }
 
       valid : StateInvariant (state_in r)

@@ -90,36 +90,36 @@ module _ (schema : ℕ) (s : State) (valid : StateInvariant s) where
 
   -- of each batch
   of_batches : (P : BatchRow → Type 0) → ((b : Batch) → IsConsistentRun s.jobs s.control_lines s.events b → P (batch_row s.control_lines s.events b)) → AllByRecursion P rows.batches
-  of_batches P f = all_mapped P (batch_row s.control_lines s.events) s.batches (all_weaker (IsConsistentRun s.jobs s.control_lines s.events) _ f s.batches valid.sound.runs)
+  of_batches P f = all_mapped P (batch_row s.control_lines s.events) s.batches (all_weaker (IsConsistentRun s.jobs s.control_lines s.events) _ f s.batches valid.sound.production.runs)
 
   stocked : AllByRecursion (IsStocked ms) rows.sublots
   stocked = subst (λ xs. AllByRecursion (IsStocked xs) rows.sublots) (sym (movements_again s))
-      (all_mapped (IsStocked s.movements) (sublot_row s.movements) s.places (all_of _ (λ (p : Place). omega (arith, valid.sound.covered p.lot p.number)) s.places))
+      (all_mapped (IsStocked s.movements) (sublot_row s.movements) s.places (all_of _ (λ (p : Place). omega (arith, valid.sound.stock.covered p.lot p.number)) s.places))
 
   small : AllByRecursion (IsSmall ms) rows.sublots
-  small = all_of (IsSmall ms) (λ (r : Sublot) zero. subst (λ n. n ≤ greatest_amount) (sym (amount_entered ms r.lot r.number)) (sound.small r.lot r.number)) rows.sublots
+  small = all_of (IsSmall ms) (λ (r : Sublot) zero. subst (λ n. n ≤ greatest_amount) (sym (amount_entered ms r.lot r.number)) (sound.stock.small r.lot r.number)) rows.sublots
 
   moved : AllByRecursion (IsRight state_again) ms
   moved =
-      let named = all_joined _ _ ms sound.named sound.genealogy.batched in
-      let defined = all_joined _ _ ms sound.one_material valid_again.kept in
+      let named = all_joined _ _ ms sound.stock.named sound.genealogy.batched in
+      let defined = all_joined _ _ ms sound.stock.one_material valid_again.kept in
       all_two _ _ (IsRight state_again) (λ (m : Movement) known other. record { named = known.0; batched = known.1; defined = other.0; merge = other.1 }) ms named
       (all_joined _ _ ms defined (right_merges ms valid_again.numbers.bookings))
 
   lots : are_lots s.definitions s.lots rows.sublots s.holds (map booked_of ms) ≡ true
-  lots = (lots_exact s.definitions s.lots rows.sublots s.holds ms).1 (record { defined = sound.defined; housed = sound.housed; placed = sound.placed; births = valid_again.births; small = small })
+  lots = (lots_exact s.definitions s.lots rows.sublots s.holds ms).1 (record { defined = sound.catalogue.defined; housed = sound.stock.housed; placed = sound.bars.placed; births = valid_again.births; small = small })
 
   passes : PassesAll rows
   passes = record {
-    classes = (classes_exact s.classes s.definitions).1 sound.classified;
+    classes = (classes_exact s.classes s.definitions).1 sound.catalogue.classified;
     recipes = listed_recipes s.definitions s.recipes s.master_lines sound.recipes;
-    orders = right_orders s.recipes rows.batches s.jobs sound.orders (of_batches (Closes s.jobs) (λ b run. run.finished));
-    batches = right_batches s.recipes s.master_lines s.jobs formed sound.orders.sized rows.batches s.control_lines s.events sound.batches;
+    orders = right_orders s.recipes rows.batches s.jobs sound.production.orders (of_batches (Closes s.jobs) (λ b run. run.finished));
+    batches = right_batches s.recipes s.master_lines s.jobs formed sound.production.orders.sized rows.batches s.control_lines s.events sound.production.batches;
     stocks = subst (λ xs. are_stocks xs rows.sublots ≡ true) (sym booked_again) ((stocks_exact ms rows.sublots).1 stocked);
     lots = subst (λ xs. are_lots s.definitions s.lots rows.sublots s.holds xs ≡ true) (sym booked_again) lots;
     whole = (all_mapped_exact (λ r. is_some (movement_from r)) booked_of _ (λ m. passing _) s.movements).1 (all_of _ (λ (m : Movement). ap is_some (movement_again m)) s.movements);
-    movements = (movements_exact state_again rows.sublots rows.batches sound.housed).1 moved;
-    events = (events_exact s.control_lines s.events rows.batches).1 (of_batches (HasRun s.control_lines s.events) (λ b run. record { allowed = run.allowed; kept = refl }), sound.batches.witnessed);
+    movements = (movements_exact state_again rows.sublots rows.batches sound.stock.housed).1 moved;
+    events = (events_exact s.control_lines s.events rows.batches).1 (of_batches (HasRun s.control_lines s.events) (λ b run. record { allowed = run.allowed; kept = refl }), sound.production.batches.witnessed);
     numbers = right_numbers s.seq s.events ms valid_again.numbers;
     times = (moments_exact s.at ms s.events rows.batches s.holds).1 valid_again.moments;
     descent = (acyclic_exact (edges_among ms)).1 sound.genealogy.acyclic;

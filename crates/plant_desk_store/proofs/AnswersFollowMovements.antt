@@ -44,7 +44,7 @@ lot_reported s sound lot (Some l) e =
       named = named;
       stock = subst (λ (id : List ℕ). lot_stock s id + left_of s.movements lot ≡ born_of s.movements lot) (sym named) (balanced s sound lot);
       sublots = map_back place_of_row (sublot_row s.movements) (λ p. refl) (filter (λ (p : Place). same p.lot l.id) s.places) ∙ ap (λ (id : List ℕ). filter (λ (p : Place). same p.lot id) s.places) named;
-      each = all_mapped _ (sublot_row s.movements) (filter (λ (p : Place). same p.lot l.id) s.places) (all_of _ (λ (p : Place). let low = sound.covered p.lot p.number in omega (arith, low)) _);
+      each = all_mapped _ (sublot_row s.movements) (filter (λ (p : Place). same p.lot l.id) s.places) (all_of _ (λ (p : Place). let low = sound.stock.covered p.lot p.number in omega (arith, low)) _);
     }
 
 said : (s : State) → DecisionInvariant s → (q : Question) → SaysOf s q (answer newest_schema s q)

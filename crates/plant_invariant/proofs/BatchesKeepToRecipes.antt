@@ -33,7 +33,7 @@ module _ (s : State) (sound : DecisionInvariant s) (r : Lot) (none : is_some (lo
 
   -- the lots that were there are of their definitions
   pub kept_with_lot : KeepToRecipes s.lots s.control_lines s.movements → KeepToRecipes (put lot_order r s.lots) s.control_lines s.movements
-  kept_with_lot kept = all_two _ _ _ (λ (m : Movement) named asked. asked_still m.kind m.lot m.sub named.0 named.1 asked) s.movements sound.named kept
+  kept_with_lot kept = all_two _ _ _ (λ (m : Movement) named asked. asked_still m.kind m.lot m.sub named.0 named.1 asked) s.movements sound.stock.named kept
 
 -- ---- a new batch
 

@@ -90,6 +90,6 @@ module _ (s : State) (valid : StateInvariant s) where
   pub columns : HasColumns (tables_of newest_schema s)
   columns = record {
     progress = all_mapped HasProgressValues (batch_row s.control_lines s.events) s.batches (all_of _ progress_values s.batches);
-    stocks = all_mapped _ (sublot_row s.movements) s.places (all_of _ (λ (p : Place). omega (arith, valid.sound.small p.lot p.number)) s.places);
-    beginnings = all_two _ _ (λ (m : Movement). BeginsAtZero m.kind m.sub) (λ (m : Movement) named divides. begins m.kind m.lot m.sub named.0 divides) s.movements valid.sound.named entering_divides;
+    stocks = all_mapped _ (sublot_row s.movements) s.places (all_of _ (λ (p : Place). omega (arith, valid.sound.stock.small p.lot p.number)) s.places);
+    beginnings = all_two _ _ (λ (m : Movement). BeginsAtZero m.kind m.sub) (λ (m : Movement) named divides. begins m.kind m.lot m.sub named.0 divides) s.movements valid.sound.stock.named entering_divides;
   }

@@ -65,7 +65,7 @@ module _ (s : State) (sound : DecisionInvariant s) where
 
   -- what holds of the lines of each batch holds of all
   pub each_control_line : (P : ControlLine → Type 0) → ((r : Released) → AllByRecursion P (control_among s.control_lines r.0)) → AllByRecursion P s.control_lines
-  each_control_line P each = all_two _ _ P of_batch s.control_lines sound.batches.controlled
+  each_control_line P each = all_two _ _ P of_batch s.control_lines sound.production.batches.controlled
       (all_swap (λ (r : Released) (l : ControlLine). same l.batch r.0 ≡ true → P l) s.control_lines (λ r. all_passing P (λ (l : ControlLine). same l.batch r.0) s.control_lines (each r)))
     where
       of_batch : (l : ControlLine) → is_batch_among s.batches l.batch ≡ true → ((r : Released) → same l.batch r.0 ≡ true → P l) → P l
@@ -79,7 +79,7 @@ module _ (s : State) (sound : DecisionInvariant s) where
   control_values = each_control_line HasControlValues (λ r.
       let own = λ (x : Batch). same x.id r.0 in
       let key = same_id r.1.id r.0 (found_passes own s.batches r.1 r.2) in
-      let its = found_keeps (IsConsistentBatch (headers_of s.recipes) s.master_lines (orders_of s.jobs) s.batches s.control_lines) own s.batches r.1 sound.batches.each r.2 in
+      let its = found_keeps (IsConsistentBatch (headers_of s.recipes) s.master_lines (orders_of s.jobs) s.batches s.control_lines) own s.batches r.1 sound.production.batches.each r.2 in
       all_two (λ (l : ControlLine). same l.batch r.0 ≡ true) (λ (l : ControlLine). HasLineValues l.line) HasControlValues (λ l mine values.
       record { batch = ap is_id (same_id l.batch r.0 mine ∙ sym key) ∙ its.values.id; line = values }) (control_among s.control_lines r.0)
       (filtered_passes (λ (l : ControlLine). same l.batch r.0) s.control_lines)

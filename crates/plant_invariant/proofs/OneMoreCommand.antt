@@ -152,7 +152,7 @@ module _ (s : State) (valid : StateInvariant s) (t : Stamp) (stamp : IsNextStamp
         births = births;
         kept = kept;
         numbers = numbers_booked s.seq s.movements s.events valid.numbers lines (all_weaker _ _ (λ (m : Movement) g. g.0) lines booking.stamped) booking.one
-            (all_weaker _ _ (λ (m : Movement) named. unentered s lines (comes_from m.kind m.lot m.sub) into named.1) s.movements valid.sound.named)
+            (all_weaker _ _ (λ (m : Movement) named. unentered s lines (comes_from m.kind m.lot m.sub) into named.1) s.movements valid.sound.stock.named)
             (all_weaker _ _ (λ (m : Movement) there. unentered s lines (comes_from m.kind m.lot m.sub) into there) lines booking.from);
         moments = moments_booked s.seq s.at s.movements s.events s.batches s.holds valid.numbers valid.moments t.at stamp.on lines booking.stamped;
         receipts = receipts_stay;
@@ -206,7 +206,7 @@ module _ (s : State) (valid : StateInvariant s) (t : Stamp) (stamp : IsNextStamp
       by (Some p) e some =
           let own = λ (q : Place). same q.lot lot && q.number == sub in
           let keys = same_key p.lot lot p.number sub (found_passes own s.places p e) in
-          let small : p.number ≤ greatest_sublot = found_keeps (λ (q : Place). q.number ≤ greatest_sublot) own s.places p valid.sound.numbered e in
+          let small : p.number ≤ greatest_sublot = found_keeps (λ (q : Place). q.number ≤ greatest_sublot) own s.places p valid.sound.stock.numbered e in
           omega (arith, small, keys.1)
 
   -- one line

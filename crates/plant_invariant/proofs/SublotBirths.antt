@@ -45,7 +45,7 @@ unentered s lines (Some k) absent there = all_weaker _ _ (λ (m : Movement) a. a
 
 -- nothing has entered a sublot that isn't there
 never_entered : (s : State) → DecisionInvariant s → (p : Place) → is_some (place_at s p.lot p.number) ≡ false → AllByRecursion (λ m. is_sublot_key (goes_to m.kind m.lot m.sub) p.lot p.number ≡ false) s.movements
-never_entered s sound p none = all_weaker _ _ (λ (m : Movement) named. by_place (goes_to m.kind m.lot m.sub) named.0) s.movements sound.named
+never_entered s sound p none = all_weaker _ _ (λ (m : Movement) named. by_place (goes_to m.kind m.lot m.sub) named.0) s.movements sound.stock.named
   where
     by_place : (k : Option (List ℕ × ℕ)) → IsThere s k → is_sublot_key k p.lot p.number ≡ false
     by_place None there = refl
@@ -139,7 +139,7 @@ numbers_next s sound p e =
     let its = filter own s.places in
     let below = all_two _ _ _ (λ (q : Place) same_lot least.
     ap (λ o. ordering_then o (nat_cmp q.number p.number)) (ap (λ l. id_cmp l p.lot) (same_id q.lot p.lot same_lot) ∙ tied_itself nat_list_cmp_total p.lot) ∙ number_less q.number p.number (omega (arith, least, e))) its (filtered_passes own s.places) (each_least its) in
-    ap (map (λ (q : Place). q.number)) (filter_put place_order place_order_total p own (place_tied p.lot p) s.places sound.places (same_itself p.lot) ∙ put_last place_order place_order_total p its below)
+    ap (map (λ (q : Place). q.number)) (filter_put place_order place_order_total p own (place_tied p.lot p) s.places sound.stock.places (same_itself p.lot) ∙ put_last place_order place_order_total p its below)
     ∙ map-append (λ (q : Place). q.number) its (p ∷ [])
 
 -- ---- births
@@ -150,9 +150,9 @@ pub births_new : (s : State) → DecisionInvariant s → (r : Lot) (place : List
 births_new s sound r place lines none into birth births =
     let p : Place = record { lot = r.id; number = 0; place = place } in
     let own = λ (q : Place). same q.lot r.id in
-    let others : AllByRecursion (λ (q : Place). own q ≡ false) s.places = all_weaker _ _ (λ (q : Place) known. (ids_apart (λ l. is_some (lot_at s l)) q.lot r.id known none).0) s.places sound.housed in
+    let others : AllByRecursion (λ (q : Place). own q ≡ false) s.places = all_weaker _ _ (λ (q : Place) known. (ids_apart (λ l. is_some (lot_at s l)) q.lot r.id known none).0) s.places sound.stock.housed in
     let first : numbers_among (put place_order p s.places) r.id ≡ 0 ∷ [] =
-    ap (map (λ (q : Place). q.number)) (filter_put place_order place_order_total p own (place_tied r.id p) s.places sound.places (same_itself r.id) ∙ ap (put place_order p) (none_left own s.places others)) in
+    ap (map (λ (q : Place). q.number)) (filter_put place_order place_order_total p own (place_tied r.id p) s.places sound.stock.places (same_itself r.id) ∙ ap (put place_order p) (none_left own s.places others)) in
     record {
       numbered = all_put lot_order _ r s.lots (subst AreFromZero (sym first) (omega arith, (refl, tt)))
           (all_two _ _ _ (λ (l : Lot) other whole. subst AreFromZero (sym (numbers_past p s.places l.id (nat_list_eq_equiv.symm r.id l.id ∙ other))) whole) s.lots (none_passes (λ (l : Lot). same l.id r.id) s.lots none) births.numbered);

@@ -142,7 +142,7 @@ own_jobs : (s : State) → DecisionInvariant s → HaveOwnJobs (tables_of newest
 own_jobs s sound =
     let row = batch_row s.control_lines s.events in
     let Alone : Batch → Type 0 = λ b. batch_among s.batches b.job ≡ Some b in
-    let alone = all_weaker _ Alone (λ (b : Batch) w. w.alone) s.batches sound.batches.each in
+    let alone = all_weaker _ Alone (λ (b : Batch) w. w.alone) s.batches sound.production.batches.each in
     all_mapped _ row s.batches (all_weaker Alone _ (λ (a : Batch) first. all_mapped (IsOneJob (row a)) row s.batches
     (all_weaker Alone _ (λ (b : Batch) second one. one_batch a b first second one) s.batches alone)) s.batches alone)
   where

@@ -24,18 +24,18 @@ pub keyed : (schema : ℕ) (s : State) → StateInvariant s → AreKeyed (tables
 keyed schema s valid =
     let sound = valid.sound in
     record {
-      classes = sound.classes;
-      definitions = sound.definitions;
+      classes = sound.catalogue.classes;
+      definitions = sound.catalogue.definitions;
       recipes = sound.recipes.sorted;
       master_lines = sound.recipes.rows_sorted;
-      jobs = sound.orders.sorted;
-      batches = sorted_mapped batch_row_order (batch_row s.control_lines s.events) s.batches sound.batches.sorted;
-      control_lines = sound.batches.control_sorted;
-      lots = sound.lots;
-      sublots = sorted_mapped sublot_order (sublot_row s.movements) s.places sound.places;
-      holds = sound.holds;
+      jobs = sound.production.orders.sorted;
+      batches = sorted_mapped batch_row_order (batch_row s.control_lines s.events) s.batches sound.production.batches.sorted;
+      control_lines = sound.production.batches.control_sorted;
+      lots = sound.stock.lots;
+      sublots = sorted_mapped sublot_order (sublot_row s.movements) s.places sound.stock.places;
+      holds = sound.bars.holds;
       edges = edges_sorted schema s.movements;
       receipts = kept_sorted receipt_order (nat_le 3 schema) s.receipts valid.receipts.sorted;
-      recalls = kept_sorted recall_order (nat_le 4 schema) s.recalls sound.recalls_sorted;
+      recalls = kept_sorted recall_order (nat_le 4 schema) s.recalls sound.bars.recalls;
       marks = kept_sorted mark_order (nat_le 4 schema) (marks s.recalls (edges_of s)) (marks_sorted s.recalls (edges_of s));
     }

@@ -188,7 +188,7 @@ module _ (s : State) (valid : StateInvariant s) where
   control_numbers r =
       let own = λ (x : Batch). same x.id r.0 in
       let key : r.1.id ≡ r.0 = same_id r.1.id r.0 (found_passes own s.batches r.1 r.2) in
-      let its = found_keeps ConsistentBatch own s.batches r.1 valid.sound.batches.each r.2 in
+      let its = found_keeps ConsistentBatch own s.batches r.1 valid.sound.production.batches.each r.2 in
       let lines = map (λ (l : ControlLine). l.line) (control_among s.control_lines r.0) in
       let made = control_made s valid.sound r.0 r.1 r.2 in
       let copied : length lines ≡ length made.lines = (keeps_procedure made.header made.lines lines made.size made.made).0 in
@@ -209,7 +209,7 @@ module _ (s : State) (valid : StateInvariant s) where
 
   control_lines : AllByRecursion HasControlLineValues s.control_lines
   control_lines = all_two _ _ HasControlLineValues (λ (l : ControlLine) v n. record { batch = v.batch; number = n; line = v.line }) s.control_lines valid.values.control_lines
-      (all_two _ _ _ control_number s.control_lines valid.sound.batches.controlled numbered_by_batch)
+      (all_two _ _ _ control_number s.control_lines valid.sound.production.batches.controlled numbered_by_batch)
 
   batches : AllByRecursion HasBatchRowValues (map (batch_row s.control_lines s.events) s.batches)
   batches =
@@ -220,7 +220,7 @@ module _ (s : State) (valid : StateInvariant s) where
         batch = w.values;
         attempt = in_range 1 99 (row b).attempt p.first_attempt p.last_attempt;
         next = in_range 1 128 (row b).next p.first_phase p.last_phase;
-      }) s.batches valid.sound.batches.each progress)
+      }) s.batches valid.sound.production.batches.each progress)
 
   events : AllByRecursion HasEventRowValues s.events
   events = all_two _ _ HasEventRowValues (λ (e : BatchEvent) given v. record {
@@ -332,7 +332,7 @@ module _ (s : State) (valid : StateInvariant s) where
     definitions = valid.values.definitions;
     recipes = recipes;
     master_lines = master_lines;
-    jobs = all_unmapped HasValidOrder (λ (j : Job). j.order) s.jobs valid.sound.orders.values;
+    jobs = all_unmapped HasValidOrder (λ (j : Job). j.order) s.jobs valid.sound.production.orders.values;
     batches = batches;
     control_lines = control_lines;
     events = events;

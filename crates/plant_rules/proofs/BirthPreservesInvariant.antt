@@ -58,32 +58,36 @@ consistent_with_lot s sound t r place lines amount known none brought =
     let p : Place = record { lot = r.id; number = 0; place = place } in
     let stays : (lot : List ℕ) → is_some (lot_at s lot) ≡ true → is_some (lot_at new lot) ≡ true = λ lot there. ap is_some (lot_stays s sound r none lot there) ∙ there in
     record {
-      classes = sound.classes;
-      definitions = sound.definitions;
-      lots = sorted_put lot_order lot_order_total r s.lots sound.lots;
-      places = sorted_put place_order place_order_total p s.places sound.places;
-      holds = sound.holds;
-      recalls_sorted = sound.recalls_sorted;
-      classified = sound.classified;
-      defined = all_put lot_order (λ (l : Lot). is_some (definition_at s l.def) ≡ true) r s.lots known sound.defined;
-      housed = all_put place_order (λ (q : Place). is_some (lot_at new q.lot) ≡ true) p s.places
-          (found_put lot_order r (λ x. same x.id r.id) s.lots (same_itself r.id))
-          (all_weaker _ _ (λ (q : Place) there. stays q.lot there) s.places sound.housed);
-      placed = all_weaker _ _ (λ (h : Hold) there. stays h.lot there) s.holds sound.placed;
-      numbered = all_put place_order (λ (q : Place). q.number ≤ greatest_sublot) p s.places (omega arith) sound.numbered;
-      named = all_append _ s.movements lines
-          (all_weaker _ _ (λ m n. (there_still s new p refl _ n.0, there_still s new p refl _ n.1)) s.movements sound.named)
-          brought.named;
-      one_material = all_append _ s.movements lines
-          (all_two _ _ _ (λ m n one. of_stays s sound r none _ _ new refl n.0 n.1 one) s.movements sound.named sound.one_material)
-          brought.one_material;
-      small = λ l n. let e = brought.entering l n in let h = entering_small s sound r.id amount brought.small none l n in omega (arith, e, h);
-      covered = brought.covered;
+      catalogue = record {
+        classes = sound.catalogue.classes;
+        definitions = sound.catalogue.definitions;
+        classified = sound.catalogue.classified;
+        defined = all_put lot_order (λ (l : Lot). is_some (definition_at s l.def) ≡ true) r s.lots known sound.catalogue.defined;
+      };
       recipes = sound.recipes;
-      orders = sound.orders;
-      batches = sound.batches;
-      runs = sound.runs;
+      production = sound.production;
+      stock = record {
+        lots = sorted_put lot_order lot_order_total r s.lots sound.stock.lots;
+        places = sorted_put place_order place_order_total p s.places sound.stock.places;
+        housed = all_put place_order (λ (q : Place). is_some (lot_at new q.lot) ≡ true) p s.places
+            (found_put lot_order r (λ x. same x.id r.id) s.lots (same_itself r.id))
+            (all_weaker _ _ (λ (q : Place) there. stays q.lot there) s.places sound.stock.housed);
+        numbered = all_put place_order (λ (q : Place). q.number ≤ greatest_sublot) p s.places (omega arith) sound.stock.numbered;
+        named = all_append _ s.movements lines
+            (all_weaker _ _ (λ m n. (there_still s new p refl _ n.0, there_still s new p refl _ n.1)) s.movements sound.stock.named)
+            brought.named;
+        one_material = all_append _ s.movements lines
+            (all_two _ _ _ (λ m n one. of_stays s sound r none _ _ new refl n.0 n.1 one) s.movements sound.stock.named sound.stock.one_material)
+            brought.one_material;
+        small = λ l n. let e = brought.entering l n in let h = entering_small s sound r.id amount brought.small none l n in omega (arith, e, h);
+        covered = brought.covered;
+      };
       genealogy = brought.descended;
+      bars = record {
+        holds = sound.bars.holds;
+        placed = all_weaker _ _ (λ (h : Hold) there. stays h.lot there) s.holds sound.bars.placed;
+        recalls = sound.bars.recalls;
+      };
     }
 
 -- ---- what is received or produced
@@ -101,7 +105,7 @@ consistent_born kind brings s sound t lot def amount place small known none desc
       one_material = (subst (λ k. IsOneMaterial new k (comes_from kind lot 0)) (sym (brings.to lot 0)) (subst (IsOneMaterial new (Some (lot, 0))) (sym (brings.nowhere lot 0)) tt), tt);
       small = small;
       entering = λ l n. omega (arith, entered_push s.movements m l n, comes l n);
-      covered = λ l n. omega (arith, entered_push s.movements m l n, left_push s.movements m l n, nothing l n, sound.covered l n);
+      covered = λ l n. omega (arith, entered_push s.movements m l n, left_push s.movements m l n, nothing l n, sound.stock.covered l n);
       descended = descended;
     })
 

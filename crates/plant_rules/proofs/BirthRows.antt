@@ -53,7 +53,7 @@ module _ (kind : MovementKind) (brings : Brings kind) where
       let comes : entering m lot 0 ≡ amount = ap (λ k. cond (is_sublot_key k lot 0) amount 0) (brings.to lot 0) ∙ ap (λ b. cond b amount 0) (key_itself lot 0) in
       let goes : leaving m lot 0 ≡ 0 = ap (λ k. cond (is_sublot_key k lot 0) amount 0) (brings.nowhere lot 0) in
       let stock : amount ≡ entered new lot 0 - left new lot 0 = omega (arith, entered_push s.movements m lot 0, left_push s.movements m lot 0, nothing_entered s sound lot 0 away, nothing_left s sound lot 0 away) in
-      ap (λ n. put sublot_order (record { lot = lot; number = 0; place = place; stock = n }) (map (sublot_row s.movements) s.places)) stock ∙ sublots_put s.movements m p s.places sound.places (born_touches s.seq t p amount)
+      ap (λ n. put sublot_order (record { lot = lot; number = 0; place = place; stock = n }) (map (sublot_row s.movements) s.places)) stock ∙ sublots_put s.movements m p s.places sound.stock.places (born_touches s.seq t p amount)
 
   pub born_tables : (s : State) → DecisionInvariant s → (t : Stamp) (lot def : List ℕ) (amount : ℕ) (place : List ℕ) → is_some (lot_at s lot) ≡ false
       → changed_all (row.Meta (record { schema = newest_schema; position = record { seq = s.seq + 1; at = t.at } }) ∷ row.Lot (record { id = lot; def = def }) ∷ row.Sublot (record { lot = lot; number = 0; place = place; stock = amount }) ∷ row.Movement (line_of s.seq t kind lot 0 amount) ∷ edge_change (line_of s.seq t kind lot 0 amount)) (tables_of newest_schema s) ≡ record (tables_of newest_schema (born_as s t kind lot def amount place)) { marks = marks s.recalls (edges_of s) }

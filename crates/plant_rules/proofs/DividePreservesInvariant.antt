@@ -26,26 +26,21 @@ divide_preserves_invariant s sound t c small known there enough room =
     let p : Place = record { lot = c.lot; number = next; place = c.place } in
     let m : Movement = line_of s.seq t (Divided next) c.lot c.sub c.amount in
     record {
-      classes = sound.classes;
-      definitions = sound.definitions;
-      lots = sound.lots;
-      places = sorted_put place_order place_order_total p s.places sound.places;
-      holds = sound.holds;
-      recalls_sorted = sound.recalls_sorted;
-      classified = sound.classified;
-      defined = sound.defined;
-      housed = all_put place_order (λ (q : Place). is_some (lot_at s q.lot) ≡ true) p s.places known sound.housed;
-      placed = sound.placed;
-      numbered = all_put place_order (λ (q : Place). q.number ≤ greatest_sublot) p s.places room sound.numbered;
-      named = all_push _ s.movements m
-          (all_weaker _ _ (λ m n. (there_still s new p refl _ n.0, there_still s new p refl _ n.1)) s.movements sound.named)
-          (found_put place_order p (λ q. same q.lot c.lot && q.number == next) s.places (key_itself c.lot next), there_still s new p refl (Some (c.lot, c.sub)) there);
-      one_material = all_push _ s.movements m sound.one_material (λ def. refl);
-      small = λ l n. let e = entered_push s.movements m l n in let h = entering_new s sound c.lot next c.amount small (next_free s c.lot) l n in omega (arith, e, h);
-      covered = λ l n. let h = taking_covered s sound c.lot c.sub c.amount enough l n in omega (arith, entered_push s.movements m l n, left_push s.movements m l n, h);
+      catalogue = sound.catalogue;
       recipes = sound.recipes;
-      orders = sound.orders;
-      batches = sound.batches;
-      runs = sound.runs;
+      production = sound.production;
+      stock = record {
+        lots = sound.stock.lots;
+        places = sorted_put place_order place_order_total p s.places sound.stock.places;
+        housed = all_put place_order (λ (q : Place). is_some (lot_at s q.lot) ≡ true) p s.places known sound.stock.housed;
+        numbered = all_put place_order (λ (q : Place). q.number ≤ greatest_sublot) p s.places room sound.stock.numbered;
+        named = all_push _ s.movements m
+            (all_weaker _ _ (λ m n. (there_still s new p refl _ n.0, there_still s new p refl _ n.1)) s.movements sound.stock.named)
+            (found_put place_order p (λ q. same q.lot c.lot && q.number == next) s.places (key_itself c.lot next), there_still s new p refl (Some (c.lot, c.sub)) there);
+        one_material = all_push _ s.movements m sound.stock.one_material (λ def. refl);
+        small = λ l n. let e = entered_push s.movements m l n in let h = entering_new s sound c.lot next c.amount small (next_free s c.lot) l n in omega (arith, e, h);
+        covered = λ l n. let h = taking_covered s sound c.lot c.sub c.amount enough l n in omega (arith, entered_push s.movements m l n, left_push s.movements m l n, h);
+      };
       genealogy = descent_stays s.batches s.movements m sound.genealogy refl refl;
+      bars = sound.bars;
     }

@@ -47,9 +47,9 @@ sublots_parted s sound t kind p q amount crash_states leads found away =
     let stays : leaving m q.lot q.number ≡ 0 = takes q.lot q.number ∙ ap (λ b. cond b amount 0) other in
     let to : amount ≡ entered ms q.lot q.number - left ms q.lot q.number = omega (arith, entered_push s.movements m q.lot q.number, left_push s.movements m q.lot q.number, nothing_entered s sound q.lot q.number away, nothing_left s sound q.lot q.number away, comes, stays) in
     let row_p = λ (n : ℕ). put sublot_order (record { lot = p.lot; number = p.number; place = p.place; stock = n }) (map (sublot_row s.movements) s.places) in
-    let taken = ap row_p from ∙ sublots_taken s.movements m p s.places sound.places (record { entering = elsewhere; leaving = λ r foreign_tables. takes r.lot r.number ∙ ap (λ b. cond b amount 0) (apart_fails p r foreign_tables) })
-    ∙ ap (map (sublot_row ms)) (put_there place_order place_order_total p (λ r. same r.lot p.lot && r.number == p.number) (test_tie p) s.places sound.places found) in
-    (λ i. put sublot_order (record { lot = q.lot; number = q.number; place = q.place; stock = to i }) (taken i)) ∙ sublots_added ms q s.places sound.places
+    let taken = ap row_p from ∙ sublots_taken s.movements m p s.places sound.stock.places (record { entering = elsewhere; leaving = λ r foreign_tables. takes r.lot r.number ∙ ap (λ b. cond b amount 0) (apart_fails p r foreign_tables) })
+    ∙ ap (map (sublot_row ms)) (put_there place_order place_order_total p (λ r. same r.lot p.lot && r.number == p.number) (test_tie p) s.places sound.stock.places found) in
+    (λ i. put sublot_order (record { lot = q.lot; number = q.number; place = q.place; stock = to i }) (taken i)) ∙ sublots_added ms q s.places sound.stock.places
 
 pub divide_tables : (s : State) → DecisionInvariant s → (t : Stamp) (c : Divide) (sublot : Sublot) (next : ℕ) → IsSublotAt s c.lot c.sub sublot → next ≡ next_number s c.lot
     → changed_all (divide_rows s.seq t c sublot next) (tables_of newest_schema s) ≡ tables_of newest_schema (divide s t c)

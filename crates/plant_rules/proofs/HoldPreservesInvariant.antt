@@ -28,40 +28,26 @@ pub with_bars : (s : State) → DecisionInvariant s → (seq at : ℕ) (holds : 
     → IsStrictlySortedBy hold_order holds → AllByRecursion (λ h. is_some (lot_at s h.lot) ≡ true) holds → IsStrictlySortedBy recall_order recalls
     → DecisionInvariant (record s { seq = seq; at = at; holds = holds; recalls = recalls; receipts = receipts })
 with_bars s sound seq at holds recalls receipts sorted placed recalls_sorted = record {
-  classes = sound.classes;
-  definitions = sound.definitions;
-  lots = sound.lots;
-  places = sound.places;
-  holds = sorted;
-  recalls_sorted = recalls_sorted;
-  classified = sound.classified;
-  defined = sound.defined;
-  housed = sound.housed;
-  placed = placed;
-  numbered = sound.numbered;
-  named = sound.named;
-  one_material = sound.one_material;
-  small = sound.small;
-  covered = sound.covered;
+  catalogue = sound.catalogue;
   recipes = sound.recipes;
-  orders = sound.orders;
-  batches = sound.batches;
-  runs = sound.runs;
+  production = sound.production;
+  stock = sound.stock;
   genealogy = sound.genealogy;
+  bars = record { holds = sorted; placed = placed; recalls = recalls_sorted };
 }
 
 pub hold_preserves_invariant : (s : State) → DecisionInvariant s → (t : Stamp) (c : HoldLot) → is_some (lot_at s c.lot) ≡ true → DecisionInvariant (hold s t c)
 hold_preserves_invariant s sound t c known =
     let r : Hold = record { lot = c.lot; id = c.hold; at = t.at; by = t.by; note = t.note } in
     with_bars s sound _ t.at _ s.recalls s.receipts
-    (sorted_put hold_order hold_order_total r s.holds sound.holds)
-    (all_put hold_order (λ (h : Hold). is_some (lot_at s h.lot) ≡ true) r s.holds known sound.placed)
-    sound.recalls_sorted
+    (sorted_put hold_order hold_order_total r s.holds sound.bars.holds)
+    (all_put hold_order (λ (h : Hold). is_some (lot_at s h.lot) ≡ true) r s.holds known sound.bars.placed)
+    sound.bars.recalls
 
 pub unhold_preserves_invariant : (s : State) → DecisionInvariant s → (t : Stamp) (c : UnholdLot) → DecisionInvariant (unhold s t c)
 unhold_preserves_invariant s sound t c =
     let stays = λ (h : Hold). not (same h.lot c.lot && same h.id c.hold) in
     with_bars s sound _ t.at _ s.recalls s.receipts
-    (IsStrictlySortedBy-filter hold_order stays s.holds sound.holds)
-    (all_filtered (λ (h : Hold). is_some (lot_at s h.lot) ≡ true) stays s.holds sound.placed)
-    sound.recalls_sorted
+    (IsStrictlySortedBy-filter hold_order stays s.holds sound.bars.holds)
+    (all_filtered (λ (h : Hold). is_some (lot_at s h.lot) ≡ true) stays s.holds sound.bars.placed)
+    sound.bars.recalls

@@ -124,7 +124,7 @@ merge_preserves_invariant s sound t c some apart known there none enough small a
       one_material = all_lines s.seq t c.new (λ m. IsOneMaterial new (goes_to m.kind m.lot m.sub) (comes_from m.kind m.lot m.sub)) (λ q. (def : List ℕ) → is_of_lot def (lot_at new c.new) ≡ is_of_lot def (lot_at new q.lot)) (λ k q is. is) 1 ps one;
       small = small;
       entering = entered_all s.seq t c.new ms 1 ps;
-      covered = covered_lines s.seq t c.new ms 1 ps enough apart sound.covered;
+      covered = covered_lines s.seq t c.new ms 1 ps enough apart sound.stock.covered;
       descended = descent_grows s.batches ms lines sound.genealogy
           (all_lines s.seq t c.new (λ m. IsBatchThere s.batches (batch_by m.kind)) (λ q. is_some (lot_at s q.lot) ≡ true) (λ k q known. tt) 1 ps known)
           (keeps_into_new s sound c.new lines none (all_lines s.seq t c.new (λ m. EdgeHas (λ x y. (y ≡ node.Lot c.new) × (x ≡ node.Lot c.new → ⊥)) (edge_of m)) (λ q. is_some (lot_at s q.lot) ≡ true)

@@ -61,8 +61,8 @@ module _ (s : State) (sound : DecisionInvariant s) (seq : ℕ) (t : Stamp) (new 
       let brings = brings_elsewhere p k 0 p.lot p.sub ready.known in
       let stock : sublot_standing s p.lot p.sub - p.amount ≡ entered now p.lot p.sub - left now p.lot p.sub = omega (arith, entered_push ms m p.lot p.sub, left_push ms m p.lot p.sub, goes, brings, ready.entered_same, ready.left_same) in
       ap (λ n. put sublot_order (record { lot = p.lot; number = p.sub; place = place; stock = n }) (map (sublot_row ms) s.places)) stock
-      ∙ sublots_taken ms m here s.places sound.places (record { entering = not_among s sound new 0 p.amount none; leaving = λ q apart. ap (λ b. cond b p.amount 0) (apart_fails here q apart) })
-      ∙ ap (map (sublot_row now)) (put_there place_order place_order_total here (λ r. same r.lot p.lot && r.number == p.sub) (test_tie here) s.places sound.places ready.place)
+      ∙ sublots_taken ms m here s.places sound.stock.places (record { entering = not_among s sound new 0 p.amount none; leaving = λ q apart. ap (λ b. cond b p.amount 0) (apart_fails here q apart) })
+      ∙ ap (map (sublot_row now)) (put_there place_order place_order_total here (λ r. same r.lot p.lot && r.number == p.sub) (test_tie here) s.places sound.stock.places ready.place)
 
   -- and after all of them
   pub all_parts : (base : Tables) (ms : List Movement) (k : ℕ) (ps : List Part) → AllByRecursion (IsReady s ms) ps → AreApart ps
@@ -117,7 +117,7 @@ tables_after s sound t c none ready apart free =
     let stock : total_of ps ≡ entered ms c.new 0 - left ms c.new 0 = omega (arith, entered_lines s sound s.seq t c.new none s.movements 1 ps, left_lines s sound s.seq t c.new none s.movements 1 ps known, nothing_entered s sound c.new 0 away, nothing_left s sound c.new 0 away) in
     changed_append (found_rows s.seq t c.new 1 (map (found_of s) ps)) (row.Sublot (record { lot = c.new; number = 0; place = c.place; stock = total_of ps }) ∷ []) base
     ∙ (λ i. changed (row.Sublot (record { lot = c.new; number = 0; place = c.place; stock = stock i })) (all_parts s sound s.seq t c.new none base s.movements 1 ps ready apart i))
-    ∙ (λ i. record base { sublots = sublots_added ms q s.places sound.places i; movements = ms; edges = edge_rows ms; marks = sym (marks_merged s s.seq t c.new 1 ps free) i })
+    ∙ (λ i. record base { sublots = sublots_added ms q s.places sound.stock.places i; movements = ms; edges = edge_rows ms; marks = sym (marks_merged s s.seq t c.new 1 ps free) i })
 
 pub merge_tables : (s : State) → DecisionInvariant s → (t : Stamp) (c : Merge) → is_some (lot_at s c.new) ≡ false → AllByRecursion (IsReady s s.movements) c.parts → AreApart c.parts → is_some_blocked s c.parts ≡ false
     → changed_all (merge_rows s.seq t c (map (found_of s) c.parts)) (tables_of newest_schema s) ≡ tables_of newest_schema (merge s t c)

@@ -17,14 +17,14 @@ recall_order_total : IsTotalOrder recall_order
 recall_order_total = on_total (λ r. r.id) nat_list_cmp_total
 
 with_recalls : (s : State) → DecisionInvariant s → (seq at : ℕ) (recalls : List Recall) → IsStrictlySortedBy recall_order recalls → DecisionInvariant (record s { seq = seq; at = at; recalls = recalls })
-with_recalls s sound seq at recalls sorted = with_bars s sound seq at s.holds recalls s.receipts sound.holds sound.placed sorted
+with_recalls s sound seq at recalls sorted = with_bars s sound seq at s.holds recalls s.receipts sound.bars.holds sound.bars.placed sorted
 
 pub recall_preserves_invariant : (s : State) → DecisionInvariant s → (t : Stamp) (c : RecallLot) → DecisionInvariant (recall s t c)
-recall_preserves_invariant s sound t c = with_recalls s sound _ t.at _ (sorted_put recall_order recall_order_total (opened t c) s.recalls sound.recalls_sorted)
+recall_preserves_invariant s sound t c = with_recalls s sound _ t.at _ (sorted_put recall_order recall_order_total (opened t c) s.recalls sound.bars.recalls)
 
 still_sorted : (t : Stamp) (o : Option Recall) (rs : List Recall) → IsStrictlySortedBy recall_order rs → IsStrictlySortedBy recall_order (with_lifted t o rs)
 still_sorted t None rs sorted = sorted
 still_sorted t (Some r) rs sorted = sorted_put recall_order recall_order_total (lifted t r) rs sorted
 
 pub lift_preserves_invariant : (s : State) → DecisionInvariant s → (t : Stamp) (c : LiftRecall) → DecisionInvariant (lift s t c)
-lift_preserves_invariant s sound t c = with_recalls s sound _ t.at _ (still_sorted t (recall_at s c.recall) s.recalls sound.recalls_sorted)
+lift_preserves_invariant s sound t c = with_recalls s sound _ t.at _ (still_sorted t (recall_at s c.recall) s.recalls sound.bars.recalls)

@@ -28,5 +28,5 @@ pub lift_tables : (s : State) → DecisionInvariant s → (t : Stamp) (c : LiftR
 lift_tables s sound t c r at =
     λ i. record (tables_of newest_schema (lift s t c)) {
       recalls = with_lifted t (sym at i) s.recalls;
-      marks = (sym (go_with_lift s.recalls (edges_of s) (lifted t r) sound.recalls_sorted refl) ∙ ap (λ (o : Option Recall). marks (with_lifted t o s.recalls) (edges_of s)) (sym at)) i;
+      marks = (sym (go_with_lift s.recalls (edges_of s) (lifted t r) sound.bars.recalls refl) ∙ ap (λ (o : Option Recall). marks (with_lifted t o s.recalls) (edges_of s)) (sym at)) i;
     }

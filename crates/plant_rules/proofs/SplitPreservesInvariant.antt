@@ -30,7 +30,7 @@ of_known def new (Some lot) e = refl
 -- the definition of a lot that is there is there
 pub def_known : (s : State) → DecisionInvariant s → (lot : List ℕ) (o : Option Lot) → lot_at s lot ≡ o → is_some o ≡ true → is_some (definition_at s (def_of o)) ≡ true
 def_known s sound lot None e known = absurd (false≢true known)
-def_known s sound lot (Some r) e known = found_keeps (λ (l : Lot). is_some (definition_at s l.def) ≡ true) _ s.lots r sound.defined e
+def_known s sound lot (Some r) e known = found_keeps (λ (l : Lot). is_some (definition_at s l.def) ≡ true) _ s.lots r sound.catalogue.defined e
 
 pub split_preserves_invariant : (s : State) → DecisionInvariant s → (t : Stamp) (c : Split) → c.amount ≤ greatest_amount → is_some (lot_at s c.lot) ≡ true → is_some (place_at s c.lot c.sub) ≡ true → is_some (lot_at s c.new) ≡ false → c.amount ≤ sublot_standing s c.lot c.sub → DecisionInvariant (split s t c)
 split_preserves_invariant s sound t c small known there none enough =

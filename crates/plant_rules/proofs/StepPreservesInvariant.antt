@@ -139,7 +139,7 @@ plain_preserves_invariant s sound e values formed fine =
 -- receipts are of no matter to it
 pub noted_consistent : (r : Option (List ℕ)) (c : List ℕ) (s : State) → DecisionInvariant s → DecisionInvariant (noted r c s)
 noted_consistent None c s sound = sound
-noted_consistent (Some reference) c s sound = with_bars s sound s.seq s.at s.holds s.recalls _ sound.holds sound.placed sound.recalls_sorted
+noted_consistent (Some reference) c s sound = with_bars s sound s.seq s.at s.holds s.recalls _ sound.bars.holds sound.bars.placed sound.bars.recalls
 
 pub step_preserves_invariant : (s : State) → DecisionInvariant s → (e : Envelope) → HasValues e → DecisionInvariant (step s e)
 unfolding step wrong
@@ -154,24 +154,14 @@ step_preserves_invariant s sound e values = unless_consistent (wrong s e) s (tak
 pub opening_has_invariant : DecisionInvariant opening
 unfolding entered left IsStrictlySortedBy
 opening_has_invariant = record {
-  classes = tt;
-  definitions = tt;
-  lots = tt;
-  places = tt;
-  holds = tt;
-  recalls_sorted = tt;
-  classified = tt;
-  defined = tt;
-  housed = tt;
-  placed = tt;
-  numbered = tt;
-  named = tt;
-  one_material = tt;
-  small = λ l n. omega arith;
-  covered = λ l n. omega arith;
+  catalogue = record { classes = tt; definitions = tt; classified = tt; defined = tt };
   recipes = record { sorted = tt; rows_sorted = tt; whole = tt; listed = tt };
-  orders = record { sorted = tt; values = tt; sized = tt; started = tt };
-  batches = record { sorted = tt; control_sorted = tt; each = tt; controlled = tt; witnessed = tt };
-  runs = tt;
+  production = record {
+    orders = record { sorted = tt; values = tt; sized = tt; started = tt };
+    batches = record { sorted = tt; control_sorted = tt; each = tt; controlled = tt; witnessed = tt };
+    runs = tt;
+  };
+  stock = record { lots = tt; places = tt; housed = tt; numbered = tt; named = tt; one_material = tt; small = λ l n. omega arith; covered = λ l n. omega arith };
   genealogy = record { batched = tt; acyclic = λ x r. let first = first_edge r in none_in (x, first.0) first.1 };
+  bars = record { holds = tt; placed = tt; recalls = tt };
 }

@@ -27,26 +27,21 @@ consistent_taken kind takes s sound t lot sub amount there enough descended =
     let nothing : (l : List ℕ) (n : ℕ) → entering m l n ≡ 0 = λ l n. ap (λ k. cond (is_sublot_key k l n) amount 0) (takes.nowhere lot sub) in
     let goes : (l : List ℕ) (n : ℕ) → leaving m l n ≡ cond (is_sublot_key (Some (lot, sub)) l n) amount 0 = λ l n. ap (λ k. cond (is_sublot_key k l n) amount 0) (takes.from lot sub) in
     record {
-      classes = sound.classes;
-      definitions = sound.definitions;
-      lots = sound.lots;
-      places = sound.places;
-      holds = sound.holds;
-      recalls_sorted = sound.recalls_sorted;
-      classified = sound.classified;
-      defined = sound.defined;
-      housed = sound.housed;
-      placed = sound.placed;
-      numbered = sound.numbered;
-      named = all_push _ s.movements m sound.named (subst (IsThere s) (sym (takes.nowhere lot sub)) tt, subst (IsThere s) (sym (takes.from lot sub)) there);
-      one_material = all_push _ s.movements m sound.one_material (subst (λ k. IsOneMaterial s k (comes_from kind lot sub)) (sym (takes.nowhere lot sub)) tt);
-      small = λ l n. omega (arith, entered_push s.movements m l n, nothing l n, sound.small l n);
-      covered = λ l n. omega (arith, entered_push s.movements m l n, left_push s.movements m l n, nothing l n, goes l n, taking_covered s sound lot sub amount enough l n);
+      catalogue = sound.catalogue;
       recipes = sound.recipes;
-      orders = sound.orders;
-      batches = sound.batches;
-      runs = sound.runs;
+      production = sound.production;
+      stock = record {
+        lots = sound.stock.lots;
+        places = sound.stock.places;
+        housed = sound.stock.housed;
+        numbered = sound.stock.numbered;
+        named = all_push _ s.movements m sound.stock.named (subst (IsThere s) (sym (takes.nowhere lot sub)) tt, subst (IsThere s) (sym (takes.from lot sub)) there);
+        one_material = all_push _ s.movements m sound.stock.one_material (subst (λ k. IsOneMaterial s k (comes_from kind lot sub)) (sym (takes.nowhere lot sub)) tt);
+        small = λ l n. omega (arith, entered_push s.movements m l n, nothing l n, sound.stock.small l n);
+        covered = λ l n. omega (arith, entered_push s.movements m l n, left_push s.movements m l n, nothing l n, goes l n, taking_covered s sound lot sub amount enough l n);
+      };
       genealogy = descended;
+      bars = sound.bars;
     }
 
 pub scrap_preserves_invariant : (s : State) → DecisionInvariant s → (t : Stamp) (c : Scrap) → is_some (place_at s c.lot c.sub) ≡ true → c.amount ≤ sublot_standing s c.lot c.sub → DecisionInvariant (scrap s t c)

@@ -47,8 +47,8 @@ module _ (kind : MovementKind) (takes : Takes kind) where
       let comes : entering m p.lot p.number ≡ 0 = ap (λ k. cond (is_sublot_key k p.lot p.number) amount 0) (takes.nowhere p.lot p.number) in
       let stock : sublot_standing s p.lot p.number - amount ≡ entered new p.lot p.number - left new p.lot p.number = omega (arith, entered_push s.movements m p.lot p.number, left_push s.movements m p.lot p.number) in
       ap (λ n. put sublot_order (record { lot = p.lot; number = p.number; place = p.place; stock = n }) (map (sublot_row s.movements) s.places)) stock
-      ∙ sublots_put s.movements m p s.places sound.places (taken_touches s.seq t p amount)
-      ∙ ap (map (sublot_row new)) (put_there place_order place_order_total p (λ r. same r.lot p.lot && r.number == p.number) (test_tie p) s.places sound.places found)
+      ∙ sublots_put s.movements m p s.places sound.stock.places (taken_touches s.seq t p amount)
+      ∙ ap (map (sublot_row new)) (put_there place_order place_order_total p (λ r. same r.lot p.lot && r.number == p.number) (test_tie p) s.places sound.stock.places found)
 
   pub taken_tables : (s : State) → DecisionInvariant s → (t : Stamp) (lot : List ℕ) (sub amount : ℕ) (place : List ℕ) (stock : ℕ) → place_at s lot sub ≡ Some (record { lot = lot; number = sub; place = place }) → stock ≡ sublot_standing s lot sub
       → changed_all (row.Meta (record { schema = newest_schema; position = record { seq = s.seq + 1; at = t.at } }) ∷ row.Sublot (record { lot = lot; number = sub; place = place; stock = stock - amount }) ∷ row.Movement (line_of s.seq t kind lot sub amount) ∷ edge_change (line_of s.seq t kind lot sub amount)) (tables_of newest_schema s) ≡ record (tables_of newest_schema (taken_as s t kind lot sub amount)) { marks = marks s.recalls (edges_of s) }

@@ -66,14 +66,14 @@ batch_key s id b found = same_id b.id id (found_passes (λ (x : Batch). same x.i
 
 -- and is consistent
 pub batch_consistent : (s : State) → DecisionInvariant s → (id : List ℕ) (b : Batch) → batch_at s id ≡ Some b → IsConsistentBatch (headers_of s.recipes) s.master_lines (orders_of s.jobs) s.batches s.control_lines b
-batch_consistent s sound id b found = found_keeps (IsConsistentBatch (headers_of s.recipes) s.master_lines (orders_of s.jobs) s.batches s.control_lines) (λ (x : Batch). same x.id id) s.batches b sound.batches.each found
+batch_consistent s sound id b found = found_keeps (IsConsistentBatch (headers_of s.recipes) s.master_lines (orders_of s.jobs) s.batches s.control_lines) (λ (x : Batch). same x.id id) s.batches b sound.production.batches.each found
 
 -- a batch that is there already replaces itself
 pub put_batch_there : (s : State) → DecisionInvariant s → (id : List ℕ) (b : Batch) → batch_at s id ≡ Some b → put batch_order b s.batches ≡ s.batches
 put_batch_there s sound id b found =
     let key = batch_key s id b found in
     let total = id_total (λ (x : Batch). x.id) in
-    put_there batch_order total b (λ (q : Batch). same q.id id) (λ q. (λ i. same q.id (sym key i)) ∙ texts_ties q.id b.id ∙ (eq_by_cmp_equiv total).symm q b) s.batches sound.batches.sorted found
+    put_there batch_order total b (λ (q : Batch). same q.id id) (λ q. (λ i. same q.id (sym key i)) ∙ texts_ties q.id b.id ∙ (eq_by_cmp_equiv total).symm q b) s.batches sound.production.batches.sorted found
 
 module _ (s : State) (sound : DecisionInvariant s) (t : Stamp) (id : List ℕ) (e : Event) (b : Batch) (found : batch_at s id ≡ Some b) (p : Progress) (allowed : turn_at s id e ≡ Ok p) where
   abbrev after : List BatchEvent
@@ -96,7 +96,7 @@ module _ (s : State) (sound : DecisionInvariant s) (t : Stamp) (id : List ℕ) (
   batches_reported : put batch_row_order (row_at b p) (map (batch_row s.control_lines s.events) s.batches) ≡ map (batch_row s.control_lines after) s.batches
   batches_reported =
       ap (λ r. put batch_row_order r (map (batch_row s.control_lines s.events) s.batches)) (sym its_row)
-      ∙ put_map batch_order batch_row_order (id_total (λ (x : Batch). x.id)) (batch_row s.control_lines s.events) (batch_row s.control_lines after) b (λ q. refl) s.batches sound.batches.sorted (all_of _ other_row s.batches)
+      ∙ put_map batch_order batch_row_order (id_total (λ (x : Batch). x.id)) (batch_row s.control_lines s.events) (batch_row s.control_lines after) b (λ q. refl) s.batches sound.production.batches.sorted (all_of _ other_row s.batches)
       ∙ ap (map (batch_row s.control_lines after)) (put_batch_there s sound id b found)
 
   pub event_tables : changed_all (row.Meta (record { schema = newest_schema; position = record { seq = s.seq + 1; at = t.at } }) ∷ row.Event (event_row s.seq t id e) ∷ row.Batch (row_at b p) ∷ []) (tables_of newest_schema s) ≡ tables_of newest_schema (happened s t id e)

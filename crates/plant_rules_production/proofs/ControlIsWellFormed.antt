@@ -55,14 +55,14 @@ module _ (s : State) (sound : DecisionInvariant s) where
   made_by_order : (id : List ℕ) (control : List RecipeLine) (o : Option OrderRow) → order_among (orders_of s.jobs) id ≡ o → control_of_order (headers_of s.recipes) s.master_lines o ≡ Some control → IsMade control
   made_by_order id control None found e = absurd cc
   made_by_order id control (Some o) found e =
-      let sized = found_keeps (λ (x : OrderRow). is_size_of_some (header_among (headers_of s.recipes) x.recipe x.version) x.size ≡ true) (λ (x : OrderRow). same x.order id) (orders_of s.jobs) o sound.orders.sized found in
+      let sized = found_keeps (λ (x : OrderRow). is_size_of_some (header_among (headers_of s.recipes) x.recipe x.version) x.size ≡ true) (λ (x : OrderRow). same x.order id) (orders_of s.jobs) o sound.production.orders.sized found in
       made_by_header o control (header_among (headers_of s.recipes) o.recipe o.version) refl sized e
 
   -- the lines of each batch are
   pub control_made : (id : List ℕ) (b : Batch) → batch_at s id ≡ Some b → IsMade (map (λ l. l.line) (control_among s.control_lines id))
   control_made id b found =
       let key : b.id ≡ id = same_id b.id id (found_passes (λ (x : Batch). same x.id id) s.batches b found) in
-      let w = found_keeps (IsConsistentBatch (headers_of s.recipes) s.master_lines (orders_of s.jobs) s.batches s.control_lines) (λ (x : Batch). same x.id id) s.batches b sound.batches.each found in
+      let w = found_keeps (IsConsistentBatch (headers_of s.recipes) s.master_lines (orders_of s.jobs) s.batches s.control_lines) (λ (x : Batch). same x.id id) s.batches b sound.production.batches.each found in
       subst (λ i. IsMade (map (λ (l : ControlLine). l.line) (control_among s.control_lines i))) key (made_by_order b.job _ (order_among (orders_of s.jobs) b.job) refl w.scaled)
 
 -- ---- values

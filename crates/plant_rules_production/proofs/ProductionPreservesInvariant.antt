@@ -61,26 +61,12 @@ pub with_production : (s : State) → DecisionInvariant s → (seq at : ℕ) (re
     → AreConsistentRecipes s.definitions recipes master_lines → AreConsistentOrders (headers_of recipes) jobs batches → AreConsistentBatches (headers_of recipes) master_lines (orders_of jobs) batches control_lines events → AreConsistentRuns jobs batches control_lines events → IsConsistentGenealogy batches s.movements
     → DecisionInvariant (record s { seq = seq; at = at; recipes = recipes; master_lines = master_lines; jobs = jobs; batches = batches; control_lines = control_lines; events = events })
 with_production s sound seq at recipes master_lines jobs batches control_lines events planned ordered released allowed descended = record {
-  classes = sound.classes;
-  definitions = sound.definitions;
-  lots = sound.lots;
-  places = sound.places;
-  holds = sound.holds;
-  recalls_sorted = sound.recalls_sorted;
-  classified = sound.classified;
-  defined = sound.defined;
-  housed = sound.housed;
-  placed = sound.placed;
-  numbered = sound.numbered;
-  named = sound.named;
-  one_material = sound.one_material;
-  small = sound.small;
-  covered = sound.covered;
+  catalogue = sound.catalogue;
   recipes = planned;
-  orders = ordered;
-  batches = released;
-  runs = allowed;
+  production = record { orders = ordered; batches = released; runs = allowed };
+  stock = sound.stock;
   genealogy = descended;
+  bars = sound.bars;
 }
 
 -- ---- recipes
@@ -93,9 +79,9 @@ add_recipe_preserves_invariant s sound t c values line_values version formed pro
     let back = sym (headers_put s.recipes r) in
     with_production s sound (s.seq + 1) t.at (put recipe_order r s.recipes) rows s.jobs s.batches s.control_lines s.events
     (recipes_added s.definitions s.recipes s.master_lines sound.recipes r c.lines free values (recursion_from_All HasLineValues c.lines line_values) version formed product known)
-    (subst (λ hs. AreConsistentOrders hs s.jobs s.batches) back (orders_headed s.definitions s.recipes s.master_lines sound.recipes r c.lines free s.jobs s.batches sound.orders))
-    (subst (λ hs. AreConsistentBatches hs rows (orders_of s.jobs) s.batches s.control_lines s.events) back (batches_headed s.definitions s.recipes s.master_lines sound.recipes r c.lines free (orders_of s.jobs) s.batches s.control_lines s.events sound.batches))
-    sound.runs
+    (subst (λ hs. AreConsistentOrders hs s.jobs s.batches) back (orders_headed s.definitions s.recipes s.master_lines sound.recipes r c.lines free s.jobs s.batches sound.production.orders))
+    (subst (λ hs. AreConsistentBatches hs rows (orders_of s.jobs) s.batches s.control_lines s.events) back (batches_headed s.definitions s.recipes s.master_lines sound.recipes r c.lines free (orders_of s.jobs) s.batches s.control_lines s.events sound.production.batches))
+    sound.production.runs
     sound.genealogy
 
 -- a recipe whose state goes on
@@ -105,9 +91,9 @@ consistent_moved s sound t id version to =
     let kept = headers_same s.recipes sound.recipes.sorted id version (recipe_at s id version) refl to in
     with_production s sound (s.seq + 1) t.at moved s.master_lines s.jobs s.batches s.control_lines s.events
     (recipes_moved s.definitions s.recipes moved s.master_lines kept (with_state_sorted s.recipes sound.recipes.sorted (recipe_at s id version) to) sound.recipes)
-    (subst (λ hs. AreConsistentOrders hs s.jobs s.batches) (sym kept) sound.orders)
-    (subst (λ hs. AreConsistentBatches hs s.master_lines (orders_of s.jobs) s.batches s.control_lines s.events) (sym kept) sound.batches)
-    sound.runs
+    (subst (λ hs. AreConsistentOrders hs s.jobs s.batches) (sym kept) sound.production.orders)
+    (subst (λ hs. AreConsistentBatches hs s.master_lines (orders_of s.jobs) s.batches s.control_lines s.events) (sym kept) sound.production.batches)
+    sound.production.runs
     sound.genealogy
 
 -- ---- orders
@@ -137,9 +123,9 @@ import_preserves_invariant s sound t c values numbers sizes =
     let valid : AllByRecursion HasValidOrder new =
     all_filtered HasValidOrder is_new c.orders (all_two HasOrderValues (λ (o : OrderRow). has_numbers o ≡ true) HasValidOrder (λ o v n. (v, n)) c.orders (recursion_from_All HasOrderValues c.orders values) (each_passes has_numbers c.orders numbers)) in
     with_production s sound (s.seq + 1) t.at s.recipes s.master_lines (import_orders s t c).jobs s.batches s.control_lines s.events sound.recipes
-    (orders_imported headers s.master_lines s.jobs s.batches s.control_lines s.events sound.orders sound.batches new fresh sized valid)
-    (batches_imported headers s.master_lines s.jobs s.batches s.control_lines s.events sound.orders sound.batches new fresh)
-    (runs_of_jobs s.jobs (import_orders s t c).jobs s.batches s.control_lines s.events (jobs_imported headers s.master_lines s.jobs s.batches s.control_lines s.events sound.orders sound.batches new fresh) sound.runs)
+    (orders_imported headers s.master_lines s.jobs s.batches s.control_lines s.events sound.production.orders sound.production.batches new fresh sized valid)
+    (batches_imported headers s.master_lines s.jobs s.batches s.control_lines s.events sound.production.orders sound.production.batches new fresh)
+    (runs_of_jobs s.jobs (import_orders s t c).jobs s.batches s.control_lines s.events (jobs_imported headers s.master_lines s.jobs s.batches s.control_lines s.events sound.production.orders sound.production.batches new fresh) sound.production.runs)
     sound.genealogy
 
 module _ (s : State) (sound : DecisionInvariant s) (id : List ℕ) where
@@ -147,17 +133,17 @@ module _ (s : State) (sound : DecisionInvariant s) (id : List ℕ) where
   cancelled None e waits = absurd (false≢true waits)
   cancelled (Some j) e waits =
       let r : Job = record { order = j.order; state = Cancelled } in
-      let none = open_has_none (headers_of s.recipes) s.jobs s.batches sound.orders id j e waits in (
-        orders_moved (headers_of s.recipes) s.jobs s.batches sound.orders id j e Cancelled none,
-        runs_of_jobs s.jobs (put job_order r s.jobs) s.batches s.control_lines s.events (jobs_past s sound r none) sound.runs,
+      let none = open_has_none (headers_of s.recipes) s.jobs s.batches sound.production.orders id j e waits in (
+        orders_moved (headers_of s.recipes) s.jobs s.batches sound.production.orders id j e Cancelled none,
+        runs_of_jobs s.jobs (put job_order r s.jobs) s.batches s.control_lines s.events (jobs_past s sound r none) sound.production.runs,
       )
 
 pub cancel_preserves_invariant : (s : State) → DecisionInvariant s → (t : Stamp) (c : CancelOrder) → is_waiting (job_at s c.order) ≡ true → DecisionInvariant (cancel_order s t c)
 cancel_preserves_invariant s sound t c waits =
-    let kept = orders_same s.jobs sound.orders.sorted c.order (job_at s c.order) refl Cancelled in
+    let kept = orders_same s.jobs sound.production.orders.sorted c.order (job_at s c.order) refl Cancelled in
     let moved = cancelled s sound c.order (job_at s c.order) refl waits in
     with_production s sound (s.seq + 1) t.at s.recipes s.master_lines (cancel_order s t c).jobs s.batches s.control_lines s.events sound.recipes moved.0
-    (subst (λ os. AreConsistentBatches (headers_of s.recipes) s.master_lines os s.batches s.control_lines s.events) (sym kept) sound.batches)
+    (subst (λ os. AreConsistentBatches (headers_of s.recipes) s.master_lines os s.batches s.control_lines s.events) (sym kept) sound.production.batches)
     moved.1
     sound.genealogy
 
@@ -180,11 +166,11 @@ module _ (s : State) (sound : DecisionInvariant s) (b : Batch) (lines : List Rec
   waiting None e waits = absurd (false≢true waits)
   waiting (Some j) e waits =
       let key = same_id j.order.order b.job (found_passes _ s.jobs j e) in
-      ap (λ i. is_some (batch_among s.batches i)) (sym key) ∙ open_has_none (headers_of s.recipes) s.jobs s.batches sound.orders b.job j e waits
+      ap (λ i. is_some (batch_among s.batches i)) (sym key) ∙ open_has_none (headers_of s.recipes) s.jobs s.batches sound.production.orders b.job j e waits
 
   released : (o : Option Job) → job_at s b.job ≡ o → is_waiting o ≡ true → is_some (batch_among s.batches b.job) ≡ false → AreConsistentOrders (headers_of s.recipes) (orders.with_state Released o s.jobs) (put batch_order b s.batches)
   released None e waits unstarted = absurd (false≢true waits)
-  released (Some j) e waits unstarted = orders_released (headers_of s.recipes) s.master_lines (orders_of s.jobs) s.batches s.control_lines s.events sound.batches b lines free unstarted s.jobs sound.orders j e
+  released (Some j) e waits unstarted = orders_released (headers_of s.recipes) s.master_lines (orders_of s.jobs) s.batches s.control_lines s.events sound.production.batches b lines free unstarted s.jobs sound.production.orders j e
 
   -- the order is released, and no other changes
   allowed : (o : Option Job) → job_at s b.job ≡ o → is_waiting o ≡ true → is_some (batch_among s.batches b.job) ≡ false → AreConsistentRuns (orders.with_state Released o s.jobs) (put batch_order b s.batches) (after s sound b free lines) s.events
@@ -202,10 +188,10 @@ release_preserves_invariant s sound t c values free waits some =
     let next = release s t c in
     let unstarted = waiting s sound b lines free (job_at s c.order) refl waits in
     let scaled = ap (control_of_order headers s.master_lines) (order_of_job s.jobs c.order) ∙ control_same s (job_at s c.order) ∙ some_lines (control_of_job s (job_at s c.order)) some in
-    let kept = orders_same s.jobs sound.orders.sorted c.order (job_at s c.order) refl Released in
+    let kept = orders_same s.jobs sound.production.orders.sorted c.order (job_at s c.order) refl Released in
     with_production s sound (s.seq + 1) t.at s.recipes s.master_lines next.jobs next.batches next.control_lines s.events sound.recipes
     (released s sound b lines free (job_at s c.order) refl waits unstarted)
-    (subst (λ os. AreConsistentBatches headers s.master_lines os next.batches next.control_lines s.events) (sym kept) (batches_released headers s.master_lines (orders_of s.jobs) s.batches s.control_lines s.events sound.batches b lines free unstarted values scaled))
+    (subst (λ os. AreConsistentBatches headers s.master_lines os next.batches next.control_lines s.events) (sym kept) (batches_released headers s.master_lines (orders_of s.jobs) s.batches s.control_lines s.events sound.production.batches b lines free unstarted values scaled))
     (allowed s sound b lines free (job_at s c.order) refl waits unstarted)
     (descent_released s.batches s.movements b sound.genealogy)
 
@@ -222,11 +208,11 @@ turn_allowed (Err refusal) rest e = absurd cc
 -- every event is of a batch that is there
 reported_batches : (s : State) → DecisionInvariant s → (t : Stamp) (id : List ℕ) (e : Event) (b : Batch) → batch_at s id ≡ Some b → AreConsistentBatches (headers_of s.recipes) s.master_lines (orders_of s.jobs) s.batches s.control_lines (s.events ++ event_row s.seq t id e ∷ [])
 reported_batches s sound t id e b found = record {
-  sorted = sound.batches.sorted;
-  control_sorted = sound.batches.control_sorted;
-  each = sound.batches.each;
-  controlled = sound.batches.controlled;
-  witnessed = all_push (λ (x : BatchEvent). is_batch_among s.batches x.batch ≡ true) s.events (event_row s.seq t id e) sound.batches.witnessed (ap is_some found);
+  sorted = sound.production.batches.sorted;
+  control_sorted = sound.production.batches.control_sorted;
+  each = sound.production.batches.each;
+  controlled = sound.production.batches.controlled;
+  witnessed = all_push (λ (x : BatchEvent). is_batch_among s.batches x.batch ≡ true) s.events (event_row s.seq t id e) sound.production.batches.witnessed (ap is_some found);
 }
 
 pub consistent_event : (s : State) → DecisionInvariant s → (t : Stamp) (id : List ℕ) (e : Event) → is_closing e ≡ false → wrong_event s id e ≡ None → DecisionInvariant (happened s t id e)
@@ -234,7 +220,7 @@ consistent_event s sound t id e open_still fine =
     let there = passed (is_none (batch_at s id)) UnknownBatch (refuse_turn (turn_at s id e) (refuse (at_limit s) TooMany None)) fine in
     let batch = some_there (batch_at s id) (is_there _ there.0) in
     let turn = turn_allowed (turn_at s id e) (refuse (at_limit s) TooMany None) there.1 in
-    with_production s sound (s.seq + 1) t.at s.recipes s.master_lines s.jobs s.batches s.control_lines (happened s t id e).events sound.recipes sound.orders
+    with_production s sound (s.seq + 1) t.at s.recipes s.master_lines s.jobs s.batches s.control_lines (happened s t id e).events sound.recipes sound.production.orders
     (reported_batches s sound t id e batch.0 batch.1)
     (runs_happened s sound t id e batch.0 batch.1 turn.0 turn.1 open_still)
     sound.genealogy
@@ -249,9 +235,9 @@ module _ (s : State) (sound : DecisionInvariant s) (t : Stamp) (c : CloseBatch) 
       let now = progress_at s c.batch in
       let turn = open_turn now unclosed ∙ ap (λ x. progress.refuse_event (not x) NotFinished (Ok (closed_at now))) ended in
       let key = same_id j.order.order b.job (found_passes _ s.jobs j known) in
-      let kept = orders_same s.jobs sound.orders.sorted b.job (Some j) known Finished in
+      let kept = orders_same s.jobs sound.production.orders.sorted b.job (Some j) known Finished in
       with_production s sound (s.seq + 1) t.at s.recipes s.master_lines (put job_order r s.jobs) s.batches s.control_lines (happened s t c.batch Closed).events sound.recipes
-      (orders_moved headers s.jobs s.batches sound.orders b.job j known Finished (ap (λ id. is_some (batch_among s.batches id)) key ∙ ap is_some (batch_consistent s sound c.batch b found).alone))
+      (orders_moved headers s.jobs s.batches sound.production.orders b.job j known Finished (ap (λ id. is_some (batch_among s.batches id)) key ∙ ap is_some (batch_consistent s sound c.batch b found).alone))
       (subst (λ os. AreConsistentBatches headers s.master_lines os s.batches s.control_lines (happened s t c.batch Closed).events) (sym kept) (reported_batches s sound t c.batch Closed b found))
       (runs_closed s sound t c.batch Closed b found (closed_at now) turn j known r refl refl refl)
       sound.genealogy

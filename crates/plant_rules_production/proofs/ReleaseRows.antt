@@ -77,7 +77,7 @@ module _ (s : State) (sound : DecisionInvariant s) (b : Batch) (free : is_batch_
 
   -- a batch that isn't there has no events
   pub no_events : events_among s.events b.id ≡ []
-  no_events = ap (map (λ (e : BatchEvent). e.event)) (none_left (λ (e : BatchEvent). same e.batch b.id) s.events (all_weaker _ _ (λ (e : BatchEvent) known. (ids_apart (is_batch_among s.batches) e.batch b.id known free).0) s.events sound.batches.witnessed))
+  no_events = ap (map (λ (e : BatchEvent). e.event)) (none_left (λ (e : BatchEvent). same e.batch b.id) s.events (all_weaker _ _ (λ (e : BatchEvent) known. (ids_apart (is_batch_among s.batches) e.batch b.id known free).0) s.events sound.production.batches.witnessed))
 
   begins : row_at b opening_progress ≡ batch_row after s.events b
   unfolding progress_after
@@ -87,7 +87,7 @@ module _ (s : State) (sound : DecisionInvariant s) (b : Batch) (free : is_batch_
   pub batches_released : put batch_row_order (row_at b opening_progress) (map (batch_row s.control_lines s.events) s.batches) ≡ map (batch_row after s.events) (put batch_order b s.batches)
   batches_released =
       ap (λ r. put batch_row_order r (map (batch_row s.control_lines s.events) s.batches)) begins
-      ∙ put_map batch_order batch_row_order (id_total (λ (x : Batch). x.id)) (batch_row s.control_lines s.events) (batch_row after s.events) b (λ q. refl) s.batches sound.batches.sorted
+      ∙ put_map batch_order batch_row_order (id_total (λ (x : Batch). x.id)) (batch_row s.control_lines s.events) (batch_row after s.events) b (λ q. refl) s.batches sound.production.batches.sorted
       (all_of _ (λ q apart. ap (λ n. row_at q (progress_after n (events_among s.events q.id))) (phases_stay q apart)) s.batches)
 
 pub release_tables : (s : State) → DecisionInvariant s → (t : Stamp) (c : Release) (job : Job) (lines : List RecipeLine) → job_at s c.order ≡ Some job → is_some (batch_at s c.batch) ≡ false → control_of_job s (job_at s c.order) ≡ Some lines
@@ -121,7 +121,7 @@ module _ (s : State) (c : Release) (job : Job) (r : Recipe) (rows : List MasterL
       let header = header_found s.recipes o.recipe o.version ∙ ap (option_map (λ (x : Recipe). x.header)) found in
       let keys = same_key r.header.recipe o.recipe r.header.version o.version (found_passes test headers r.header header) in
       let whole = found_keeps (IsWholeRecipe s.definitions s.master_lines) test headers r.header sound.recipes.whole header in
-      let sized = found_keeps (λ (x : OrderRow). is_size_of_some (header_among headers x.recipe x.version) x.size ≡ true) (λ (x : OrderRow). same x.order c.order) (orders_of s.jobs) o sound.orders.sized (order_found s c.order job known) in (
+      let sized = found_keeps (λ (x : OrderRow). is_size_of_some (header_among headers x.recipe x.version) x.size ≡ true) (λ (x : OrderRow). same x.order c.order) (orders_of s.jobs) o sound.production.orders.sized (order_found s c.order job known) in (
         ap (λ ls. is_well_formed r.header (map (λ (l : MasterLine). l.line) ls)) (listed ∙ (λ i. master_lines_of s (sym keys.0 i) (sym keys.1 i))) ∙ whole.formed,
         ap (λ h. is_size_of_some h o.size) (sym header) ∙ sized,
       )

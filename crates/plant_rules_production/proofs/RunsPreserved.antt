@@ -62,7 +62,7 @@ module _ (s : State) (sound : DecisionInvariant s) where
 
   -- an order without a batch is no batch's
   pub jobs_past : (r : Job) → is_some (batch_among s.batches r.order.order) ≡ false → AllByRecursion (λ (b : Batch). job_among (put job_order r s.jobs) b.job ≡ job_among s.jobs b.job) s.batches
-  jobs_past r none = all_weaker DecisionInvariantIn _ (λ (b : Batch) w. job_past r s.jobs b.job (ids_apart (λ id. is_some (batch_among s.batches id)) b.job r.order.order (ap is_some w.alone) none).1) s.batches sound.batches.each
+  jobs_past r none = all_weaker DecisionInvariantIn _ (λ (b : Batch) w. job_past r s.jobs b.job (ids_apart (λ id. is_some (batch_among s.batches id)) b.job r.order.order (ap is_some w.alone) none).1) s.batches sound.production.batches.each
 
   -- nothing has happened to a batch that is released
   pub runs_released : (b : Batch) (lines : List RecipeLine) (free : is_batch_among s.batches b.id ≡ false) (later : List Job) → has_finished (job_among later b.job) ≡ false → AllByRecursion (λ (q : Batch). job_among later q.job ≡ job_among s.jobs q.job) s.batches
@@ -81,7 +81,7 @@ module _ (s : State) (sound : DecisionInvariant s) where
         allowed = ap (λ n. is_ok (run_of n (events_among s.events q.id))) (sym phases) ∙ w.allowed;
         finished = ap (λ n. (progress_after n (events_among s.events q.id)).closed) (sym phases) ∙ w.finished;
       } in
-      all_put_apart batch_order batch_order_total b (IsConsistentRun later control s.events) s.batches sound.batches.sorted this (all_weaker _ _ stays s.batches (runs_of_jobs s.jobs later s.batches s.control_lines s.events same_jobs sound.runs))
+      all_put_apart batch_order batch_order_total b (IsConsistentRun later control s.events) s.batches sound.production.batches.sorted this (all_weaker _ _ stays s.batches (runs_of_jobs s.jobs later s.batches s.control_lines s.events same_jobs sound.production.runs))
 
 -- ---- turns
 
@@ -128,7 +128,7 @@ module _ (s : State) (sound : DecisionInvariant s) (t : Stamp) (id : List ℕ) (
   after = s.events ++ event_row s.seq t id e ∷ []
 
   was : IsConsistentRun s.jobs s.control_lines s.events b
-  was = found_keeps (IsConsistentRun s.jobs s.control_lines s.events) (λ (x : Batch). same x.id id) s.batches b sound.runs found
+  was = found_keeps (IsConsistentRun s.jobs s.control_lines s.events) (λ (x : Batch). same x.id id) s.batches b sound.production.runs found
 
   its_run : (later : List Job) → p.closed ≡ has_finished (job_among later b.job) → IsConsistentRun later s.control_lines after b
   its_run later closes =
@@ -160,8 +160,8 @@ module _ (s : State) (sound : DecisionInvariant s) (t : Stamp) (id : List ℕ) (
   runs_reported : (later : List Job) → p.closed ≡ has_finished (job_among later b.job) → AllByRecursion (Stays later) s.batches → AreConsistentRuns later s.batches s.control_lines after
   runs_reported later closes stays =
       let Sound : Batch → Type 0 = IsConsistentRun later s.control_lines after in
-      let others = all_two (Stays later) (IsConsistentRun s.jobs s.control_lines s.events) (λ q. is_eq (batch_order b q) ≡ false → Sound q) (λ q same_job w apart. other_run later q (same_job apart) apart w) s.batches stays sound.runs in
-      subst (AllByRecursion Sound) (put_batch_there s sound id b found) (all_put_apart batch_order batch_order_total b Sound s.batches sound.batches.sorted (its_run later closes) others)
+      let others = all_two (Stays later) (IsConsistentRun s.jobs s.control_lines s.events) (λ q. is_eq (batch_order b q) ≡ false → Sound q) (λ q same_job w apart. other_run later q (same_job apart) apart w) s.batches stays sound.production.runs in
+      subst (AllByRecursion Sound) (put_batch_there s sound id b found) (all_put_apart batch_order batch_order_total b Sound s.batches sound.production.batches.sorted (its_run later closes) others)
 
   -- an event that isn't the closing leaves the orders
   pub runs_happened : is_closing e ≡ false → AreConsistentRuns s.jobs s.batches s.control_lines after
@@ -177,7 +177,7 @@ module _ (s : State) (sound : DecisionInvariant s) (t : Stamp) (id : List ℕ) (
       let key : r.order.order ≡ b.job = ap (λ o. o.order) order ∙ same_id j.order.order b.job (found_passes (λ (x : Job). same x.order.order b.job) s.jobs j known) in
       let its = batch_consistent s sound id b found in
       runs_reported (put job_order r s.jobs) (closed ∙ sym (ap has_finished (job_own r s.jobs b.job key) ∙ finished))
-      (all_weaker (DecisionInvariantIn s sound) (Stays (put job_order r s.jobs)) (λ q w apart. job_past r s.jobs q.job (ap (λ i. same i q.job) key ∙ jobs_apart q (sym its.alone) w.alone apart)) s.batches sound.batches.each)
+      (all_weaker (DecisionInvariantIn s sound) (Stays (put job_order r s.jobs)) (λ q w apart. job_past r s.jobs q.job (ap (λ i. same i q.job) key ∙ jobs_apart q (sym its.alone) w.alone apart)) s.batches sound.production.batches.each)
     where
       -- two batches are of two orders
       jobs_apart : (q : Batch) → Some b ≡ batch_among s.batches b.job → batch_among s.batches q.job ≡ Some q → is_eq (batch_order b q) ≡ false → same b.job q.job ≡ false

@@ -39,7 +39,7 @@ module _ (s : State) (sound : DecisionInvariant s) where
   pub lot_known : (k : List ℕ × ℕ) → IsThere s (Some k) → is_some (lot_at s k.0) ≡ true
   lot_known k there = elim (place_at s k.0 k.1) as (λ o. place_at s k.0 k.1 ≡ o → is_some o ≡ true → is_some (lot_at s k.0) ≡ true) [
     | None ↦ λ e f. absurd (false≢true f)
-    | Some p ↦ λ e f. ap (λ l. is_some (lot_at s l)) (sym (same_key p.lot k.0 p.number k.1 (found_passes _ s.places p e)).0) ∙ found_keeps (λ (p : Place). is_some (lot_at s p.lot) ≡ true) _ s.places p sound.housed e
+    | Some p ↦ λ e f. ap (λ l. is_some (lot_at s l)) (sym (same_key p.lot k.0 p.number k.1 (found_passes _ s.places p e)).0) ∙ found_keeps (λ (p : Place). is_some (lot_at s p.lot) ≡ true) _ s.places p sound.stock.housed e
   ] refl there
 
   module _ (r : Lot) (none : is_some (lot_at s r.id) ≡ false) where
@@ -74,7 +74,7 @@ entering_new s sound lot number amount small none l n = elim (same lot l && numb
       let there : entered s.movements lot number ≡ entered s.movements l n = λ i. entered s.movements (keys.0 i) (keys.1 i) in
       let nothing = nothing_entered s sound lot number none in
       omega (arith, there, nothing, small)
-  | false ↦ λ e. omega (arith, sound.small l n)
+  | false ↦ λ e. omega (arith, sound.stock.small l n)
 ] refl
 
 -- and sublot 0 of a new lot
@@ -87,6 +87,6 @@ taking_covered s sound lot number amount enough l n = elim (same lot l && number
   | true ↦ λ e.
       let keys = same_key lot l number n e in
       let here : sublot_standing s lot number ≡ sublot_standing s l n = λ i. sublot_standing s (keys.0 i) (keys.1 i) in
-      omega (arith, here, enough, sound.covered l n)
-  | false ↦ λ e. omega (arith, sound.covered l n)
+      omega (arith, here, enough, sound.stock.covered l n)
+  | false ↦ λ e. omega (arith, sound.stock.covered l n)
 ] refl

@@ -65,7 +65,7 @@ module _ (s : State) (sound : DecisionInvariant s) where
 
   pub new_is_end : (new : List ℕ) → is_some (lot_at s new) ≡ false → IsEnd (node.Lot new) (edges_of s)
   new_is_end new none y e =
-      let known = edges_have (λ x z. (l : List ℕ) → x ≡ node.Lot l → is_some (lot_at s l) ≡ true) s.movements (all_weaker _ _ (λ (m : Movement) n. from_known m.kind m.lot m.sub n.1) s.movements sound.named) (node.Lot new) y e in
+      let known = edges_have (λ x z. (l : List ℕ) → x ≡ node.Lot l → is_some (lot_at s l) ≡ true) s.movements (all_weaker _ _ (λ (m : Movement) n. from_known m.kind m.lot m.sub n.1) s.movements sound.stock.named) (node.Lot new) y e in
       false≢true (sym none ∙ known new (λ i. node.Lot new))
 
   -- edges that lead into a new lot, from what isn't it

@@ -63,9 +63,9 @@ balanced s sound lot =
     let goes = λ (m : Movement). goes_to m.kind m.lot m.sub in
     let comes = λ (m : Movement). comes_from m.kind m.lot m.sub in
     let within = λ (m : Movement). cond (is_division m.kind && same m.lot lot) m.amount 0 in
-    let entered_all = total s sound (mine lot) goes ms (all_weaker _ _ (λ m n. n.0) ms sound.named) in
-    let left_all = total s sound (mine lot) comes ms (all_weaker _ _ (λ m n. n.1) ms sound.named) in
+    let entered_all = total s sound (mine lot) goes ms (all_weaker _ _ (λ m n. n.0) ms sound.stock.named) in
+    let left_all = total s sound (mine lot) comes ms (all_weaker _ _ (λ m n. n.1) ms sound.stock.named) in
     let ins = sums_add (λ m. entering_lot m lot) within (λ m. cond (of_place (mine lot) (goes m)) m.amount 0) ms (all_of _ (λ m. comes_in lot m.lot m.sub m.amount m.kind) ms) in
     let outs = sums_add (λ m. leaving_lot m lot) within (λ m. cond (of_place (mine lot) (comes m)) m.amount 0) ms (all_of _ (λ m. goes_out lot m.lot m.sub m.amount m.kind) ms) in
-    let represents = sums_add (λ q. cond (same q.lot lot) (sublot_standing s q.lot q.number) 0) (λ q. cond (same q.lot lot) (left ms q.lot q.number) 0) (λ q. cond (same q.lot lot) (entered ms q.lot q.number) 0) s.places (all_of _ (λ q. chosen_add (same q.lot lot) _ _ _ (omega (arith, sound.covered q.lot q.number))) s.places) in
+    let represents = sums_add (λ q. cond (same q.lot lot) (sublot_standing s q.lot q.number) 0) (λ q. cond (same q.lot lot) (left ms q.lot q.number) 0) (λ q. cond (same q.lot lot) (entered ms q.lot q.number) 0) s.places (all_of _ (λ q. chosen_add (same q.lot lot) _ _ _ (omega (arith, sound.stock.covered q.lot q.number))) s.places) in
     omega (arith, entered_all, left_all, ins, outs, represents, of_lot lot ms s.places)

@@ -47,10 +47,10 @@ nowhere s (Some k) lot number none there = false_from_ne_true _ (λ e.
     false≢true (sym (ap is_some none) ∙ ap (λ (j : List ℕ × ℕ). is_some (place_at s j.0 j.1)) (λ i. (sym keys.0 i, sym keys.1 i)) ∙ there))
 
 pub nothing_entered : (s : State) → DecisionInvariant s → (lot : List ℕ) (number : ℕ) → place_at s lot number ≡ None → entered s.movements lot number ≡ 0
-nothing_entered s sound lot number none = entered_nothing s.movements lot number (all_weaker _ _ (λ m named. ap (λ b. cond b m.amount 0) (nowhere s (goes_to m.kind m.lot m.sub) lot number none named.0)) s.movements sound.named)
+nothing_entered s sound lot number none = entered_nothing s.movements lot number (all_weaker _ _ (λ m named. ap (λ b. cond b m.amount 0) (nowhere s (goes_to m.kind m.lot m.sub) lot number none named.0)) s.movements sound.stock.named)
 
 pub nothing_left : (s : State) → DecisionInvariant s → (lot : List ℕ) (number : ℕ) → place_at s lot number ≡ None → left s.movements lot number ≡ 0
-nothing_left s sound lot number none = left_nothing s.movements lot number (all_weaker _ _ (λ m named. ap (λ b. cond b m.amount 0) (nowhere s (comes_from m.kind m.lot m.sub) lot number none named.1)) s.movements sound.named)
+nothing_left s sound lot number none = left_nothing s.movements lot number (all_weaker _ _ (λ m named. ap (λ b. cond b m.amount 0) (nowhere s (comes_from m.kind m.lot m.sub) lot number none named.1)) s.movements sound.stock.named)
 
 -- a lot that isn't there has no sublot
 pub no_place : (s : State) → DecisionInvariant s → (lot : List ℕ) (number : ℕ) → is_some (lot_at s lot) ≡ false → place_at s lot number ≡ None
@@ -58,7 +58,7 @@ no_place s sound lot number none = elim (place_at s lot number) as (λ o. place_
   | None ↦ λ e. refl
   | Some p ↦ λ e.
       let keys = same_key p.lot lot p.number number (found_passes _ s.places p e) in
-      let housed = found_keeps (λ (p : Place). is_some (lot_at s p.lot) ≡ true) _ s.places p sound.housed e in
+      let housed = found_keeps (λ (p : Place). is_some (lot_at s p.lot) ≡ true) _ s.places p sound.stock.housed e in
       absurd (false≢true (sym none ∙ ap (λ l. is_some (lot_at s l)) (sym keys.0) ∙ housed))
 ] refl
 
@@ -93,7 +93,7 @@ pub not_among : (s : State) → DecisionInvariant s → (lot : List ℕ) (number
 not_among s sound lot number amount none = all_weaker _ _ (λ (q : Place) known. elim (same lot q.lot && number == q.number) as (λ b. (same lot q.lot && number == q.number) ≡ b → cond b amount 0 ≡ 0) [
   | true ↦ λ e. absurd (false≢true (sym none ∙ ap (λ l. is_some (lot_at s l)) (same_key lot q.lot number q.number e).0 ∙ known))
   | false ↦ λ e. refl
-] refl) s.places sound.housed
+] refl) s.places sound.stock.housed
 
 -- a lot that is there and one that isn't are two
 pub lots_apart : (s : State) (a b : List ℕ) → is_some (lot_at s a) ≡ true → is_some (lot_at s b) ≡ false → same a b ≡ false

@@ -53,9 +53,9 @@ conserved s sound def =
     let inner = λ (m : Movement). cond (is_inner m.kind && is_of s def m.lot) m.amount 0 in
     let births = λ (m : Movement). cond (is_birth m.kind && is_of s def m.lot) m.amount 0 in
     let ends = λ (m : Movement). cond (is_end m.kind && is_of s def m.lot) m.amount 0 in
-    let entered_all = total s sound (is_of s def) goes ms (all_weaker _ _ (λ m n. n.0) ms sound.named) in
-    let left_all = total s sound (is_of s def) comes ms (all_weaker _ _ (λ m n. n.1) ms sound.named) in
-    let ins = sums_add births inner (λ m. cond (of_place (is_of s def) (goes m)) m.amount 0) ms (all_weaker _ _ (λ m one. comes_in s def m.lot m.sub m.amount m.kind one) ms sound.one_material) in
+    let entered_all = total s sound (is_of s def) goes ms (all_weaker _ _ (λ m n. n.0) ms sound.stock.named) in
+    let left_all = total s sound (is_of s def) comes ms (all_weaker _ _ (λ m n. n.1) ms sound.stock.named) in
+    let ins = sums_add births inner (λ m. cond (of_place (is_of s def) (goes m)) m.amount 0) ms (all_weaker _ _ (λ m one. comes_in s def m.lot m.sub m.amount m.kind one) ms sound.stock.one_material) in
     let outs = sums_add ends inner (λ m. cond (of_place (is_of s def) (comes m)) m.amount 0) ms (all_of _ (λ m. goes_out s def m.lot m.sub m.amount m.kind) ms) in
-    let represents = sums_add (λ q. cond (is_of s def q.lot) (sublot_standing s q.lot q.number) 0) (λ q. cond (is_of s def q.lot) (left ms q.lot q.number) 0) (λ q. cond (is_of s def q.lot) (entered ms q.lot q.number) 0) s.places (all_of _ (λ q. chosen_add (is_of s def q.lot) _ _ _ (omega (arith, sound.covered q.lot q.number))) s.places) in
+    let represents = sums_add (λ q. cond (is_of s def q.lot) (sublot_standing s q.lot q.number) 0) (λ q. cond (is_of s def q.lot) (left ms q.lot q.number) 0) (λ q. cond (is_of s def q.lot) (entered ms q.lot q.number) 0) s.places (all_of _ (λ q. chosen_add (is_of s def q.lot) _ _ _ (omega (arith, sound.stock.covered q.lot q.number))) s.places) in
     omega (arith, entered_all, left_all, ins, outs, represents)

@@ -76,7 +76,7 @@ module _ (s : State) (sound : DecisionInvariant s) (mine : List ℕ → Bool) wh
       let p : Place = record { lot = k.0; number = k.1; place = [] } in
       let found = sym (λ i. is_some (find (λ q. test_tie p q i) s.places)) ∙ there in
       (λ i. sum_by (λ q. cond (mine q.lot) (cond (same_key_tie p q i) a 0) 0) s.places)
-      ∙ once (λ q. mine q.lot) (mine k.0) a p (λ q e. ap mine (sym (same_key k.0 q.lot k.1 q.number (same_key_tie p q ∙ e)).0)) s.places sound.places found
+      ∙ once (λ q. mine q.lot) (mine k.0) a p (λ q e. ap mine (sym (same_key k.0 q.lot k.1 q.number (same_key_tie p q ∙ e)).0)) s.places sound.stock.places found
 
   module _ (to : Movement → Option (List ℕ × ℕ)) where
     -- what all movements bring to the sublots of these lots

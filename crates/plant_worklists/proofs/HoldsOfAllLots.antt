@@ -30,5 +30,5 @@ after_place place h =
 
 pub all_merged : (s : State) (place : HoldCursor) → DecisionInvariant s → sorted_merge hold_order true (holds_on s place.lot (Some place.hold)) (holds_after s (Some place.lot)) ≡ all_holds s (Some place)
 all_merged s place sound =
-    merged_filters hold_order hold_order_total (is_hold_on place.lot (Some place.hold)) (λ h. is_after (Some place.lot) h.lot) s.holds sound.holds
+    merged_filters hold_order hold_order_total (is_hold_on place.lot (Some place.hold)) (λ h. is_after (Some place.lot) h.lot) s.holds sound.bars.holds
     ∙ (λ i. filter (λ h. after_place place h i) s.holds)

@@ -46,13 +46,13 @@ less_itself : Less ≡ Greater → ⊥
 less_itself e = absurd cc
 
 pub lots_rise : (s : State) (test : Lot → Bool) → DecisionInvariant s → Rise (λ (l : Lot). l.id) (filter test s.lots)
-lots_rise s test sound = rise lot_order (λ (l : Lot). l.id) (λ a b e. not_behind a.id b.id Less e less_itself) (filter test s.lots) (IsStrictlySortedBy-filter lot_order test s.lots sound.lots)
+lots_rise s test sound = rise lot_order (λ (l : Lot). l.id) (λ a b e. not_behind a.id b.id Less e less_itself) (filter test s.lots) (IsStrictlySortedBy-filter lot_order test s.lots sound.stock.lots)
 
 pub holds_rise : (s : State) (test : Hold → Bool) → DecisionInvariant s → Rise (λ (h : Hold). h.lot) (filter test s.holds)
-holds_rise s test sound = rise hold_order (λ (h : Hold). h.lot) (λ a b e. by_first a.lot b.lot (id_cmp a.id b.id) e) (filter test s.holds) (IsStrictlySortedBy-filter hold_order test s.holds sound.holds)
+holds_rise s test sound = rise hold_order (λ (h : Hold). h.lot) (λ a b e. by_first a.lot b.lot (id_cmp a.id b.id) e) (filter test s.holds) (IsStrictlySortedBy-filter hold_order test s.holds sound.bars.holds)
 
 -- places with their stock keep their order
 pub sublots_rise : (s : State) (test : Sublot → Bool) → DecisionInvariant s → Rise (λ (r : Sublot). r.lot) (filter test (map (sublot_row s.movements) s.places))
 sublots_rise s test sound =
     let list = map (sublot_row s.movements) s.places in
-    rise sublot_order (λ (r : Sublot). r.lot) (λ a b e. by_first a.lot b.lot (nat_cmp a.number b.number) e) (filter test list) (IsStrictlySortedBy-filter sublot_order test list (map_sorted place_order sublot_order (sublot_row s.movements) (λ a b less. less) s.places sound.places))
+    rise sublot_order (λ (r : Sublot). r.lot) (λ a b e. by_first a.lot b.lot (nat_cmp a.number b.number) e) (filter test list) (IsStrictlySortedBy-filter sublot_order test list (map_sorted place_order sublot_order (sublot_row s.movements) (λ a b less. less) s.places sound.stock.places))

@@ -10,4 +10,4 @@ difference a b within =
     sym (+ℤ-neg_ℤ_cancel (pos (a - b)) (pos b)) ∙ ap (λ n. pos n -ℤ pos b) back
 
 pub returns : goal.returns
-returns c s sound p = difference (entered s.movements p.lot p.number) (left s.movements p.lot p.number) (sound.covered p.lot p.number)
+returns c s sound p = difference (entered s.movements p.lot p.number) (left s.movements p.lot p.number) (sound.stock.covered p.lot p.number)

@@ -15,7 +15,7 @@ returns c =
       same = λ h. refl;
       holds = λ h sound.
           let moved = c.deref-2.ensures.value in
-          let rows = rw moved at (c.in_ok-rows.ensures.stocks (rw moved (record { small = sound.small; covered = sound.covered }))) in
+          let rows = rw moved at (c.in_ok-rows.ensures.stocks (rw moved (record { small = sound.stock.small; covered = sound.stock.covered }))) in
           let found = rw c.deref.ensures.value at c.in_ok-places.ensures in
           let places = c.as_slice.ensures.value ∙ found in
           c.first_page.ensures ∙ ap page_of (rows ∙ ap (map (sublot_row lists.movements.items)) places) ∙ prefix_of_mapped (sublot_row lists.movements.items) (λ r. is_after cursor r.lot) (λ p. is_after cursor p.lot) (λ p. refl) lists.places.items;

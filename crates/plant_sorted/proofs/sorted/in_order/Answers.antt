@@ -1,5 +1,4 @@
-use Rattle.std.proofs.Common.{rules, ◌≡◌, ◌∙◌, ◌+◌, ◌++◌, ◌∷◌, [], length, length-append, sym, ap, subst, arith}
-use Rattle.plant_worklists.specs.Sorting.{in_order}
+use Rattle.std.proofs.Common.{rules, ◌≡◌, ◌∙◌, ◌+◌, ◌∷◌, [], length, length-append, sym, ap, arith}
 use Rattle.plant_sorted.proofs.PutFromEnd.{put_each, put_last, put_all}
 use Rattle.plant_sorted.proofs.sorted.in_order.Goals as goal
 

@@ -144,7 +144,7 @@ TOGETHER = [
 
 def calls(command):
     """The calls that show to a proof that the values of a command obey their rules."""
-    left = [it for it in obeying(command)]
+    left = obeying(command)
     if [it.kind.values for it in left] == ["is_id", "is_id"]:
         return [f"show_ids(&c.{left[0].name}, &c.{left[1].name})"]
     found = []

@@ -52,7 +52,9 @@ KINDS = {
     "id": Kind("Id", "is_id", ".as_str()", is_line="id_line c.@ %", shown="show_id(&c.@)"),
     "text": Kind("Text", "is_text", ".as_str()", is_line="text_line c.@ %", shown="show_text(&c.@)"),
     "unit": Kind("Unit", "is_unit", ".as_str()", is_line="unit_line c.@ %", shown="let _@ = c.@.as_bytes()"),
-    "amount": Kind("Amount", "is_amount", ".get()", "decimal c.@", "number_line c.@", read="number_in @", back="amount_back c.@ %"),
+    "amount": Kind(
+        "Amount", "is_amount", ".get()", "decimal c.@", "number_line c.@", read="number_in @", back="amount_back c.@ %", shown="let _@ = c.@.get()",
+    ),
     "sub": number("Number", 16, "show_number", "c.@ <= GREATEST_SUBLOT", "nat_le c.@ greatest_sublot", "short_back"),
     "version": number("Number", 16, "show_number", "is_version(c.@)", "is_version c.@", "short_back"),
     "phase": number("Small", 8, "show_phase", "is_phase_number(c.@)", "is_phase_number c.@", "byte_back"),

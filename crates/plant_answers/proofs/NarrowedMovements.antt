@@ -8,10 +8,10 @@ use Rattle.std.proofs.lemmas.List.Sums.{sum_by-cons}
 use Rattle.plant_base.specs.State.{State, same}
 use Rattle.plant_base.specs.declared.rows.Movement.{Movement}
 use Rattle.plant_base.specs.declared.rows.MovementKind.{MovementKind}
-use Rattle.plant_base.specs.declared.rows.MovementKind.TheVariants.{Received, Consumed, Produced, Scrapped, Divided, Split, Merged}
+use Rattle.plant_base.specs.declared.rows.MovementKind.TheVariants.{Consumed, Produced}
 use Rattle.plant_view.specs.Genealogy.{batch_by}
 use Rattle.plant_view.specs.Views.{is_named, is_scrap, movements_of, scraps_of}
-use Rattle.plant_answers.specs.BatchViews.{is_consumed_by, is_produced_by, consumption, production, booking_in, scrapping, scrapped_of}
+use Rattle.plant_answers.specs.BatchViews.{is_consumed_by, is_produced_by, consumption, production, booking_in, scrapped_of}
 
 -- ---- rows of which nothing is reported
 

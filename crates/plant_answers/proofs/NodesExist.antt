@@ -7,7 +7,7 @@ use Rattle.plant_base.specs.State.{State, same, definition_at, lot_at, place_at}
 use Rattle.plant_base.specs.declared.rows.Definition.{Definition}
 use Rattle.plant_base.specs.declared.rows.Lot.{Lot}
 use Rattle.plant_base.specs.declared.rows.MovementKind.{MovementKind}
-use Rattle.plant_base.specs.declared.rows.MovementKind.TheVariants.{Received, Consumed, Produced, Scrapped, Divided, Split, Merged}
+use Rattle.plant_base.specs.declared.rows.MovementKind.TheVariants.{Consumed, Produced, Split, Merged}
 use Rattle.plant_base.specs.declared.rows.Place.{Place}
 use Rattle.plant_base.specs.declared.refusal.Refusal.TheVariants.{UnknownLot}
 use Rattle.plant_base.proofs.FindIsFirst.{found_keeps, found_passes}

@@ -1,5 +1,5 @@
 -- The stock of a lot is no more than what one sublot may hold, as many times as a lot has sublots.
-use Rattle.std.proofs.Common.{◌≡◌, ◌∙◌, ℕ, ◌+◌, ◌*◌, ◌≤◌, ◌<◌, ◌^◌, true, false, cond, List, [], ◌∷◌, map, filter, sum_by, ⊎_elim, refl, sym, ap, arith, inl, inr}
+use Rattle.std.proofs.Common.{◌≡◌, ◌∙◌, ℕ, ◌+◌, ◌*◌, ◌≤◌, ◌<◌, ◌^◌, true, false, cond, List, [], ◌∷◌, filter, sum_by, refl, sym, ap, arith, inl, inr}
 use Rattle.std.specs.List.{AllByRecursion}
 use Rattle.std.specs.List.Sorted.{IsStrictlySortedBy}
 use Rattle.std.specs.Cmp.{nat_cmp_is}
@@ -11,10 +11,8 @@ use Rattle.plant_base.specs.Values.{greatest_amount, greatest_sublot}
 use Rattle.plant_base.specs.State.{State, same, id_cmp, place_order}
 use Rattle.plant_base.specs.declared.rows.Place.{Place}
 use Rattle.plant_base.specs.declared.rows.Sublot.{Sublot}
-use Rattle.plant_base.specs.declared.rows.Movement.{Movement}
 use Rattle.plant_base.proofs.KeyOrders.{same_id}
 use Rattle.plant_base.proofs.PutKeepsOrder.{all_weaker}
-use Rattle.plant_stock.specs.Stock.{entered}
 use Rattle.plant_view.specs.DecisionInvariant.{DecisionInvariant}
 use Rattle.plant_view.specs.Tables.{sublot_row, sublots_of}
 use Rattle.std.proofs.lemmas.Bool.{cases_order}

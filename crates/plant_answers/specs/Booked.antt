@@ -11,7 +11,7 @@ use Rattle.plant_base.specs.declared.rows.Movement.{Movement}
 use Rattle.plant_trace.specs.Nodes.{node_cmp, node_eq}
 use Rattle.plant_trace.specs.declared.node.Node.{Node}
 use Rattle.plant_trace.specs.declared.node.Node.TheVariants as node
-use Rattle.plant_view.specs.Genealogy.{edge_row_of, ends_of}
+use Rattle.plant_view.specs.Genealogy.{edge_row_of}
 use Rattle.plant_view.specs.Rows.{put_all}
 use Rattle.plant_view.specs.Views.{movements_of}
 use Rattle.plant_worklists.specs.Worklists.{movements_into}

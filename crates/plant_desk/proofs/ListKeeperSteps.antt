@@ -19,7 +19,6 @@ use Rattle.plant_desk.specs.Replies.{reply, reply_by, number_of}
 use Rattle.plant_messages.specs.declared.reply.Reply.{Reply}
 use Rattle.plant_messages.specs.declared.reply.Reply.TheVariants.{Accepted, Refused}
 use Rattle.plant_messages.specs.declared.reply.DeskFault.{DeskFault}
-use Rattle.plant_messages.specs.declared.reply.DeskFault.TheVariants.{Store, Memory, Shut}
 use Rattle.plant_rules.proofs.StepPreservesInvariant.{step_preserves_invariant}
 
 -- a state that is either the one before or the next is consistent

@@ -1,5 +1,5 @@
 -- What the columns of rows and of their parts keep.
-use Rattle.std.proofs.Common.{◌≡◌, refl, ap, ap₂, ◌∙◌, subst, ℕ, suc, ◌+◌, ◌≤◌, ℤ, List, true, ◌&&◌, nat_le, Some, arith}
+use Rattle.std.proofs.Common.{◌≡◌, refl, ap, ap₂, ◌∙◌, subst, ℕ, suc, ◌+◌, ◌≤◌, ℤ, List, true, nat_le, Some, arith}
 use Rattle.std.specs.Prelude.{option_and_then}
 use Rattle.std.proofs.lemmas.Bool.{and_from, and_parts}
 use Rattle.sqlite.specs.declared.types.Value.{Value}

@@ -1,6 +1,6 @@
 -- The values of a valid state's tables, and the order of their rows.
-use Rattle.std.proofs.Common.{◌≡◌, ◌∙◌, ℕ, ◌+◌, ◌≤◌, true, List, [], ◌∷◌, ◌++◌, Option, Some, None, is_some, map, length, refl, sym, ap, subst, arith}
-use Rattle.std.specs.Prelude.{Bool, false, if◌then◌else◌, option_map, IfSome, ◌&&◌, ◌==◌, ◌^◌, nat_le}
+use Rattle.std.proofs.Common.{◌≡◌, ◌∙◌, ℕ, ◌+◌, ◌≤◌, true, List, [], ◌∷◌, Option, Some, None, is_some, map, length, refl, sym, ap, subst, arith}
+use Rattle.std.specs.Prelude.{Bool, false, if◌then◌else◌, option_map, IfSome, ◌&&◌, ◌==◌, nat_le}
 use Rattle.std.specs.List.{AllByRecursion, filter_map, cons_option, flat_map}
 use Rattle.std.proofs.lemmas.Bool.{false≢true, le-leb, leb-true, eq-eqb, and_from}
 use Rattle.std.proofs.lemmas.List.{length-map}

@@ -18,7 +18,7 @@ use Rattle.plant_view.specs.declared.fault.ViewFault.TheVariants as view
 use Rattle.plant_tables_read.specs.declared.loaded.Loaded.{Loaded}
 use Rattle.plant_check.specs.declared.rule.Rule.TheVariants as rule
 use Rattle.plant_messages.specs.declared.reply.DeskFault.{DeskFault}
-use Rattle.plant_messages.specs.declared.reply.DeskFault.TheVariants.{Store, Memory, Shut}
+use Rattle.plant_messages.specs.declared.reply.DeskFault.TheVariants.{Store, Shut}
 use Rattle.plant_desk_store.specs.Faults.{desk_fault, looked_up, rows_to_test, rows_to_adopt, schema_found}
 use Rattle.plant_desk_store.specs.declared.adopting.AdoptFault.{AdoptFault}
 use Rattle.plant_desk_store.specs.declared.adopting.AdoptFault.TheVariants as fault

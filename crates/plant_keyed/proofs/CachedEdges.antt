@@ -1,5 +1,5 @@
 -- Edges as a direction sees them, in the order of their near ends: what is found by halves is what begins at the node.
-use Rattle.std.proofs.Common.{◌⊎◌, ◌≡◌, ◌∙◌, ℕ, ◌+◌, ◌-◌, ◌<◌, ◌≤◌, true, false, List, [], ◌∷◌, map, filter, drop, length, get_or, slice_range, Contains, IsPermutation, refl, sym, ap, subst, inl, inr, arith}
+use Rattle.std.proofs.Common.{◌≡◌, ◌∙◌, ℕ, ◌+◌, ◌-◌, ◌<◌, ◌≤◌, true, false, List, [], ◌∷◌, map, filter, drop, length, get_or, slice_range, Contains, IsPermutation, refl, sym, ap, subst, inl, inr, arith}
 use Rattle.std.specs.List.Sorted.{IsNonDecreasingBy, IsPartitionPoint, IsPartitionedBy}
 use Rattle.std.specs.Ordering.{is_le, is_lt, ordering_index}
 use Rattle.std.specs.declared.cmp.Ordering.{Ordering}

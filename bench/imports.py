@@ -22,7 +22,7 @@ ORDERS = 1000
 RECIPE = """\
 {"at":1,"by":"","do":"add_class","class":"RAW","name":""}
 {"at":1,"by":"","do":"add_definition","def":"DOUGH","class":"RAW","name":"","unit":"kg"}
-{"at":1,"by":"","do":"add_recipe","recipe":"CAKE","version":1,"product":"DOUGH","base":300,"min":100,"max":900,"title":"","lines":[{"kind":"out","def":"DOUGH","qty":300}]}
+{"at":1,"by":"","do":"add_recipe","recipe":"CAKE","version":1,"product":"DOUGH","base":300,"min":100,"max":900,"title":"","lines":[{"kind":"out","def":"DOUGH","qty":300},{"kind":"phase","unit":"MIX","oper":"BLEND","phase":"STIR"}]}
 {"at":1,"by":"","do":"approve","recipe":"CAKE","version":1}
 """
 

@@ -498,7 +498,7 @@ def in_collecting(tables, rows):
         return f"meta ← only_meta ({contents} 0)\n{steps}\nSome (record {{\n{fields}\n}})"
 
     return [
-        Region(path, "the types of rows", many(own, "use Rattle.plant_base.specs.declared.rows.$row.{$row}")),
+        Region(path, "the types of rows", f"use Rattle.plant_base.specs.{{{', '.join(sorted(it.row for it in own))}}}"),
         Region(path, "how a row is read", imports("plant_tables_columns.specs.TableColumns", rows, "${stored}_from", before=["only_meta"])),
         Region(path, "the rows of each table", "\n".join(["pub meta : Meta", many(rows, "pub $list : List $stored_row")])),
         Region(path, "all rows", read("contents_loaded x", rows)),
@@ -748,15 +748,13 @@ fn $one(&mut self, id: Id) -> Result<Option<$row>, AllocError> {
 VIEWED = """\
 /// The $one of this id.
 fn $one(&mut self, id: Id) -> Result<Option<$row>, Self::Fault>
-    ensures { HoldsIfHonest Self.honest Self.kept Self.frame self.old self.new
-        (IfOk result (λ r. r ≡ ${one}_at (state self.old) id)) };"""
+    ensures { ReadOnly Self.Edges self.old self.new (IfOk result (λ r. r ≡ ${one}_at (state self.old) id)) };"""
 
 LOOKED_UP_IN_VIEW = """\
 /// The $one of this id.
 /// `None` where there is none; `View` where the view failed.
 pub fn $one<V: View>(view: &mut V, id: Id) -> Result<Option<$row>, ViewFault<V::Fault>>
-    ensures { HoldsIfHonest V.honest V.kept V.frame view.old view.new
-        (IfOk result (λ r. r ≡ ${one}_at (V.state view.old) id)) }
+    ensures { ReadOnly V.Edges view.old view.new (IfOk result (λ r. r ≡ ${one}_at (V.state view.old) id)) }
 {
     view.$one(id).map_err(ViewFault::View)
 }"""

@@ -2,7 +2,7 @@
 use Rattle.std.proofs.Common.{◌≡◌, ℕ, List, Option, Some, None, Result, Ok, Err, subst}
 use Rattle.std.specs.Prelude.{IfSome, IfOk, IfErr}
 use Rattle.plant_base.specs.Inputs.{Agrees}
-use Rattle.plant_base.specs.declared.rows.OrderRow.{OrderRow}
+use Rattle.plant_base.specs.{OrderRow}
 use Rattle.plant_orders.specs.Orders.{orders_of}
 use Rattle.plant_orders.specs.FaultsOfFiles.{FaultOfFile}
 use Rattle.plant_orders.specs.declared.source.OrdersFault.{OrdersFault}

@@ -1,6 +1,6 @@
 -- The verdict on a line.
 use Rattle.std.specs.Prelude.{ℕ, ◌==◌, List, Bool, true, length, if◌then◌else◌, Option, Some, None, Result, Ok, Err}
-use Rattle.plant_base.specs.declared.command.Command.{Command}
+use Rattle.plant_base.specs.{Command}
 use Rattle.plant_message_schema.specs.declared.format_errors.FormatError.{FormatError}
 use Rattle.plant_message_schema.specs.FormatErrors.{format_error_is_reported}
 use Rattle.plant_text.specs.Lines.{line_says}

@@ -3,11 +3,8 @@ use Rattle.std.proofs.Common.{◌≡◌, ℕ, ◌≤◌, ◌<◌, ◌^◌, Bool,
 use Rattle.std.proofs.lemmas.List.Sums.{sum_by-le-sum_by}
 use Rattle.plant_base.specs.Edges.{edge_eq}
 use Rattle.plant_base.specs.State.{State, same}
-use Rattle.plant_base.specs.declared.rows.EdgeKind.{EdgeKind}
+use Rattle.plant_base.specs.{EdgeKind, EdgeRow, Movement, MovementKind}
 use Rattle.plant_base.specs.declared.rows.EdgeKind.TheVariants.{LotToBatch, BatchToLot, LotToLot}
-use Rattle.plant_base.specs.declared.rows.EdgeRow.{EdgeRow}
-use Rattle.plant_base.specs.declared.rows.Movement.{Movement}
-use Rattle.plant_base.specs.declared.rows.MovementKind.{MovementKind}
 use Rattle.plant_base.specs.declared.rows.MovementKind.TheVariants.{Consumed, Produced, Split, Merged}
 use Rattle.plant_base.proofs.KeyOrders.{same_itself}
 use Rattle.plant_base.proofs.PutKeepsOrder.{all_weaker}

@@ -3,7 +3,7 @@ use Rattle.std.proofs.Common.{◌≡◌, ◌∙◌, List, ℕ, Bool, true, false
 use Rattle.plant_base.proofs.FindIsFirst.{found_passes}
 use Rattle.plant_base.proofs.KeyOrders.{same_id}
 use Rattle.plant_base.specs.State.{State, definition_at, same}
-use Rattle.plant_base.specs.declared.rows.Definition.{Definition}
+use Rattle.plant_base.specs.{Definition}
 use Rattle.plant_answers.specs.KnownLots.{last_one}
 
 pub of_its_id : (s : State) (id : List ℕ) (found : Option Definition) → found ≡ definition_at s id → IfSome found (λ d. definition_at s d.id ≡ Some d)

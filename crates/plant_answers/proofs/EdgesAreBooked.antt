@@ -6,7 +6,7 @@ use Rattle.std.proofs.lemmas.List.Folds.{Any-from_list_any, list_any-from_Any}
 use Rattle.std.proofs.lemmas.List.Kept.{IsStrictlySortedBy-filter}
 use Rattle.plant_base.specs.Edges.{edge_order, edge_total}
 use Rattle.plant_base.specs.State.{State}
-use Rattle.plant_base.specs.declared.rows.EdgeRow.{EdgeRow}
+use Rattle.plant_base.specs.{EdgeRow}
 use Rattle.plant_base.proofs.EdgeIsItsKey.{one_edge}
 use Rattle.plant_trace.specs.Nodes.{node_eq}
 use Rattle.plant_trace.specs.declared.direction.Direction.{Direction}

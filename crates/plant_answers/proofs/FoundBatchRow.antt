@@ -1,8 +1,7 @@
 -- A row of a batch that was found.
 use Rattle.std.proofs.Common.{◌≡◌, ◌∙◌, Option, Some, None, option_map, sym, ap}
 use Rattle.plant_base.specs.State.{State}
-use Rattle.plant_base.specs.declared.rows.Batch.{Batch}
-use Rattle.plant_base.specs.declared.rows.BatchRow.{BatchRow}
+use Rattle.plant_base.specs.{Batch, BatchRow}
 use Rattle.plant_view.specs.Tables.{batch_row}
 use Rattle.plant_answers.specs.Answering.{IsRowOf}
 

@@ -5,7 +5,7 @@ use Rattle.std.specs.List.Sorted.{IsStrictlySortedBy}
 use Rattle.std.proofs.lemmas.Bool.Decides.{nat_tests}
 use Rattle.std.specs.declared.cmp.Ordering.TheVariants.{Less}
 use Rattle.plant_base.specs.State.{State, same, id_cmp, lot_at, put}
-use Rattle.plant_base.specs.declared.rows.Lot.{Lot}
+use Rattle.plant_base.specs.{Lot}
 use Rattle.plant_base.proofs.FindIsFirst.{found_passes}
 use Rattle.plant_base.proofs.KeyOrders.{same_id}
 use Rattle.plant_base.proofs.PutKeepsOrder.{sorted_put}

@@ -4,11 +4,8 @@ use Rattle.std.specs.Prelude.{⊤, ◌==◌, ◌&&◌, is_none, option_map}
 use Rattle.std.specs.List.{AllByRecursion, filter_map, cons_option}
 use Rattle.std.proofs.lemmas.Bool.{false≢true}
 use Rattle.plant_base.specs.State.{State, same, definition_at, lot_at, place_at}
-use Rattle.plant_base.specs.declared.rows.Definition.{Definition}
-use Rattle.plant_base.specs.declared.rows.Lot.{Lot}
-use Rattle.plant_base.specs.declared.rows.MovementKind.{MovementKind}
+use Rattle.plant_base.specs.{Definition, Lot, MovementKind, Place}
 use Rattle.plant_base.specs.declared.rows.MovementKind.TheVariants.{Consumed, Produced, Split, Merged}
-use Rattle.plant_base.specs.declared.rows.Place.{Place}
 use Rattle.plant_base.specs.declared.refusal.Refusal.TheVariants.{UnknownLot}
 use Rattle.plant_base.proofs.FindIsFirst.{found_keeps, found_passes}
 use Rattle.plant_base.proofs.KeyOrders.{same_id, same_key}

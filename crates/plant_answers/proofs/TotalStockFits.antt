@@ -9,8 +9,7 @@ use Rattle.std.proofs.lemmas.Cmp.{tied_itself, nat_list_cmp_total}
 use Rattle.std.proofs.lemmas.List.Sums.{sum_by-cons}
 use Rattle.plant_base.specs.Values.{greatest_amount, greatest_sublot}
 use Rattle.plant_base.specs.State.{State, same, id_cmp, place_order}
-use Rattle.plant_base.specs.declared.rows.Place.{Place}
-use Rattle.plant_base.specs.declared.rows.Sublot.{Sublot}
+use Rattle.plant_base.specs.{Place, Sublot}
 use Rattle.plant_base.proofs.KeyOrders.{same_id}
 use Rattle.plant_base.proofs.PutKeepsOrder.{all_weaker}
 use Rattle.plant_view.specs.DecisionInvariant.{DecisionInvariant}

@@ -5,11 +5,7 @@ use Rattle.std.specs.declared.cmp.Ordering.{Ordering}
 use Rattle.plant_base.specs.Edges.{edge_order}
 use Rattle.plant_base.specs.Recalls.{is_open, mark_order}
 use Rattle.plant_base.specs.State.{State, newest_schema, id_cmp, lot_at, recall_at}
-use Rattle.plant_base.specs.declared.rows.Lot.{Lot}
-use Rattle.plant_base.specs.declared.rows.Mark.{Mark}
-use Rattle.plant_base.specs.declared.rows.Movement.{Movement}
-use Rattle.plant_base.specs.declared.rows.Place.{Place}
-use Rattle.plant_base.specs.declared.rows.Recall.{Recall}
+use Rattle.plant_base.specs.{Lot, Mark, Movement, Place, Recall}
 use Rattle.plant_stock.specs.Stock.{stock}
 use Rattle.plant_trace.specs.Reach.{IsReached, Lists}
 use Rattle.plant_trace.specs.Recalls.{IsRecalled}

@@ -2,7 +2,7 @@
 use Rattle.std.specs.Prelude.{◌≡◌, ℕ, List, map}
 use Rattle.std.specs.List.{filter_map}
 use Rattle.plant_base.specs.State.{State, control_lines_of}
-use Rattle.plant_base.specs.declared.rows.BatchRow.{BatchRow}
+use Rattle.plant_base.specs.{BatchRow}
 use Rattle.plant_view.specs.Tables.{batch_row}
 use Rattle.plant_view.specs.Views.{events_of}
 use Rattle.plant_answers.specs.BatchViews.{measured_line, consumption, production}

@@ -3,8 +3,7 @@ use Rattle.std.specs.Prelude.{ℕ, ◌-◌, ◌^◌, min, List, Option, Some, No
 use Rattle.std.specs.List.{filter_map}
 use Rattle.plant_base.specs.State.{State, control_lines_of}
 use Rattle.plant_base.specs.declared.refusal.Refusal.TheVariants.{UnknownBatch}
-use Rattle.plant_base.specs.declared.rows.Batch.{Batch}
-use Rattle.plant_base.specs.declared.rows.RecipeLine.{RecipeLine}
+use Rattle.plant_base.specs.{Batch, RecipeLine}
 use Rattle.plant_base.specs.declared.rows.RecipeLine.TheVariants.{In, Out, Parameter, Phase}
 use Rattle.plant_answers.specs.BatchViews.{consumption, measured_line, production}
 use Rattle.plant_messages.specs.Booked.{booked_of}

@@ -4,10 +4,8 @@ use Rattle.std.specs.List.{filter_map, flat_map, list_any}
 use Rattle.std.specs.BTreeSet.{BTreeSet, contains}
 use Rattle.plant_base.specs.Edges.{edge_eq, edge_order}
 use Rattle.plant_base.specs.State.{State}
-use Rattle.plant_base.specs.declared.rows.EdgeKind.{EdgeKind}
+use Rattle.plant_base.specs.{EdgeKind, EdgeRow, Movement}
 use Rattle.plant_base.specs.declared.rows.EdgeKind.TheVariants as edge
-use Rattle.plant_base.specs.declared.rows.EdgeRow.{EdgeRow}
-use Rattle.plant_base.specs.declared.rows.Movement.{Movement}
 use Rattle.plant_trace.specs.Nodes.{node_cmp, node_eq}
 use Rattle.plant_trace.specs.declared.node.Node.{Node}
 use Rattle.plant_trace.specs.declared.node.Node.TheVariants as node

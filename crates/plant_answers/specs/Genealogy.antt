@@ -3,11 +3,7 @@ use Rattle.std.specs.Prelude.{ℕ, Bool, false, ◌&&◌, if◌then◌else◌, L
 use Rattle.std.specs.List.{filter_map, list_any}
 use Rattle.plant_base.specs.Edges.{edge_eq}
 use Rattle.plant_base.specs.State.{State, definition_at, lot_at}
-use Rattle.plant_base.specs.declared.refusal.Refusal.{Refusal}
-use Rattle.plant_base.specs.declared.rows.Definition.{Definition}
-use Rattle.plant_base.specs.declared.rows.EdgeRow.{EdgeRow}
-use Rattle.plant_base.specs.declared.rows.Lot.{Lot}
-use Rattle.plant_base.specs.declared.rows.Movement.{Movement}
+use Rattle.plant_base.specs.{Definition, EdgeRow, Lot, Movement, Refusal}
 use Rattle.plant_trace.specs.Nodes.{node_eq}
 use Rattle.plant_trace.specs.declared.direction.Direction.{Direction}
 use Rattle.plant_trace.specs.declared.node.Node.{Node}

@@ -2,9 +2,7 @@
 use Rattle.std.specs.Prelude.{Option, Some, None, map}
 use Rattle.plant_base.specs.State.{State, master_lines_of}
 use Rattle.plant_base.specs.declared.refusal.Refusal.TheVariants.{UnknownDefinition, UnknownRecipe}
-use Rattle.plant_base.specs.declared.rows.Definition.{Definition}
-use Rattle.plant_base.specs.declared.rows.MasterLine.{MasterLine}
-use Rattle.plant_base.specs.declared.rows.Recipe.{Recipe}
+use Rattle.plant_base.specs.{Definition, MasterLine, Recipe}
 use Rattle.plant_answers.specs.BatchViews.{material_of, unit_among}
 use Rattle.plant_messages.specs.declared.question.Answer.{Answer}
 use Rattle.plant_messages.specs.declared.question.Answer.TheVariants as A

@@ -3,14 +3,7 @@ use Rattle.std.specs.Prelude.{ℕ, ◌-◌, true, false, List, Option, Some, Non
 use Rattle.std.specs.List.{filter_map}
 use Rattle.plant_base.specs.State.{State, class_at, control_lines_of, definition_at, lot_at}
 use Rattle.plant_base.specs.declared.refusal.Refusal.TheVariants.{UnknownClass, UnknownDefinition, UnknownLot}
-use Rattle.plant_base.specs.declared.rows.BatchRow.{BatchRow}
-use Rattle.plant_base.specs.declared.rows.Class.{Class}
-use Rattle.plant_base.specs.declared.rows.Definition.{Definition}
-use Rattle.plant_base.specs.declared.rows.Lot.{Lot}
-use Rattle.plant_base.specs.declared.rows.RecipeLine.{RecipeLine}
-use Rattle.plant_base.specs.declared.rows.Receipt.{Receipt}
-use Rattle.plant_base.specs.declared.states.JobState.{JobState}
-use Rattle.plant_base.specs.declared.states.RecipeState.{RecipeState}
+use Rattle.plant_base.specs.{BatchRow, Class, Definition, JobState, Lot, Receipt, RecipeLine, RecipeState}
 use Rattle.plant_base.specs.declared.rows.RecipeLine.TheVariants.{In, Out, Parameter, Phase}
 use Rattle.plant_view.specs.Recalls.{is_blocked}
 use Rattle.plant_worklists.specs.Pages.{page_of}

@@ -1,7 +1,7 @@
 // What a question is answered, over any view of the state.
 ghost use Rattle.std.specs.Prelude.{◌≡◌, ℕ, List, IfOk};
 ghost use Rattle.plant_base.specs.State.{State, newest_schema, job_at, batch_of};
-ghost use Rattle.plant_trace.specs.HoldsIfHonest.{HoldsIfHonest};
+ghost use Rattle.plant_trace.specs.ReadOnly.{ReadOnly};
 ghost use Rattle.plant_view.specs.DecisionInvariant.{DecisionInvariant};
 ghost use Rattle.plant_answers.specs.Answers.{answer, answer_order};
 ghost use Rattle.plant_messages.specs.declared.question.Answer.TheVariants as A;
@@ -34,7 +34,7 @@ pub fn answer<V: Worklists>(
     view: &mut V,
     question: &Question,
 ) -> Result<Answer, ViewFault<V::Fault>>
-    ensures { HoldsIfHonest V.honest V.kept V.frame view.old view.new
+    ensures { ReadOnly V.Edges view.old view.new
         (DecisionInvariant (V.state view.old)
         → IfOk result (λ a. a ≡ answer newest_schema (V.state view.old) question.now)) }
 {
@@ -61,7 +61,7 @@ pub fn answer<V: Worklists>(
 }
 
 fn desk_answer<V: View>(view: &mut V) -> Result<Answer, ViewFault<V::Fault>>
-    ensures { HoldsIfHonest V.honest V.kept V.frame view.old view.new
+    ensures { ReadOnly V.Edges view.old view.new
         (IfOk result (λ a. a ≡ A.Desk newest_schema (V.state view.old).seq)) }
 {
     let position = lookup::position(view)?;
@@ -72,15 +72,14 @@ fn desk_answer<V: View>(view: &mut V) -> Result<Answer, ViewFault<V::Fault>>
 }
 
 fn moment_answer<V: View>(view: &mut V) -> Result<Answer, ViewFault<V::Fault>>
-    ensures { HoldsIfHonest V.honest V.kept V.frame view.old view.new
-        (IfOk result (λ a. a ≡ A.Moment (V.state view.old).at)) }
+    ensures { ReadOnly V.Edges view.old view.new (IfOk result (λ a. a ≡ A.Moment (V.state view.old).at)) }
 {
     let position = lookup::position(view)?;
     Ok(Answer::Moment { at: position.at })
 }
 
 fn order_answer<V: View>(view: &mut V, order: Id) -> Result<Answer, ViewFault<V::Fault>>
-    ensures { HoldsIfHonest V.honest V.kept V.frame view.old view.new
+    ensures { ReadOnly V.Edges view.old view.new
         (IfOk result (λ a. a ≡ answer_order (V.state view.old) order
         (job_at (V.state view.old) order))) }
 {

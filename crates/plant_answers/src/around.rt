@@ -2,7 +2,7 @@
 ghost use Rattle.std.specs.Prelude.{◌≡◌, ◌<◌, IfOk, vec_len, vec_capacity};
 ghost use Rattle.plant_base.specs.State.{put};
 ghost use Rattle.plant_trace.specs.Nodes.{node_cmp};
-ghost use Rattle.plant_trace.specs.HoldsIfHonest.{HoldsIfHonest};
+ghost use Rattle.plant_trace.specs.ReadOnly.{ReadOnly};
 ghost use Rattle.plant_answers.specs.Surroundings.{nodes_around};
 
 use crate::traces::trace;
@@ -18,7 +18,7 @@ pub(crate) fn nodes_around<V: View>(
     direction: Direction,
     start: Node,
 ) -> Result<Vec<Node>, ViewFault<V::Fault>>
-    ensures { HoldsIfHonest V.honest V.kept V.frame view.old view.new
+    ensures { ReadOnly V.Edges view.old view.new
         (IfOk result (λ nodes. nodes.items ≡ nodes_around (V.state view.old) direction start)) }
 {
     let mut nodes = trace(alloc, view, direction, start)?;

@@ -1,7 +1,7 @@
 // What is answered of a batch.
 ghost use Rattle.std.specs.Prelude.{◌≡◌, IfOk, map};
 ghost use Rattle.plant_base.specs.State.{State, batch_at, job_at, recipe_at, control_lines_of};
-ghost use Rattle.plant_trace.specs.HoldsIfHonest.{HoldsIfHonest};
+ghost use Rattle.plant_trace.specs.ReadOnly.{ReadOnly};
 ghost use Rattle.plant_view.specs.DecisionInvariant.{DecisionInvariant};
 ghost use Rattle.plant_view.specs.Tables.{progress_at};
 ghost use Rattle.plant_answers.specs.Answering.{IsRowOf, IsFoundOf};
@@ -23,7 +23,7 @@ pub(crate) fn batch_answer<V: View>(
     view: &mut V,
     id: Id,
 ) -> Result<Answer, ViewFault<V::Fault>>
-    ensures { HoldsIfHonest V.honest V.kept V.frame view.old view.new
+    ensures { ReadOnly V.Edges view.old view.new
         (DecisionInvariant (V.state view.old)
         → IfOk result (λ a. a ≡ answer_batch (V.state view.old) (batch_at (V.state view.old) id))) }
 {
@@ -38,7 +38,7 @@ fn planned_answer<V: View>(
     view: &mut V,
     row: &BatchRow,
 ) -> Result<Answer, ViewFault<V::Fault>>
-    ensures { HoldsIfHonest V.honest V.kept V.frame view.old view.new
+    ensures { ReadOnly V.Edges view.old view.new
         (IsRowOf (V.state view.old) row.now → IfOk result (λ a. a
         ≡ answer_planned (V.state view.old) row.now.batch
         (job_at (V.state view.old) row.now.batch.job))) }
@@ -55,7 +55,7 @@ fn headed_answer<V: View>(
     row: &BatchRow,
     job: Job,
 ) -> Result<Answer, ViewFault<V::Fault>>
-    ensures { HoldsIfHonest V.honest V.kept V.frame view.old view.new
+    ensures { ReadOnly V.Edges view.old view.new
         (IsRowOf (V.state view.old) row.now → IfOk result (λ a. a
         ≡ answer_headed (V.state view.old) row.now.batch job
         (recipe_at (V.state view.old) job.order.recipe job.order.version))) }
@@ -75,7 +75,7 @@ fn batch_view<V: View>(
     job: Job,
     header: Header,
 ) -> Result<BatchView, ViewFault<V::Fault>>
-    ensures { HoldsIfHonest V.honest V.kept V.frame view.old view.new
+    ensures { ReadOnly V.Edges view.old view.new
         (IsRowOf (V.state view.old) row.now
         → IfOk result (λ v. v ≡ batch_view (V.state view.old) row.now.batch job header)) }
 {
@@ -96,8 +96,7 @@ fn found_batch<V: View>(
     view: &mut V,
     batch: Id,
 ) -> Result<FoundBatch, ViewFault<V::Fault>>
-    ensures { HoldsIfHonest V.honest V.kept V.frame view.old view.new
-        (IfOk result (IsFoundOf (V.state view.old) batch)) }
+    ensures { ReadOnly V.Edges view.old view.new (IfOk result (IsFoundOf (V.state view.old) batch)) }
 {
     let lines = measured_lines(alloc, view, batch)?;
     let events = lookup::events(view, batch)?;
@@ -145,7 +144,7 @@ pub(crate) fn measured_lines<V: View>(
     view: &mut V,
     batch: Id,
 ) -> Result<Vec<MeasuredLine>, ViewFault<V::Fault>>
-    ensures { HoldsIfHonest V.honest V.kept V.frame view.old view.new
+    ensures { ReadOnly V.Edges view.old view.new
         (IfOk result (λ v. v.items ≡ map (measured_line (V.state view.old).definitions)
         (control_lines_of (V.state view.old) batch))) }
 {
@@ -159,7 +158,7 @@ fn lines_with_units<V: View>(
     view: &mut V,
     lines: &[ControlLine],
 ) -> Result<Vec<MeasuredLine>, ViewFault<V::Fault>>
-    ensures { HoldsIfHonest V.honest V.kept V.frame view.old view.new
+    ensures { ReadOnly V.Edges view.old view.new
         (IfOk result (λ v. v.items ≡ map (measured_line (V.state view.old).definitions) lines.now)) }
 {
     let mut rows = Vec::new(alloc);
@@ -176,7 +175,7 @@ fn measured_line<V: View>(
     view: &mut V,
     line: &ControlLine,
 ) -> Result<MeasuredLine, ViewFault<V::Fault>>
-    ensures { HoldsIfHonest V.honest V.kept V.frame view.old view.new
+    ensures { ReadOnly V.Edges view.old view.new
         (IfOk result (λ row. row ≡ measured_line (V.state view.old).definitions line.now)) }
 {
     let unit = unit_among(view, material_of(line.line))?;
@@ -187,7 +186,7 @@ pub(crate) fn unit_among<V: View>(
     view: &mut V,
     def: Option<Id>,
 ) -> Result<Option<Unit>, ViewFault<V::Fault>>
-    ensures { HoldsIfHonest V.honest V.kept V.frame view.old view.new
+    ensures { ReadOnly V.Edges view.old view.new
         (IfOk result (λ unit. unit ≡ unit_among (V.state view.old).definitions def)) }
 {
     match def {

@@ -1,7 +1,7 @@
 // What is answered of the lines of a batch.
 ghost use Rattle.std.specs.Prelude.{◌≡◌, IfOk, map, ℕ, List};
 ghost use Rattle.plant_base.specs.State.{State, batch_at, control_lines_of};
-ghost use Rattle.plant_trace.specs.HoldsIfHonest.{HoldsIfHonest};
+ghost use Rattle.plant_trace.specs.ReadOnly.{ReadOnly};
 ghost use Rattle.plant_view.specs.DecisionInvariant.{DecisionInvariant};
 ghost use Rattle.plant_messages.specs.Booked.{booked_of};
 ghost use Rattle.plant_answers.specs.Answering.{AreBookingsOf};
@@ -21,7 +21,7 @@ pub(crate) fn batch_lines_answer<V: View>(
     view: &mut V,
     id: Id,
 ) -> Result<Answer, ViewFault<V::Fault>>
-    ensures { HoldsIfHonest V.honest V.kept V.frame view.old view.new
+    ensures { ReadOnly V.Edges view.old view.new
         (DecisionInvariant (V.state view.old)
         → IfOk result (λ a. a ≡ answer_batch_lines (V.state view.old) (batch_at (V.state view.old) id))) }
 {
@@ -36,8 +36,7 @@ fn batch_lines<V: View>(
     view: &mut V,
     batch: Id,
 ) -> Result<BatchLines, ViewFault<V::Fault>>
-    ensures { HoldsIfHonest V.honest V.kept V.frame view.old view.new
-        (IfOk result (λ a. a ≡ batch_lines (V.state view.old) batch)) }
+    ensures { ReadOnly V.Edges view.old view.new (IfOk result (λ a. a ≡ batch_lines (V.state view.old) batch)) }
 {
     let lines = booked_lines(alloc, view, batch)?;
     Ok(BatchLines {
@@ -51,7 +50,7 @@ fn booked_lines<V: View>(
     view: &mut V,
     batch: Id,
 ) -> Result<Vec<BookedLine>, ViewFault<V::Fault>>
-    ensures { HoldsIfHonest V.honest V.kept V.frame view.old view.new
+    ensures { ReadOnly V.Edges view.old view.new
         (IfOk result (λ v. v.items ≡ booked_lines (V.state view.old) batch)) }
 {
     let lines = measured_lines(alloc, view, batch)?;

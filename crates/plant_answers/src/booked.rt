@@ -5,7 +5,7 @@ ghost use Rattle.std.specs.List.{filter_map};
 ghost use Rattle.std.specs.List.Sorted.{IsStrictlySortedBy};
 ghost use Rattle.plant_base.specs.Edges.{edge_order};
 ghost use Rattle.plant_trace.specs.Nodes.{node_cmp};
-ghost use Rattle.plant_trace.specs.HoldsIfHonest.{HoldsIfHonest};
+ghost use Rattle.plant_trace.specs.ReadOnly.{ReadOnly};
 ghost use Rattle.plant_trace.specs.declared.node.Node.{Node};
 ghost use Rattle.plant_view.specs.DecisionInvariant.{DecisionInvariant};
 ghost use Rattle.plant_answers.specs.Booked.{Fits, IsSetOf, booked_at, bookings_around, movements_at, sum_with, summed, reported_at};
@@ -26,7 +26,7 @@ pub(crate) fn edges_between<V: Worklists>(
     view: &mut V,
     nodes: &[Node],
 ) -> Result<Vec<BookedEdge>, ViewFault<V::Fault>>
-    ensures { HoldsIfHonest V.honest V.kept V.frame view.old view.new
+    ensures { ReadOnly V.Edges view.old view.new
         (DecisionInvariant (V.state view.old) → IsStrictlySortedBy node_cmp nodes.now
         → IfOk result (λ v. v.items ≡ edges_between (V.state view.old).movements nodes.now)) }
 {
@@ -45,7 +45,7 @@ fn bookings_around<V: Worklists>(
     view: &mut V,
     nodes: &[Node],
 ) -> Result<Vec<BookedEdge>, ViewFault<V::Fault>>
-    ensures { HoldsIfHonest V.honest V.kept V.frame view.old view.new
+    ensures { ReadOnly V.Edges view.old view.new
         (IfOk result (λ v. v.items ≡ bookings_around (V.state view.old).movements nodes.now)) }
 {
     let Ok(among) = set_of(alloc, nodes) else {
@@ -77,8 +77,7 @@ fn movements_at<V: Worklists>(
     view: &mut V,
     node: Node,
 ) -> Result<Vec<Movement>, ViewFault<V::Fault>>
-    ensures { HoldsIfHonest V.honest V.kept V.frame view.old view.new
-        (IfOk result (λ v. v.items ≡ movements_at (V.state view.old) node)) }
+    ensures { ReadOnly V.Edges view.old view.new (IfOk result (λ v. v.items ≡ movements_at (V.state view.old) node)) }
 {
     match node {
         Node::Lot(id) => movements_into(view, id),

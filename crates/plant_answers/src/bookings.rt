@@ -1,7 +1,7 @@
 // What a batch took and brought.
 ghost use Rattle.std.specs.Prelude.{◌≡◌, ◌++◌, IfOk, OnOk, option_to_list, sum_by};
 ghost use Rattle.std.specs.List.{filter_map};
-ghost use Rattle.plant_trace.specs.HoldsIfHonest.{HoldsIfHonest};
+ghost use Rattle.plant_trace.specs.ReadOnly.{ReadOnly};
 ghost use Rattle.plant_answers.specs.Answering.{AreBookingsOf};
 ghost use Rattle.plant_answers.specs.BatchViews.{is_consumed_by, is_produced_by, scrapped_of, booking};
 ghost use Rattle.plant_answers.specs.BatchViews.{definition_of, booking_in, consumption, production, booked_on};
@@ -31,8 +31,7 @@ pub(crate) fn bookings_of<V: View>(
     view: &mut V,
     batch: Id,
 ) -> Result<BatchBookings, ViewFault<V::Fault>>
-    ensures { HoldsIfHonest V.honest V.kept V.frame view.old view.new
-        (IfOk result (AreBookingsOf (V.state view.old) batch)) }
+    ensures { ReadOnly V.Edges view.old view.new (IfOk result (AreBookingsOf (V.state view.old) batch)) }
 {
     let movements = lookup::batch_movements(view, batch)?;
     let consumed = booked_by(alloc, view, Side::Consumed, batch, movements.as_slice())?;
@@ -48,7 +47,7 @@ fn booked_by<V: View>(
     batch: Id,
     movements: &[Movement],
 ) -> Result<Vec<Booking>, ViewFault<V::Fault>>
-    ensures { HoldsIfHonest V.honest V.kept V.frame view.old view.new
+    ensures { ReadOnly V.Edges view.old view.new
         (IfOk result (λ v. v.items
         ≡ filter_map (booked_on side (V.state view.old) batch) movements.now)) }
 {
@@ -78,7 +77,7 @@ fn booked_on<V: View>(
     batch: Id,
     movement: &Movement,
 ) -> Result<Option<Booking>, ViewFault<V::Fault>>
-    ensures { HoldsIfHonest V.honest V.kept V.frame view.old view.new
+    ensures { ReadOnly V.Edges view.old view.new
         (IfOk result (λ b. b ≡ booked_on side (V.state view.old) batch movement.now)) }
 {
     match side {
@@ -92,7 +91,7 @@ fn consumption<V: View>(
     batch: Id,
     movement: &Movement,
 ) -> Result<Option<Booking>, ViewFault<V::Fault>>
-    ensures { HoldsIfHonest V.honest V.kept V.frame view.old view.new
+    ensures { ReadOnly V.Edges view.old view.new
         (IfOk result (λ b. b ≡ consumption (V.state view.old) batch movement.now)) }
 {
     if !is_consumed_by(batch, movement.kind) {
@@ -106,7 +105,7 @@ fn production<V: View>(
     batch: Id,
     movement: &Movement,
 ) -> Result<Option<Booking>, ViewFault<V::Fault>>
-    ensures { HoldsIfHonest V.honest V.kept V.frame view.old view.new
+    ensures { ReadOnly V.Edges view.old view.new
         (IfOk result (λ b. b ≡ production (V.state view.old) batch movement.now)) }
 {
     if !is_produced_by(batch, movement.kind) {
@@ -118,7 +117,7 @@ fn production<V: View>(
 
 // What was scrapped of a lot, of all its sublots.
 fn scrapped_of<V: View>(view: &mut V, lot: Id) -> Result<u128, ViewFault<V::Fault>>
-    ensures { HoldsIfHonest V.honest V.kept V.frame view.old view.new
+    ensures { ReadOnly V.Edges view.old view.new
         (IfOk result (λ n. n ≡ scrapped_of (V.state view.old).movements lot)) }
 {
     let scraps = lookup::scraps(view, lot)?;
@@ -141,7 +140,7 @@ fn booking_in<V: View>(
     scrapped: u128,
     movement: &Movement,
 ) -> Result<Option<Booking>, ViewFault<V::Fault>>
-    ensures { HoldsIfHonest V.honest V.kept V.frame view.old view.new
+    ensures { ReadOnly V.Edges view.old view.new
         (IfOk result (λ b. b ≡ booking_in (V.state view.old) scrapped movement.now)) }
 {
     let lot = lookup::lot(view, movement.lot)?;
@@ -153,8 +152,7 @@ fn definition_of<V: View>(
     view: &mut V,
     lot: Option<Lot>,
 ) -> Result<Option<Definition>, ViewFault<V::Fault>>
-    ensures { HoldsIfHonest V.honest V.kept V.frame view.old view.new
-        (IfOk result (λ d. d ≡ definition_of (V.state view.old) lot)) }
+    ensures { ReadOnly V.Edges view.old view.new (IfOk result (λ d. d ≡ definition_of (V.state view.old) lot)) }
 {
     match lot {
         None => Ok(None),

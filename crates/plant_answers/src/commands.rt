@@ -1,7 +1,7 @@
 // What is answered of commands, from their receipts.
 ghost use Rattle.std.specs.Prelude.{◌≡◌, IfOk, map};
 ghost use Rattle.plant_base.specs.Values.{is_text, only};
-ghost use Rattle.plant_trace.specs.HoldsIfHonest.{HoldsIfHonest};
+ghost use Rattle.plant_trace.specs.ReadOnly.{ReadOnly};
 ghost use Rattle.plant_worklists.specs.Pages.{page_of};
 ghost use Rattle.plant_worklists.specs.Worklists.{receipts_by_number};
 ghost use Rattle.plant_answers.specs.CommandHeads.{behind, head_of, line_in, moment_in, word_in};
@@ -19,8 +19,7 @@ pub(crate) fn commands_answer<V: Worklists>(
     view: &mut V,
     cursor: Option<u64>,
 ) -> Result<Answer, ViewFault<V::Fault>>
-    ensures { HoldsIfHonest V.honest V.kept V.frame view.old view.new
-        (IfOk result (λ a. a ≡ answer_commands (V.state view.old) cursor)) }
+    ensures { ReadOnly V.Edges view.old view.new (IfOk result (λ a. a ≡ answer_commands (V.state view.old) cursor)) }
 {
     let page = receipts_after(view, cursor)?;
     match command_page(alloc, &page) {
@@ -33,7 +32,7 @@ fn receipts_after<V: Worklists>(
     view: &mut V,
     cursor: Option<u64>,
 ) -> Result<Page<Receipt>, ViewFault<V::Fault>>
-    ensures { HoldsIfHonest V.honest V.kept V.frame view.old view.new
+    ensures { ReadOnly V.Edges view.old view.new
         (IfOk result (λ page. page ≡ page_of (receipts_by_number (V.state view.old) cursor))) }
 {
     view.receipts_after(cursor).map_err(ViewFault::View)

@@ -1,7 +1,7 @@
 //! What is reported of each of many lots or nodes, one after the other.
 ghost use Rattle.std.specs.Prelude.{◌≡◌, IfOk, fold};
 ghost use Rattle.std.specs.List.{filter_map};
-ghost use Rattle.plant_trace.specs.HoldsIfHonest.{HoldsIfHonest};
+ghost use Rattle.plant_trace.specs.ReadOnly.{ReadOnly};
 ghost use Rattle.plant_view.specs.DecisionInvariant.{DecisionInvariant};
 ghost use Rattle.plant_answers.specs.KnownLots.{AreKnown};
 
@@ -15,7 +15,7 @@ use std::alloc::Global;
 pub(crate) trait RowOf<R>: Sized {
     ghost use Rattle.std.specs.Prelude.{◌≡◌, Option, IfOk};
     ghost use Rattle.plant_base.specs.State.{State};
-    ghost use Rattle.plant_trace.specs.HoldsIfHonest.{HoldsIfHonest};
+    ghost use Rattle.plant_trace.specs.ReadOnly.{ReadOnly};
     ghost use Rattle.plant_view.specs.DecisionInvariant.{DecisionInvariant};
     ghost use Rattle.plant_answers.specs.KnownLots.{AreKnown};
     ghost use Rattle.plant_answers.specs.declared.known_lots.KnownLots.{KnownLots};
@@ -33,7 +33,7 @@ pub(crate) trait RowOf<R>: Sized {
         view: &mut V,
         known: &mut KnownLots,
     ) -> Result<Option<R>, ViewFault<V::Fault>>
-        ensures { HoldsIfHonest V.honest V.kept V.frame view.old view.new
+        ensures { ReadOnly V.Edges view.old view.new
             (DecisionInvariant (V.state view.old) → AreKnown (V.state view.old) known.old
             → IfOk result (λ found. found ≡ reported (V.state view.old) self.now)
             × AreKnown (V.state view.old) known.new
@@ -46,7 +46,7 @@ pub(crate) fn each_row<R: Drop, T: RowOf<R>, V: Worklists>(
     view: &mut V,
     items: &[T],
 ) -> Result<Vec<R>, ViewFault<V::Fault>>
-    ensures { HoldsIfHonest V.honest V.kept V.frame view.old view.new
+    ensures { ReadOnly V.Edges view.old view.new
         (DecisionInvariant (V.state view.old)
         → IfOk result (λ v. v.items ≡ filter_map (T.reported (V.state view.old)) items.now)) }
 {
@@ -61,7 +61,7 @@ fn rows_of_each<R: Drop, T: RowOf<R>, V: Worklists>(
     known: &mut KnownLots,
     items: &[T],
 ) -> Result<Vec<R>, ViewFault<V::Fault>>
-    ensures { HoldsIfHonest V.honest V.kept V.frame view.old view.new
+    ensures { ReadOnly V.Edges view.old view.new
         (DecisionInvariant (V.state view.old) → AreKnown (V.state view.old) known.old
         → IfOk result (λ v. (v.items ≡ filter_map (T.reported (V.state view.old)) items.now)
         × (known.new ≡ fold (T.known_after (V.state view.old)) known.old items.now))) }

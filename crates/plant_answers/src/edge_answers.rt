@@ -1,8 +1,8 @@
 // What is answered of the genealogy around a lot or batch.
 ghost use Rattle.std.specs.Prelude.{◌≡◌, IfOk, option_map};
 ghost use Rattle.plant_base.specs.State.{State, definition_at};
-ghost use Rattle.plant_base.specs.declared.rows.Lot.{Lot};
-ghost use Rattle.plant_trace.specs.HoldsIfHonest.{HoldsIfHonest};
+ghost use Rattle.plant_base.specs.{Lot};
+ghost use Rattle.plant_trace.specs.ReadOnly.{ReadOnly};
 ghost use Rattle.plant_view.specs.Recalls.{is_blocked};
 ghost use Rattle.plant_view.specs.DecisionInvariant.{DecisionInvariant};
 ghost use Rattle.plant_answers.specs.Genealogy.{answer_edges, genealogy_around, lot_node, node_answer, node_if};
@@ -31,7 +31,7 @@ pub(crate) fn edges_answer<V: Worklists>(
     direction: Direction,
     start: Node,
 ) -> Result<Answer, ViewFault<V::Fault>>
-    ensures { HoldsIfHonest V.honest V.kept V.frame view.old view.new
+    ensures { ReadOnly V.Edges view.old view.new
         (DecisionInvariant (V.state view.old) → IfOk result (λ a. a ≡ answer_edges (V.state view.old) direction start
         (missing (V.state view.old) start))) }
 {
@@ -48,7 +48,7 @@ fn genealogy_answer<V: Worklists>(
     direction: Direction,
     start: &Node,
 ) -> Result<Answer, ViewFault<V::Fault>>
-    ensures { HoldsIfHonest V.honest V.kept V.frame view.old view.new
+    ensures { ReadOnly V.Edges view.old view.new
         (DecisionInvariant (V.state view.old)
         → IfOk result (λ a. a ≡ A.Edges (genealogy_around (V.state view.old) direction start.now))) }
 {
@@ -64,7 +64,7 @@ fn genealogy_around<V: Worklists>(
     direction: Direction,
     start: Node,
 ) -> Result<Genealogy, ViewFault<V::Fault>>
-    ensures { HoldsIfHonest V.honest V.kept V.frame view.old view.new
+    ensures { ReadOnly V.Edges view.old view.new
         (DecisionInvariant (V.state view.old)
         → IfOk result (λ g. g ≡ genealogy_around (V.state view.old) direction start)) }
 {
@@ -104,7 +104,7 @@ fn node_if<V: Worklists>(
     known: &mut KnownLots,
     lot: Option<Lot>,
 ) -> Result<Option<NodeAnswer>, ViewFault<V::Fault>>
-    ensures { HoldsIfHonest V.honest V.kept V.frame view.old view.new
+    ensures { ReadOnly V.Edges view.old view.new
         (DecisionInvariant (V.state view.old) → AreKnown (V.state view.old) known.old
         → IfOk result (λ found. found ≡ node_if (V.state view.old) lot)
         × AreKnown (V.state view.old) known.new
@@ -123,7 +123,7 @@ fn lot_node<V: Worklists>(
     known: &mut KnownLots,
     lot: &Lot,
 ) -> Result<Option<NodeAnswer>, ViewFault<V::Fault>>
-    ensures { HoldsIfHonest V.honest V.kept V.frame view.old view.new
+    ensures { ReadOnly V.Edges view.old view.new
         (DecisionInvariant (V.state view.old) → AreKnown (V.state view.old) known.old
         → IfOk result (λ found. found ≡ option_map (λ d. node.Lot (lot_node (V.state view.old) lot.now d))
         (definition_at (V.state view.old) lot.now.def))

@@ -1,7 +1,7 @@
 // What is known of many lots, which are asked for one after another by their ids.
 ghost use Rattle.std.specs.Prelude.{◌≡◌, IfOk, IsSome};
 ghost use Rattle.plant_base.specs.State.{State, definition_at, lot_at};
-ghost use Rattle.plant_trace.specs.HoldsIfHonest.{HoldsIfHonest};
+ghost use Rattle.plant_trace.specs.ReadOnly.{ReadOnly};
 ghost use Rattle.plant_view.specs.DecisionInvariant.{DecisionInvariant};
 ghost use Rattle.plant_answers.specs.KnownLots.{AreKnown, after_definition, after_lot, after_row, last_one, nothing_known};
 ghost use Rattle.plant_answers.specs.LotAnswers.{lot_answer};
@@ -46,7 +46,7 @@ pub(crate) fn known_row<V: Worklists>(
     known: &mut KnownLots,
     id: &Id,
 ) -> Result<Option<Lot>, ViewFault<V::Fault>>
-    ensures { HoldsIfHonest V.honest V.kept V.frame view.old view.new
+    ensures { ReadOnly V.Edges view.old view.new
         (DecisionInvariant (V.state view.old) → AreKnown (V.state view.old) known.old
         → IfOk result (λ found. found ≡ lot_at (V.state view.old) id.now)
         × AreKnown (V.state view.old) known.new
@@ -62,7 +62,7 @@ pub(crate) fn known_lot<V: Worklists>(
     known: &mut KnownLots,
     lot: &Lot,
 ) -> Result<LotAnswer, ViewFault<V::Fault>>
-    ensures { HoldsIfHonest V.honest V.kept V.frame view.old view.new
+    ensures { ReadOnly V.Edges view.old view.new
         (DecisionInvariant (V.state view.old) → AreKnown (V.state view.old) known.old
         → IfOk result (λ a. a ≡ lot_answer (V.state view.old) lot.now)
         × AreKnown (V.state view.old) known.new
@@ -79,7 +79,7 @@ pub(crate) fn known_definition<V: Worklists>(
     known: &mut KnownLots,
     id: Id,
 ) -> Result<Option<Definition>, ViewFault<V::Fault>>
-    ensures found { HoldsIfHonest V.honest V.kept V.frame view.old view.new
+    ensures found { ReadOnly V.Edges view.old view.new
         (AreKnown (V.state view.old) known.old
         → IfOk result (λ found. found ≡ definition_at (V.state view.old) id)
         × AreKnown (V.state view.old) known.new

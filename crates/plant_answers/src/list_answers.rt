@@ -1,7 +1,7 @@
 // What is answered of a worklist.
 ghost use Rattle.std.specs.Prelude.{◌≡◌, ℕ, true, false, List, Option, IfOk};
 ghost use Rattle.plant_base.specs.State.{State, class_at, lot_at};
-ghost use Rattle.plant_trace.specs.HoldsIfHonest.{HoldsIfHonest};
+ghost use Rattle.plant_trace.specs.ReadOnly.{ReadOnly};
 ghost use Rattle.plant_view.specs.DecisionInvariant.{DecisionInvariant};
 ghost use Rattle.plant_worklists.specs.Pages.{page_of};
 ghost use Rattle.plant_worklists.specs.Worklists.{orders_in, holds_on, recalls_in, classes_after, definitions_in, ledger_of};
@@ -27,7 +27,7 @@ pub(crate) fn list_answer<V: Worklists>(
     list: Worklist,
     cursor: Option<Id>,
 ) -> Result<Answer, ViewFault<V::Fault>>
-    ensures { HoldsIfHonest V.honest V.kept V.frame view.old view.new
+    ensures { ReadOnly V.Edges view.old view.new
         (DecisionInvariant (V.state view.old)
         → IfOk result (λ a. a ≡ answer_list (V.state view.old) list cursor)) }
 {
@@ -49,7 +49,7 @@ fn orders_answer<V: Worklists>(
     state: JobState,
     cursor: Option<Id>,
 ) -> Result<Answer, ViewFault<V::Fault>>
-    ensures { HoldsIfHonest V.honest V.kept V.frame view.old view.new
+    ensures { ReadOnly V.Edges view.old view.new
         (IfOk result (λ a. a
         ≡ A.List (listed.Orders (page_of (orders_in (V.state view.old) state cursor))))) }
 {
@@ -61,7 +61,7 @@ fn recalls_answer<V: Worklists>(
     view: &mut V,
     cursor: Option<Id>,
 ) -> Result<Answer, ViewFault<V::Fault>>
-    ensures { HoldsIfHonest V.honest V.kept V.frame view.old view.new
+    ensures { ReadOnly V.Edges view.old view.new
         (IfOk result (λ a. a
         ≡ A.List (listed.Recalls (page_of (recalls_in (V.state view.old) true cursor))))) }
 {
@@ -73,7 +73,7 @@ fn lifted_answer<V: Worklists>(
     view: &mut V,
     cursor: Option<Id>,
 ) -> Result<Answer, ViewFault<V::Fault>>
-    ensures { HoldsIfHonest V.honest V.kept V.frame view.old view.new
+    ensures { ReadOnly V.Edges view.old view.new
         (IfOk result (λ a. a
         ≡ A.List (listed.LiftedRecalls (page_of (recalls_in (V.state view.old) false cursor))))) }
 {
@@ -85,7 +85,7 @@ fn classes_answer<V: Worklists>(
     view: &mut V,
     cursor: Option<Id>,
 ) -> Result<Answer, ViewFault<V::Fault>>
-    ensures { HoldsIfHonest V.honest V.kept V.frame view.old view.new
+    ensures { ReadOnly V.Edges view.old view.new
         (IfOk result (λ a. a
         ≡ A.List (listed.Classes (page_of (classes_after (V.state view.old) cursor))))) }
 {
@@ -98,7 +98,7 @@ fn holds_answer<V: Worklists>(
     lot: Id,
     cursor: Option<Id>,
 ) -> Result<Answer, ViewFault<V::Fault>>
-    ensures { HoldsIfHonest V.honest V.kept V.frame view.old view.new
+    ensures { ReadOnly V.Edges view.old view.new
         (IfOk result (λ a. a ≡ answer_holds (V.state view.old) lot cursor
         (lot_at (V.state view.old) lot))) }
 {
@@ -123,7 +123,7 @@ fn definitions_answer<V: Worklists>(
     class: Id,
     cursor: Option<Id>,
 ) -> Result<Answer, ViewFault<V::Fault>>
-    ensures { HoldsIfHonest V.honest V.kept V.frame view.old view.new
+    ensures { ReadOnly V.Edges view.old view.new
         (IfOk result (λ a. a ≡ answer_definitions (V.state view.old) class cursor
         (class_at (V.state view.old) class))) }
 {
@@ -149,7 +149,7 @@ pub(crate) fn recipes_answer<V: Worklists>(
     state: RecipeState,
     cursor: Option<RecipeCursor>,
 ) -> Result<Answer, ViewFault<V::Fault>>
-    ensures { HoldsIfHonest V.honest V.kept V.frame view.old view.new
+    ensures { ReadOnly V.Edges view.old view.new
         (IfOk result (λ a. a ≡ answer_recipes (V.state view.old) state cursor)) }
 {
     let page = view.recipes_in(state, cursor).map_err(ViewFault::View)?;
@@ -162,7 +162,7 @@ pub(crate) fn all_holds_answer<V: Worklists>(
     view: &mut V,
     cursor: Option<HoldCursor>,
 ) -> Result<Answer, ViewFault<V::Fault>>
-    ensures { HoldsIfHonest V.honest V.kept V.frame view.old view.new
+    ensures { ReadOnly V.Edges view.old view.new
         (DecisionInvariant (V.state view.old)
         → IfOk result (λ a. a ≡ answer_all_holds (V.state view.old) cursor)) }
 {
@@ -176,7 +176,7 @@ pub(crate) fn due_answer<V: Worklists>(
     state: JobState,
     cursor: Option<DueCursor>,
 ) -> Result<Answer, ViewFault<V::Fault>>
-    ensures { HoldsIfHonest V.honest V.kept V.frame view.old view.new
+    ensures { ReadOnly V.Edges view.old view.new
         (IfOk result (λ a. a ≡ answer_by_due (V.state view.old) state cursor)) }
 {
     let page = view.orders_by_due(state, cursor).map_err(ViewFault::View)?;
@@ -189,7 +189,7 @@ pub(crate) fn ledger_answer<V: Worklists>(
     lot: Id,
     cursor: Option<MovementCursor>,
 ) -> Result<Answer, ViewFault<V::Fault>>
-    ensures { HoldsIfHonest V.honest V.kept V.frame view.old view.new
+    ensures { ReadOnly V.Edges view.old view.new
         (IfOk result (λ a. a ≡ answer_ledger (V.state view.old) lot cursor
         (lot_at (V.state view.old) lot))) }
 {

@@ -1,7 +1,7 @@
 // What is answered of a lot.
 ghost use Rattle.std.specs.Prelude.{◌≡◌, ◌<◌, ◌^◌, IfOk, sum_by};
 ghost use Rattle.plant_base.specs.State.{State, lot_at};
-ghost use Rattle.plant_trace.specs.HoldsIfHonest.{HoldsIfHonest};
+ghost use Rattle.plant_trace.specs.ReadOnly.{ReadOnly};
 ghost use Rattle.plant_view.specs.Refusals.{is_held};
 ghost use Rattle.plant_view.specs.DecisionInvariant.{DecisionInvariant};
 ghost use Rattle.plant_view.specs.Tables.{sublots_of};
@@ -13,7 +13,7 @@ use plant_view::{View, ViewFault, lookup};
 
 /// What is known of a lot.
 pub(crate) fn lot_answer<V: View>(view: &mut V, lot: Id) -> Result<Answer, ViewFault<V::Fault>>
-    ensures { HoldsIfHonest V.honest V.kept V.frame view.old view.new
+    ensures { ReadOnly V.Edges view.old view.new
         (DecisionInvariant (V.state view.old)
         → IfOk result (λ a. a ≡ answer_lot (V.state view.old) (lot_at (V.state view.old) lot))) }
 {
@@ -25,7 +25,7 @@ pub(crate) fn lot_answer<V: View>(view: &mut V, lot: Id) -> Result<Answer, ViewF
 
 /// What is known of a lot that is there.
 pub(crate) fn found_lot<V: View>(view: &mut V, lot: Lot) -> Result<LotAnswer, ViewFault<V::Fault>>
-    ensures { HoldsIfHonest V.honest V.kept V.frame view.old view.new
+    ensures { ReadOnly V.Edges view.old view.new
         (DecisionInvariant (V.state view.old) → IfOk result (λ a. a ≡ lot_answer (V.state view.old) lot)) }
 {
     let held = lookup::is_held(view, lot.id)?;

@@ -1,7 +1,7 @@
 // What is answered of the batches that are closed, and of those that aren't.
 ghost use Rattle.std.specs.Prelude.{◌≡◌, IfOk, map};
 ghost use Rattle.std.specs.List.{filter_map};
-ghost use Rattle.plant_trace.specs.HoldsIfHonest.{HoldsIfHonest};
+ghost use Rattle.plant_trace.specs.ReadOnly.{ReadOnly};
 ghost use Rattle.plant_worklists.specs.Pages.{page_of};
 ghost use Rattle.plant_worklists.specs.Worklists.{batches_in};
 ghost use Rattle.plant_answers.specs.Worklists.{batch_page, open_batch, opened, phase_of};
@@ -21,7 +21,7 @@ pub(crate) fn batches_answer<V: Worklists>(
     closed: bool,
     cursor: Option<Id>,
 ) -> Result<Answer, ViewFault<V::Fault>>
-    ensures { HoldsIfHonest V.honest V.kept V.frame view.old view.new
+    ensures { ReadOnly V.Edges view.old view.new
         (IfOk result (λ a. a ≡ A.List (listed.Batches (batch_page (V.state view.old)
         (page_of (batches_in (V.state view.old) closed cursor)))))) }
 {
@@ -38,7 +38,7 @@ fn with_phases<V: View>(
     view: &mut V,
     batches: &[BatchRow],
 ) -> Result<Vec<OpenBatch>, ViewFault<V::Fault>>
-    ensures { HoldsIfHonest V.honest V.kept V.frame view.old view.new
+    ensures { ReadOnly V.Edges view.old view.new
         (IfOk result (λ v. v.items ≡ map (open_batch (V.state view.old)) batches.now)) }
 {
     let mut rows = Vec::new(alloc);
@@ -56,7 +56,7 @@ fn open_batch<V: View>(
     view: &mut V,
     batch: &BatchRow,
 ) -> Result<OpenBatch, ViewFault<V::Fault>>
-    ensures { HoldsIfHonest V.honest V.kept V.frame view.old view.new
+    ensures { ReadOnly V.Edges view.old view.new
         (IfOk result (λ row. row ≡ open_batch (V.state view.old) batch.now)) }
 {
     let lines = lookup::control_lines(view, batch.batch.id)?;

@@ -1,7 +1,7 @@
 // What is answered of a recall.
 ghost use Rattle.std.specs.Prelude.{◌≡◌, IfOk};
 ghost use Rattle.plant_base.specs.State.{State, recall_at};
-ghost use Rattle.plant_trace.specs.HoldsIfHonest.{HoldsIfHonest};
+ghost use Rattle.plant_trace.specs.ReadOnly.{ReadOnly};
 ghost use Rattle.plant_view.specs.Genealogy.{edges_of};
 ghost use Rattle.plant_answers.specs.RecallAnswers.{answer_recall, nodes_of, reached_list};
 
@@ -17,7 +17,7 @@ pub(crate) fn recall_answer<V: View>(
     view: &mut V,
     recall: Id,
 ) -> Result<Answer, ViewFault<V::Fault>>
-    ensures { HoldsIfHonest V.honest V.kept V.frame view.old view.new
+    ensures { ReadOnly V.Edges view.old view.new
         (IfOk result (λ a. a ≡ answer_recall (V.state view.old)
         (recall_at (V.state view.old) recall))) }
 {
@@ -47,7 +47,7 @@ fn nodes_of<V: View>(
     view: &mut V,
     known: &Option<Recall>,
 ) -> Result<Vec<Node>, ViewFault<V::Fault>>
-    ensures { HoldsIfHonest V.honest V.kept V.frame view.old view.new
+    ensures { ReadOnly V.Edges view.old view.new
         (IfOk result (λ nodes. nodes.items ≡ nodes_of (V.state view.old) known.now)) }
 {
     let Some(recall) = known else {
@@ -64,7 +64,7 @@ fn nodes_reached<V: View>(
     view: &mut V,
     lot: Id,
 ) -> Result<Vec<Node>, ViewFault<V::Fault>>
-    ensures { HoldsIfHonest V.honest V.kept V.frame view.old view.new
+    ensures { ReadOnly V.Edges view.old view.new
         (IfOk result (λ nodes. nodes.items ≡ reached_list (edges_of (V.state view.old)) lot)) }
 {
     match reached(alloc, view, lot) {

@@ -1,7 +1,7 @@
 // What is answered of a definition, and of a version of a master recipe.
 ghost use Rattle.std.specs.Prelude.{◌≡◌, IfOk, map};
 ghost use Rattle.plant_base.specs.State.{definition_at, recipe_at, master_lines_of};
-ghost use Rattle.plant_trace.specs.HoldsIfHonest.{HoldsIfHonest};
+ghost use Rattle.plant_trace.specs.ReadOnly.{ReadOnly};
 ghost use Rattle.plant_answers.specs.RecipeAnswers.{answer_definition, answer_recipe, recipe_answer, recipe_line};
 
 use crate::batch_answers::{material_of, unit_among};
@@ -15,7 +15,7 @@ pub(crate) fn definition_answer<V: View>(
     view: &mut V,
     def: Id,
 ) -> Result<Answer, ViewFault<V::Fault>>
-    ensures { HoldsIfHonest V.honest V.kept V.frame view.old view.new
+    ensures { ReadOnly V.Edges view.old view.new
         (IfOk result (λ a. a ≡ answer_definition (definition_at (V.state view.old) def))) }
 {
     let known = lookup::definition(view, def)?;
@@ -39,7 +39,7 @@ pub(crate) fn recipe_answer<V: View>(
     id: Id,
     version: u16,
 ) -> Result<Answer, ViewFault<V::Fault>>
-    ensures { HoldsIfHonest V.honest V.kept V.frame view.old view.new
+    ensures { ReadOnly V.Edges view.old view.new
         (IfOk result (λ a. a ≡ answer_recipe (V.state view.old)
         (recipe_at (V.state view.old) id version))) }
 {
@@ -54,8 +54,7 @@ fn found_recipe<V: View>(
     view: &mut V,
     recipe: Recipe,
 ) -> Result<RecipeAnswer, ViewFault<V::Fault>>
-    ensures { HoldsIfHonest V.honest V.kept V.frame view.old view.new
-        (IfOk result (λ a. a ≡ recipe_answer (V.state view.old) recipe)) }
+    ensures { ReadOnly V.Edges view.old view.new (IfOk result (λ a. a ≡ recipe_answer (V.state view.old) recipe)) }
 {
     let header = recipe.header;
     let unit = unit_among(view, Some(header.product))?;
@@ -74,7 +73,7 @@ fn recipe_lines<V: View>(
     recipe: Id,
     version: u16,
 ) -> Result<Vec<RecipeLineAnswer>, ViewFault<V::Fault>>
-    ensures { HoldsIfHonest V.honest V.kept V.frame view.old view.new
+    ensures { ReadOnly V.Edges view.old view.new
         (IfOk result (λ v. v.items ≡ map (recipe_line (V.state view.old))
         (master_lines_of (V.state view.old) recipe version))) }
 {
@@ -88,7 +87,7 @@ fn each_with_unit<V: View>(
     view: &mut V,
     lines: &[MasterLine],
 ) -> Result<Vec<RecipeLineAnswer>, ViewFault<V::Fault>>
-    ensures { HoldsIfHonest V.honest V.kept V.frame view.old view.new
+    ensures { ReadOnly V.Edges view.old view.new
         (IfOk result (λ v. v.items ≡ map (recipe_line (V.state view.old)) lines.now)) }
 {
     let mut rows = Vec::new(alloc);
@@ -105,7 +104,7 @@ fn recipe_line<V: View>(
     view: &mut V,
     line: &MasterLine,
 ) -> Result<RecipeLineAnswer, ViewFault<V::Fault>>
-    ensures { HoldsIfHonest V.honest V.kept V.frame view.old view.new
+    ensures { ReadOnly V.Edges view.old view.new
         (IfOk result (λ row. row ≡ recipe_line (V.state view.old) line.now)) }
 {
     let unit = unit_among(view, material_of(line.line))?;

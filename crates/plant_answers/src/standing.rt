@@ -1,6 +1,6 @@
 // Where the goods of a lot or batch are.
 ghost use Rattle.std.specs.Prelude.{◌≡◌, IfOk};
-ghost use Rattle.plant_trace.specs.HoldsIfHonest.{HoldsIfHonest};
+ghost use Rattle.plant_trace.specs.ReadOnly.{ReadOnly};
 ghost use Rattle.plant_view.specs.DecisionInvariant.{DecisionInvariant};
 ghost use Rattle.plant_answers.specs.Surroundings.{answer_stands, lots_standing, stocked_at, stocked_if};
 ghost use Rattle.plant_answers.specs.KnownLots.{AreKnown, after_stocked_at, after_stocked_if};
@@ -23,7 +23,7 @@ pub(crate) fn stands_answer<V: Worklists>(
     view: &mut V,
     start: Node,
 ) -> Result<Answer, ViewFault<V::Fault>>
-    ensures { HoldsIfHonest V.honest V.kept V.frame view.old view.new
+    ensures { ReadOnly V.Edges view.old view.new
         (DecisionInvariant (V.state view.old) → IfOk result (λ a. a ≡ answer_stands (V.state view.old) start
         (missing (V.state view.old) start))) }
 {
@@ -38,7 +38,7 @@ fn lots_standing<V: Worklists>(
     view: &mut V,
     start: Node,
 ) -> Result<Vec<StandingLot>, ViewFault<V::Fault>>
-    ensures { HoldsIfHonest V.honest V.kept V.frame view.old view.new
+    ensures { ReadOnly V.Edges view.old view.new
         (DecisionInvariant (V.state view.old)
         → IfOk result (λ v. v.items ≡ lots_standing (V.state view.old) start)) }
 {
@@ -73,7 +73,7 @@ fn stocked_if<V: Worklists>(
     known: &mut KnownLots,
     lot: Option<Lot>,
 ) -> Result<Option<StandingLot>, ViewFault<V::Fault>>
-    ensures { HoldsIfHonest V.honest V.kept V.frame view.old view.new
+    ensures { ReadOnly V.Edges view.old view.new
         (DecisionInvariant (V.state view.old) → AreKnown (V.state view.old) known.old
         → IfOk result (λ found. found ≡ stocked_if (V.state view.old) lot)
         × AreKnown (V.state view.old) known.new

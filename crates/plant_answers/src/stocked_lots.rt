@@ -1,7 +1,7 @@
 // What is answered of the lots of a definition.
 ghost use Rattle.std.specs.Prelude.{◌≡◌, ◌-◌, ℕ, List, Option, IfOk, length, option_map, slice_get};
 ghost use Rattle.plant_base.specs.State.{State, definition_at};
-ghost use Rattle.plant_trace.specs.HoldsIfHonest.{HoldsIfHonest};
+ghost use Rattle.plant_trace.specs.ReadOnly.{ReadOnly};
 ghost use Rattle.plant_view.specs.DecisionInvariant.{DecisionInvariant};
 ghost use Rattle.plant_view.specs.Recalls.{is_blocked};
 ghost use Rattle.plant_worklists.specs.Pages.{page_of};
@@ -24,7 +24,7 @@ pub(crate) fn lots_answer<V: Worklists>(
     def: Id,
     cursor: Option<Id>,
 ) -> Result<Answer, ViewFault<V::Fault>>
-    ensures { HoldsIfHonest V.honest V.kept V.frame view.old view.new
+    ensures { ReadOnly V.Edges view.old view.new
         (DecisionInvariant (V.state view.old) → IfOk result (λ a. a ≡ answer_lots (V.state view.old) def cursor
         (definition_at (V.state view.old) def))) }
 {
@@ -39,7 +39,7 @@ fn lot_page<V: Worklists>(
     def: Id,
     cursor: Option<Id>,
 ) -> Result<LotPage, ViewFault<V::Fault>>
-    ensures { HoldsIfHonest V.honest V.kept V.frame view.old view.new
+    ensures { ReadOnly V.Edges view.old view.new
         (DecisionInvariant (V.state view.old) → IfOk result (λ page. page ≡ lot_page (V.state view.old)
         (page_of (lots_of (V.state view.old) def cursor)))) }
 {
@@ -93,7 +93,7 @@ fn standing_if<V: View>(
     view: &mut V,
     known: LotAnswer,
 ) -> Result<Option<StandingLot>, ViewFault<V::Fault>>
-    ensures { HoldsIfHonest V.honest V.kept V.frame view.old view.new
+    ensures { ReadOnly V.Edges view.old view.new
         (IfOk result (λ found. found ≡ if_stocked (record { known = known; recalled = is_blocked (V.state view.old) known.lot }))) }
 {
     if known.stock == 0 {

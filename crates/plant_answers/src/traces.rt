@@ -1,6 +1,6 @@
 // What is answered of a trace.
 ghost use Rattle.std.specs.Prelude.{◌≡◌, IfOk, None, not};
-ghost use Rattle.plant_trace.specs.HoldsIfHonest.{HoldsIfHonest};
+ghost use Rattle.plant_trace.specs.ReadOnly.{ReadOnly};
 ghost use Rattle.plant_view.specs.Refusals.{refuse};
 ghost use Rattle.plant_answers.specs.Traces.{trace_of, missing, answer_trace};
 
@@ -17,7 +17,7 @@ pub(crate) fn trace_answer<V: View>(
     direction: Direction,
     start: Node,
 ) -> Result<Answer, ViewFault<V::Fault>>
-    ensures { HoldsIfHonest V.honest V.kept V.frame view.old view.new
+    ensures { ReadOnly V.Edges view.old view.new
         (IfOk result (λ a. a ≡ answer_trace (V.state view.old) direction start
         (missing (V.state view.old) start))) }
 {
@@ -32,7 +32,7 @@ pub(crate) fn missing<V: View>(
     view: &mut V,
     node: Node,
 ) -> Result<Option<Refusal>, ViewFault<V::Fault>>
-    ensures { HoldsIfHonest V.honest V.kept V.frame view.old view.new
+    ensures { ReadOnly V.Edges view.old view.new
         (IfOk result (λ refusal. refusal ≡ missing (V.state view.old) node)) }
 {
     match node {
@@ -61,7 +61,7 @@ pub(crate) fn trace<V: View>(
     direction: Direction,
     start: Node,
 ) -> Result<Vec<Node>, ViewFault<V::Fault>>
-    ensures { HoldsIfHonest V.honest V.kept V.frame view.old view.new
+    ensures { ReadOnly V.Edges view.old view.new
         (IfOk result (λ nodes. nodes.items ≡ trace_of (V.state view.old) direction start)) }
 {
     match closure(alloc, view, start, direction) {

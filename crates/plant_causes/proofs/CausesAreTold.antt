@@ -5,18 +5,9 @@ use Rattle.std.specs.List.{list_any, list_all, position_from}
 use Rattle.plant_base.specs.Content.{content_of}
 use Rattle.plant_base.specs.Values.{greatest_amount}
 use Rattle.plant_base.specs.State.{State, same, definition_at, recipe_at, lot_at, place_at}
-use Rattle.plant_base.specs.declared.refusal.Refusal.{Refusal}
+use Rattle.plant_base.specs.{AddRecipe, Command, Definition, Envelope, ImportOrders, Merge, Part, Receipt, RecipeLine, Refusal}
 use Rattle.plant_base.specs.declared.refusal.Refusal.TheVariants.{BadForm, MomentBack, Exists, UnknownDefinition, UnknownRecipe, UnknownLot, UnknownSublot, TooLittle, TooMuch, Held, OrderConflict, SizeOutOfRange, MixedMaterials, TooMany, RefReused, Recalled}
-use Rattle.plant_base.specs.declared.rows.Definition.{Definition}
-use Rattle.plant_base.specs.declared.rows.Receipt.{Receipt}
-use Rattle.plant_base.specs.declared.rows.RecipeLine.{RecipeLine}
-use Rattle.plant_base.specs.declared.command.AddRecipe.{AddRecipe}
-use Rattle.plant_base.specs.declared.command.ImportOrders.{ImportOrders}
-use Rattle.plant_base.specs.declared.command.Merge.{Merge}
-use Rattle.plant_base.specs.declared.command.Part.{Part}
-use Rattle.plant_base.specs.declared.command.Command.{Command}
 use Rattle.plant_base.specs.declared.command.Command.TheVariants as body
-use Rattle.plant_base.specs.declared.command.Envelope.{Envelope}
 use Rattle.plant_view.specs.Production.{is_known}
 use Rattle.plant_view.specs.Refusals.{refuse, at_limit}
 use Rattle.plant_rules_production.specs.Orders.{wrong_import_orders}

@@ -3,10 +3,8 @@ use Rattle.std.proofs.Common.{◌≡◌, ◌∙◌, ℕ, true, Option, Some, Non
 use Rattle.std.specs.Prelude.{not, if◌then◌else◌}
 use Rattle.plant_base.specs.Content.{content_of}
 use Rattle.plant_base.specs.State.{State, same}
-use Rattle.plant_base.specs.declared.command.Envelope.{Envelope}
-use Rattle.plant_base.specs.declared.refusal.Refusal.{Refusal}
+use Rattle.plant_base.specs.{Envelope, Receipt, Refusal}
 use Rattle.plant_base.specs.declared.refusal.Refusal.TheVariants.{BadForm, RefReused}
-use Rattle.plant_base.specs.declared.rows.Receipt.{Receipt}
 use Rattle.plant_base.proofs.KeyOrders.{same_itself}
 use Rattle.plant_view.specs.Refusals.{refuse}
 use Rattle.plant_rules.specs.Step.{IsRepeated}

@@ -3,11 +3,7 @@ use Rattle.std.proofs.Common.{◌≡◌, ℕ, ◌+◌, Bool, true, false, cond, 
 use Rattle.std.specs.Prelude.{not, if◌then◌else◌}
 use Rattle.std.specs.List.{AllByRecursion, position_from}
 use Rattle.plant_base.specs.State.{State}
-use Rattle.plant_base.specs.declared.refusal.Refusal.{Refusal}
-use Rattle.plant_base.specs.declared.rows.RecipeLine.{RecipeLine}
-use Rattle.plant_base.specs.declared.command.AddRecipe.{AddRecipe}
-use Rattle.plant_base.specs.declared.command.ImportOrders.{ImportOrders}
-use Rattle.plant_base.specs.declared.command.Merge.{Merge}
+use Rattle.plant_base.specs.{AddRecipe, ImportOrders, Merge, RecipeLine, Refusal}
 use Rattle.plant_base.specs.declared.command.Command.TheVariants as body
 use Rattle.plant_view.specs.Production.{is_known}
 use Rattle.plant_causes.specs.Causes.{first_failing, is_bad_order, is_bad_part, is_for_a_line, item_of}

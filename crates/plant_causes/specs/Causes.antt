@@ -2,14 +2,9 @@
 use Rattle.std.specs.Prelude.{ℕ, Bool, false, not, ◌||◌, List, Option, Some, None, is_some, is_none, nat_lt, if◌then◌else◌}
 use Rattle.std.specs.List.{position_from}
 use Rattle.plant_base.specs.State.{State, same, definition_at, recipe_at, job_at, lot_at, place_at}
-use Rattle.plant_base.specs.declared.refusal.Refusal.{Refusal}
+use Rattle.plant_base.specs.{AddRecipe, Command, Envelope, OrderRow, Part, Refusal}
 use Rattle.plant_base.specs.declared.refusal.Refusal.TheVariants.{UnknownDefinition, UnknownRecipe, UnknownLot, UnknownSublot, TooLittle, Held, OrderConflict, SizeOutOfRange, MixedMaterials, Recalled}
-use Rattle.plant_base.specs.declared.rows.OrderRow.{OrderRow}
-use Rattle.plant_base.specs.declared.command.AddRecipe.{AddRecipe}
-use Rattle.plant_base.specs.declared.command.Part.{Part}
-use Rattle.plant_base.specs.declared.command.Command.{Command}
 use Rattle.plant_base.specs.declared.command.Command.TheVariants as body
-use Rattle.plant_base.specs.declared.command.Envelope.{Envelope}
 use Rattle.plant_view.specs.Production.{is_known, is_size_of_recipe}
 use Rattle.plant_view.specs.Recalls.{is_blocked}
 use Rattle.plant_view.specs.Refusals.{sublot_standing, is_held}

@@ -1,8 +1,8 @@
 //! Commands, checked and not executed.
 ghost use Rattle.std.specs.Prelude.{◌≡◌, IfOk};
 ghost use Rattle.plant_base.specs.State.{State};
-ghost use Rattle.plant_base.specs.declared.command.Envelope.{Envelope};
-ghost use Rattle.plant_trace.specs.HoldsIfHonest.{HoldsIfHonest};
+ghost use Rattle.plant_base.specs.{Envelope};
+ghost use Rattle.plant_trace.specs.ReadOnly.{ReadOnly};
 ghost use Rattle.plant_view.specs.DecisionInvariant.{DecisionInvariant};
 ghost use Rattle.plant_rules.specs.Step.{IsDecision};
 ghost use Rattle.plant_rules.specs.Wrong.{wrong};
@@ -38,8 +38,7 @@ pub fn check<V: View>(
     envelope: &Envelope,
 ) -> Result<Checked, ViewFault<V::Fault>>
     requires { V.honest view.old → DecisionInvariant (V.state view.old) }
-    ensures { HoldsIfHonest V.honest V.kept V.frame view.old view.new
-        (IfOk result (λ c. c ≡ checked (V.state view.old) envelope.now)) }
+    ensures { ReadOnly V.Edges view.old view.new (IfOk result (λ c. c ≡ checked (V.state view.old) envelope.now)) }
 {
     let decision = decide(alloc, view, envelope)?;
     match refusal_in(&decision) {
@@ -66,7 +65,7 @@ fn refused<V: View>(
     envelope: &Envelope,
     refusal: Refusal,
 ) -> Result<Checked, ViewFault<V::Fault>>
-    ensures { HoldsIfHonest V.honest V.kept V.frame view.old view.new
+    ensures { ReadOnly V.Edges view.old view.new
         (DecisionInvariant (V.state view.old) → wrong (V.state view.old) envelope.now ≡ Some refusal
         → IfOk result (λ c. c ≡ checked (V.state view.old) envelope.now)) }
 {

@@ -1,6 +1,6 @@
 //! Which item of a command's list is the cause of its refusal.
 ghost use Rattle.std.specs.Prelude.{◌≡◌, IfOk};
-ghost use Rattle.plant_trace.specs.HoldsIfHonest.{HoldsIfHonest};
+ghost use Rattle.plant_trace.specs.ReadOnly.{ReadOnly};
 ghost use Rattle.plant_view.specs.DecisionInvariant.{DecisionInvariant};
 ghost use Rattle.plant_causes.specs.Causes.{item_of};
 
@@ -18,7 +18,7 @@ pub(crate) fn item_of<V: View>(
     body: &Command,
     refusal: Refusal,
 ) -> Result<Option<usize>, ViewFault<V::Fault>>
-    ensures { HoldsIfHonest V.honest V.kept V.frame view.old view.new
+    ensures { ReadOnly V.Edges view.old view.new
         (DecisionInvariant (V.state view.old)
         → IfOk result (λ item. item ≡ item_of (V.state view.old) body.now refusal)) }
 {

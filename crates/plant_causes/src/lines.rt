@@ -1,6 +1,6 @@
 //! Which line is the cause that a recipe is refused.
 ghost use Rattle.std.specs.Prelude.{◌≡◌, IfOk, not};
-ghost use Rattle.plant_trace.specs.HoldsIfHonest.{HoldsIfHonest};
+ghost use Rattle.plant_trace.specs.ReadOnly.{ReadOnly};
 ghost use Rattle.plant_view.specs.Production.{is_known};
 ghost use Rattle.plant_causes.specs.Causes.{first_failing, is_for_a_line, item_of};
 ghost use Rattle.plant_base.specs.declared.command.Command.TheVariants as body;
@@ -14,7 +14,7 @@ pub(crate) fn bad_line<V: View>(
     c: &AddRecipe,
     refusal: Refusal,
 ) -> Result<Option<usize>, ViewFault<V::Fault>>
-    ensures { HoldsIfHonest V.honest V.kept V.frame view.old view.new
+    ensures { ReadOnly V.Edges view.old view.new
         (IfOk result (λ item. item ≡ item_of (V.state view.old) (body.AddRecipe c.now) refusal)) }
 {
     if !is_for_a_line(view, c, refusal)? {
@@ -29,7 +29,7 @@ fn is_for_a_line<V: View>(
     c: &AddRecipe,
     refusal: Refusal,
 ) -> Result<bool, ViewFault<V::Fault>>
-    ensures { HoldsIfHonest V.honest V.kept V.frame view.old view.new
+    ensures { ReadOnly V.Edges view.old view.new
         (IfOk result (λ for_a_line. for_a_line ≡ is_for_a_line (V.state view.old) c.now refusal)) }
 {
     match refusal {
@@ -42,7 +42,7 @@ fn first_unknown<V: View>(
     view: &mut V,
     lines: &[RecipeLine],
 ) -> Result<Option<usize>, ViewFault<V::Fault>>
-    ensures { HoldsIfHonest V.honest V.kept V.frame view.old view.new
+    ensures { ReadOnly V.Edges view.old view.new
         (IfOk result (λ item. item
         ≡ first_failing (λ l. not (is_known (V.state view.old).definitions l)) lines.now)) }
 {
@@ -55,7 +55,7 @@ fn first_unknown<V: View>(
 }
 
 fn is_known<V: View>(view: &mut V, line: RecipeLine) -> Result<bool, ViewFault<V::Fault>>
-    ensures { HoldsIfHonest V.honest V.kept V.frame view.old view.new
+    ensures { ReadOnly V.Edges view.old view.new
         (IfOk result (λ known. known ≡ is_known (V.state view.old).definitions line)) }
 {
     match line {

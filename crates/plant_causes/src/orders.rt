@@ -1,7 +1,7 @@
 //! Which order is the cause that an import is refused.
 ghost use Rattle.std.specs.Prelude.{◌≡◌, IfOk, is_none, not, find};
 ghost use Rattle.plant_base.specs.State.{recipe_at, job_at, same};
-ghost use Rattle.plant_trace.specs.HoldsIfHonest.{HoldsIfHonest};
+ghost use Rattle.plant_trace.specs.ReadOnly.{ReadOnly};
 ghost use Rattle.plant_view.specs.Production.{is_size_of_recipe};
 ghost use Rattle.plant_rules_production.specs.Orders.{conflicts, differs, is_same_order, order_named};
 ghost use Rattle.plant_causes.specs.Causes.{first_failing, is_bad_order};
@@ -35,7 +35,7 @@ pub(crate) fn bad_order<V: View>(
     orders: &[OrderRow],
     refusal: Refusal,
 ) -> Result<Option<usize>, ViewFault<V::Fault>>
-    ensures { HoldsIfHonest V.honest V.kept V.frame view.old view.new
+    ensures { ReadOnly V.Edges view.old view.new
         (IfOk result (λ item. item ≡ first_failing (is_bad_order (V.state view.old) orders.now refusal) orders.now)) }
 {
     let listed = Grouped::<ListedOrders>::new(alloc, orders)?;
@@ -48,7 +48,7 @@ fn first_bad_order<V: View>(
     orders: &[OrderRow],
     refusal: Refusal,
 ) -> Result<Option<usize>, ViewFault<V::Fault>>
-    ensures { HoldsIfHonest V.honest V.kept V.frame view.old view.new
+    ensures { ReadOnly V.Edges view.old view.new
         (IfOk result (λ item. item ≡ first_failing (is_bad_order (V.state view.old) listed.now.rows.now refusal) orders.now)) }
 {
     for (index, order) in orders.iter().enumerate() {
@@ -65,7 +65,7 @@ fn is_bad_order<V: View>(
     order: &OrderRow,
     refusal: Refusal,
 ) -> Result<bool, ViewFault<V::Fault>>
-    ensures { HoldsIfHonest V.honest V.kept V.frame view.old view.new
+    ensures { ReadOnly V.Edges view.old view.new
         (IfOk result (λ bad. bad ≡ is_bad_order (V.state view.old) listed.now.rows.now refusal order.now)) }
 {
     match refusal {
@@ -77,7 +77,7 @@ fn is_bad_order<V: View>(
 }
 
 fn is_unplanned<V: View>(view: &mut V, order: &OrderRow) -> Result<bool, ViewFault<V::Fault>>
-    ensures { HoldsIfHonest V.honest V.kept V.frame view.old view.new
+    ensures { ReadOnly V.Edges view.old view.new
         (IfOk result (λ bad. bad ≡ is_none (recipe_at (V.state view.old) order.now.recipe order.now.version))) }
 {
     let recipe = lookup::recipe(view, order.recipe, order.version)?;
@@ -89,7 +89,7 @@ fn is_conflict<V: View>(
     listed: &Grouped<ListedOrders>,
     order: &OrderRow,
 ) -> Result<bool, ViewFault<V::Fault>>
-    ensures { HoldsIfHonest V.honest V.kept V.frame view.old view.new
+    ensures { ReadOnly V.Edges view.old view.new
         (IfOk result (λ bad. bad
         ≡ conflicts listed.now.rows.now (job_at (V.state view.old) order.now.order) order.now)) }
 {
@@ -98,7 +98,7 @@ fn is_conflict<V: View>(
 }
 
 fn is_oversize<V: View>(view: &mut V, order: &OrderRow) -> Result<bool, ViewFault<V::Fault>>
-    ensures { HoldsIfHonest V.honest V.kept V.frame view.old view.new
+    ensures { ReadOnly V.Edges view.old view.new
         (IfOk result (λ bad. bad
         ≡ not (is_size_of_recipe (recipe_at (V.state view.old) order.now.recipe order.now.version) order.now.size))) }
 {

@@ -1,7 +1,7 @@
 //! Which part is the cause that a merge is refused.
 ghost use Rattle.std.specs.Prelude.{◌≡◌, ◌≤◌, ℕ, List, IfOk, length, not};
 ghost use Rattle.plant_base.specs.State.{State, same};
-ghost use Rattle.plant_trace.specs.HoldsIfHonest.{HoldsIfHonest};
+ghost use Rattle.plant_trace.specs.ReadOnly.{ReadOnly};
 ghost use Rattle.plant_view.specs.DecisionInvariant.{DecisionInvariant};
 ghost use Rattle.plant_view.specs.Refusals.{sublot_standing};
 ghost use Rattle.plant_view.specs.Views.{IsSublotOf};
@@ -18,7 +18,7 @@ pub(crate) fn bad_part<V: View>(
     parts: &[Part],
     refusal: Refusal,
 ) -> Result<Option<usize>, ViewFault<V::Fault>>
-    ensures { HoldsIfHonest V.honest V.kept V.frame view.old view.new
+    ensures { ReadOnly V.Edges view.old view.new
         (DecisionInvariant (V.state view.old) → IfOk result (λ item. item
         ≡ first_failing (is_bad_part (V.state view.old) parts.now refusal) parts.now)) }
 {
@@ -37,7 +37,7 @@ fn is_bad_part<V: View>(
     refusal: Refusal,
 ) -> Result<bool, ViewFault<V::Fault>>
     requires { 1 ≤ length parts.now }
-    ensures { HoldsIfHonest V.honest V.kept V.frame view.old view.new
+    ensures { ReadOnly V.Edges view.old view.new
         (DecisionInvariant (V.state view.old)
         → IfOk result (λ bad. bad ≡ is_bad_part (V.state view.old) parts.now refusal part.now)) }
 {
@@ -52,7 +52,7 @@ fn is_bad_part<V: View>(
 }
 
 fn is_missing<V: View>(view: &mut V, part: &Part) -> Result<bool, ViewFault<V::Fault>>
-    ensures { HoldsIfHonest V.honest V.kept V.frame view.old view.new
+    ensures { ReadOnly V.Edges view.old view.new
         (DecisionInvariant (V.state view.old)
         → IfOk result (λ missing. missing ≡ is_missing (V.state view.old) part.now)) }
 {
@@ -62,7 +62,7 @@ fn is_missing<V: View>(view: &mut V, part: &Part) -> Result<bool, ViewFault<V::F
 }
 
 fn is_short_of<V: View>(view: &mut V, part: &Part) -> Result<bool, ViewFault<V::Fault>>
-    ensures { HoldsIfHonest V.honest V.kept V.frame view.old view.new
+    ensures { ReadOnly V.Edges view.old view.new
         (DecisionInvariant (V.state view.old)
         → IfOk result (λ short. short ≡ is_short_of (V.state view.old) part.now)) }
 {
@@ -83,7 +83,7 @@ fn stock_in(sublot: Option<Sublot>) -> u64
 
 fn is_other<V: View>(view: &mut V, parts: &[Part], part: &Part) -> Result<bool, ViewFault<V::Fault>>
     requires { 1 ≤ length parts.now }
-    ensures { HoldsIfHonest V.honest V.kept V.frame view.old view.new
+    ensures { ReadOnly V.Edges view.old view.new
         (IfOk result (λ other. other ≡ is_other (V.state view.old) parts.now part.now)) }
 {
     let first = lookup::lot(view, parts[0].lot)?;

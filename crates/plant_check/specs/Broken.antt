@@ -3,9 +3,7 @@ use Rattle.std.specs.Prelude.{ℕ, Bool, not, ◌&&◌, if◌then◌else◌, Lis
 use Rattle.std.specs.List.{list_all, filter_map}
 use Rattle.std.specs.Cmp.Lexicographic.{pointwise}
 use Rattle.plant_base.specs.Edges.{edge_eq}
-use Rattle.plant_base.specs.declared.rows.EdgeRow.{EdgeRow}
-use Rattle.plant_base.specs.declared.rows.Movement.{Movement}
-use Rattle.plant_base.specs.declared.rows.Recall.{Recall}
+use Rattle.plant_base.specs.{EdgeRow, Movement, Recall}
 use Rattle.plant_trace.specs.Reach.{leads}
 use Rattle.plant_trace.specs.declared.node.Node.{Node}
 use Rattle.plant_view.specs.Genealogy.{edges_among}

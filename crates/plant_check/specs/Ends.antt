@@ -1,7 +1,7 @@
 -- What rows of table movement bring to a sublot and take from it, as their columns say.
 use Rattle.std.specs.Prelude.{ℕ, ◌+◌, Bool, ◌==◌, List, Option, Some, None, filter, sum_by}
 use Rattle.std.specs.List.{list_all}
-use Rattle.plant_base.specs.declared.rows.Sublot.{Sublot}
+use Rattle.plant_base.specs.{Sublot}
 use Rattle.plant_stock.specs.Stock.{is_sublot_key}
 use Rattle.plant_tables_columns.specs.declared.booked.BookedRow.{BookedRow}
 use Rattle.plant_tables_columns.specs.declared.booked.MovementKindCode.{MovementKindCode}

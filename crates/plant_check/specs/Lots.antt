@@ -3,10 +3,7 @@ use Rattle.std.specs.Prelude.{ℕ, Bool, true, false, ◌&&◌, ◌==◌, nat_le
 use Rattle.std.specs.List.{list_any, list_all}
 use Rattle.plant_base.specs.Values.{greatest_amount}
 use Rattle.plant_base.specs.State.{same}
-use Rattle.plant_base.specs.declared.rows.Definition.{Definition}
-use Rattle.plant_base.specs.declared.rows.Hold.{Hold}
-use Rattle.plant_base.specs.declared.rows.Lot.{Lot}
-use Rattle.plant_base.specs.declared.rows.Sublot.{Sublot}
+use Rattle.plant_base.specs.{Definition, Hold, Lot, Sublot}
 use Rattle.plant_check_plans.specs.Recipes.{are_numbered}
 use Rattle.plant_view.specs.Production.{is_defined}
 use Rattle.plant_tables_columns.specs.declared.booked.BookedRow.{BookedRow}

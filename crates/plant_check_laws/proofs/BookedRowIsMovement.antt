@@ -3,9 +3,8 @@ use Rattle.std.proofs.Common.{◌≡◌, ◌∙◌, ℕ, true, nat_le, List, [],
 use Rattle.std.specs.List.{AllByRecursion, filter_map, cons_option}
 use Rattle.std.proofs.lemmas.Bool.{false≢true, leb-true}
 use Rattle.plant_base.specs.Values.{is_id, greatest_sublot}
-use Rattle.plant_base.specs.declared.rows.MovementKind.{MovementKind}
+use Rattle.plant_base.specs.{Movement, MovementKind}
 use Rattle.plant_base.specs.declared.rows.MovementKind.TheVariants as kind
-use Rattle.plant_base.specs.declared.rows.Movement.{Movement}
 use Rattle.plant_invariant.specs.RowValues.{HasMovementValues, HasKindValues}
 use Rattle.plant_view.specs.Genealogy.{batch_by}
 use Rattle.plant_tables_columns.specs.Booked.{movement_from, other_lot, other_sublot, booked_of}

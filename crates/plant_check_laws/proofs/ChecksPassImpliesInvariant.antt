@@ -7,10 +7,7 @@ use Rattle.std.specs.List.Sorted.{IsStrictlySortedBy}
 use Rattle.plant_base.specs.Edges.{edge_order}
 use Rattle.plant_base.specs.Recalls.{mark_order}
 use Rattle.plant_base.specs.State.{batch_order, place_order}
-use Rattle.plant_base.specs.declared.rows.Header.{Header}
-use Rattle.plant_base.specs.declared.rows.Movement.{Movement}
-use Rattle.plant_base.specs.declared.rows.OrderRow.{OrderRow}
-use Rattle.plant_base.specs.declared.rows.Place.{Place}
+use Rattle.plant_base.specs.{Header, Movement, OrderRow, Place}
 use Rattle.plant_base.proofs.PutKeepsOrder.{all_weaker}
 use Rattle.plant_recipe.specs.WellFormed.{is_well_formed}
 use Rattle.plant_stock.specs.Stock.{goes_to, comes_from}

@@ -2,8 +2,7 @@
 use Rattle.std.proofs.Common.{◌≡◌, ◌∙◌, ℕ, true, List, map, refl, sym, ap}
 use Rattle.std.specs.Bool.{Decides}
 use Rattle.plant_base.specs.State.{State, newest_schema}
-use Rattle.plant_base.specs.declared.rows.EdgeRow.{EdgeRow}
-use Rattle.plant_base.specs.declared.rows.Movement.{Movement}
+use Rattle.plant_base.specs.{EdgeRow, Movement}
 use Rattle.plant_trace.specs.Reach.{IsAcyclic}
 use Rattle.plant_trace.specs.declared.node.Node.{Node}
 use Rattle.plant_view.specs.Tables.{Tables, tables_of, edges_in}

@@ -4,13 +4,7 @@ use Rattle.std.specs.List.{AllByRecursion}
 use Rattle.sqlite.specs.Effect.{Database}
 use Rattle.plant_base.specs.State.{State}
 use Rattle.plant_base.specs.Values.{greatest_amount}
-use Rattle.plant_base.specs.declared.rows.Batch.{Batch}
-use Rattle.plant_base.specs.declared.rows.BatchRow.{BatchRow}
-use Rattle.plant_base.specs.declared.rows.Header.{Header}
-use Rattle.plant_base.specs.declared.rows.Movement.{Movement}
-use Rattle.plant_base.specs.declared.rows.Place.{Place}
-use Rattle.plant_base.specs.declared.rows.Recall.{Recall}
-use Rattle.plant_base.specs.declared.rows.Sublot.{Sublot}
+use Rattle.plant_base.specs.{Batch, BatchRow, Header, Movement, Place, Recall, Sublot}
 use Rattle.plant_base.proofs.PutKeepsOrder.{all_weaker, map_back}
 use Rattle.plant_recipe.specs.WellFormed.{is_well_formed}
 use Rattle.plant_view.specs.DecisionInvariant.{DecisionInvariant}

@@ -7,12 +7,7 @@ use Rattle.std.proofs.lemmas.Bool.{le-leb, ltb-true}
 use Rattle.std.proofs.lemmas.Bool.Decides.{nat_tests}
 use Rattle.std.proofs.lemmas.List.{map-append}
 use Rattle.std.proofs.lemmas.Simd.{map-map}
-use Rattle.plant_base.specs.declared.rows.Batch.{Batch}
-use Rattle.plant_base.specs.declared.rows.BatchEvent.{BatchEvent}
-use Rattle.plant_base.specs.declared.rows.BatchRow.{BatchRow}
-use Rattle.plant_base.specs.declared.rows.Hold.{Hold}
-use Rattle.plant_base.specs.declared.rows.Movement.{Movement}
-use Rattle.plant_base.specs.declared.rows.Position.{Position}
+use Rattle.plant_base.specs.{Batch, BatchEvent, BatchRow, Hold, Movement, Position}
 use Rattle.plant_view.specs.Tables.{batch_of_row}
 use Rattle.plant_invariant.specs.Moments.{mark_of_movement, mark_of_event, marks, IsNoLater, HasMoments}
 use Rattle.plant_check_stock.specs.Times.{row_mark_of, row_mark_of_event, row_marks, is_no_later, never_fall, are_times}

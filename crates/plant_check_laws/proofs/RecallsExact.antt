@@ -8,11 +8,7 @@ use Rattle.plant_base.specs.Recalls.{mark_order}
 use Rattle.plant_base.specs.RowValues.{HasLiftingValues, HasRecallValues}
 use Rattle.plant_base.specs.State.{State}
 use Rattle.plant_base.specs.Values.{is_text, is_moment}
-use Rattle.plant_base.specs.declared.rows.Lifting.{Lifting}
-use Rattle.plant_base.specs.declared.rows.Lot.{Lot}
-use Rattle.plant_base.specs.declared.rows.Mark.{Mark}
-use Rattle.plant_base.specs.declared.rows.Movement.{Movement}
-use Rattle.plant_base.specs.declared.rows.Recall.{Recall}
+use Rattle.plant_base.specs.{Lifting, Lot, Mark, Movement, Recall}
 use Rattle.plant_base.proofs.PutKeepsOrder.{all_weaker}
 use Rattle.plant_view.specs.Genealogy.{edges_among}
 use Rattle.plant_view.specs.Recalls.{marks, recalls_in, marks_in}

@@ -7,7 +7,7 @@ use Rattle.std.specs.List.Sorted.{IsStrictlySortedBy}
 use Rattle.plant_base.specs.Content.{is_content, is_content_byte, is_there}
 use Rattle.plant_base.specs.State.{receipt_order}
 use Rattle.plant_base.specs.Values.{is_id}
-use Rattle.plant_base.specs.declared.rows.Receipt.{Receipt}
+use Rattle.plant_base.specs.{Receipt}
 use Rattle.plant_base.proofs.PutKeepsOrder.{all_weaker}
 use Rattle.plant_view.proofs.CommandsPreserveInvariant.{all_two}
 use Rattle.plant_view.proofs.TestsAndSums.{and_left, any_map}

@@ -8,8 +8,7 @@ use Rattle.std.specs.declared.cmp.Ordering.TheVariants.{Less}
 use Rattle.sqlite.specs.Order.{Row}
 use Rattle.plant_base.specs.Edges.{edge_order}
 use Rattle.plant_base.specs.Recalls.{mark_order}
-use Rattle.plant_base.specs.declared.rows.Recall.{Recall}
-use Rattle.plant_base.specs.declared.rows.Receipt.{Receipt}
+use Rattle.plant_base.specs.{Recall, Receipt}
 use Rattle.plant_base.specs.State.{class_order, definition_order, recipe_order, master_line_order, job_order, control_line_order, lot_order, hold_order, receipt_order, recall_order, event_order, movement_order}
 use Rattle.plant_view.specs.Tables.{batch_row_order, sublot_order}
 use Rattle.sql_queries.specs.Rises.{Rises}

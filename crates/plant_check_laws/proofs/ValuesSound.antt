@@ -5,13 +5,7 @@ use Rattle.sqlite.specs.Order.{Row}
 use Rattle.plant_base.specs.Values.{is_id, is_text, is_moment, greatest_seq, greatest_sublot}
 use Rattle.plant_base.specs.WellFormedCommands.{is_version, HasHeaderValues}
 use Rattle.plant_base.specs.RowValues.{HasClassValues, HasDefinitionValues, HasLotValues, HasHoldValues}
-use Rattle.plant_base.specs.declared.rows.Meta.{Meta}
-use Rattle.plant_base.specs.declared.rows.Header.{Header}
-use Rattle.plant_base.specs.declared.rows.Recipe.{Recipe}
-use Rattle.plant_base.specs.declared.rows.Job.{Job}
-use Rattle.plant_base.specs.declared.rows.BatchRow.{BatchRow}
-use Rattle.plant_base.specs.declared.rows.Receipt.{Receipt}
-use Rattle.plant_base.specs.declared.rows.Sublot.{Sublot}
+use Rattle.plant_base.specs.{BatchRow, Header, Job, Meta, Receipt, Recipe, Sublot}
 use Rattle.plant_invariant.specs.RowValues.{HasMasterValues, HasControlValues, HasEventValues}
 use Rattle.plant_view.specs.Production.{HasBatchValues, HasValidOrder}
 use Rattle.plant_tables_read.specs.declared.loaded.Loaded.{Loaded}

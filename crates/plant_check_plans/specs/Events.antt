@@ -1,10 +1,7 @@
 -- What happened to batches.
 use Rattle.std.specs.Prelude.{Bool, false, ◌&&◌, List, Result, Ok, Err}
 use Rattle.std.specs.List.{list_all}
-use Rattle.plant_base.specs.declared.refusal.Refusal.{Refusal}
-use Rattle.plant_base.specs.declared.rows.BatchEvent.{BatchEvent}
-use Rattle.plant_base.specs.declared.rows.BatchRow.{BatchRow}
-use Rattle.plant_base.specs.declared.rows.ControlLine.{ControlLine}
+use Rattle.plant_base.specs.{BatchEvent, BatchRow, ControlLine, Refusal}
 use Rattle.plant_recipe.specs.contracts.progress.ProgressPartialEq.TheImpl.{ghosts as equal}
 use Rattle.plant_recipe.specs.declared.progress.Progress.{Progress}
 use Rattle.plant_recipe.specs.Progress.{run_of}

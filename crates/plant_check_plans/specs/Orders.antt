@@ -2,10 +2,7 @@
 use Rattle.std.specs.Prelude.{ℕ, Bool, false, not, ◌&&◌, ◌==◌, List, Option, Some, None, find, is_none}
 use Rattle.std.specs.List.{list_all}
 use Rattle.plant_base.specs.State.{same}
-use Rattle.plant_base.specs.declared.rows.BatchRow.{BatchRow}
-use Rattle.plant_base.specs.declared.rows.Job.{Job}
-use Rattle.plant_base.specs.declared.rows.Recipe.{Recipe}
-use Rattle.plant_base.specs.declared.states.JobState.{JobState}
+use Rattle.plant_base.specs.{BatchRow, Job, JobState, Recipe}
 use Rattle.plant_base.specs.declared.states.JobState.TheVariants.{Open, Cancelled, Released, Finished}
 use Rattle.plant_view.specs.Production.{is_size_of_recipe}
 

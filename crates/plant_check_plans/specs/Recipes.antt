@@ -2,9 +2,7 @@
 use Rattle.std.specs.Prelude.{ℕ, ◌+◌, Bool, true, ◌&&◌, ◌==◌, List, [], ◌∷◌, map}
 use Rattle.std.specs.List.{list_any, list_all}
 use Rattle.plant_base.specs.State.{same}
-use Rattle.plant_base.specs.declared.rows.Definition.{Definition}
-use Rattle.plant_base.specs.declared.rows.MasterLine.{MasterLine}
-use Rattle.plant_base.specs.declared.rows.Recipe.{Recipe}
+use Rattle.plant_base.specs.{Definition, MasterLine, Recipe}
 use Rattle.plant_recipe.specs.WellFormed.{is_well_formed}
 use Rattle.plant_view.specs.Production.{is_defined, is_known, rows_among, lines_among}
 

@@ -3,18 +3,7 @@ use Rattle.std.proofs.Common.{◌≡◌, ◌∙◌, List, length, map, Option, S
 use Rattle.std.specs.Prelude.{◌==◌, ◌+◌, ◌&&◌, filter, is_none}
 use Rattle.std.specs.List.{list_all}
 use Rattle.plant_base.specs.State.{same}
-use Rattle.plant_base.specs.declared.refusal.Refusal.{Refusal}
-use Rattle.plant_base.specs.declared.rows.BatchEvent.{BatchEvent}
-use Rattle.plant_base.specs.declared.rows.BatchRow.{BatchRow}
-use Rattle.plant_base.specs.declared.rows.Class.{Class}
-use Rattle.plant_base.specs.declared.rows.ControlLine.{ControlLine}
-use Rattle.plant_base.specs.declared.rows.Definition.{Definition}
-use Rattle.plant_base.specs.declared.rows.Job.{Job}
-use Rattle.plant_base.specs.declared.rows.Lot.{Lot}
-use Rattle.plant_base.specs.declared.rows.MasterLine.{MasterLine}
-use Rattle.plant_base.specs.declared.rows.Movement.{Movement}
-use Rattle.plant_base.specs.declared.rows.Recipe.{Recipe}
-use Rattle.plant_base.specs.declared.rows.Sublot.{Sublot}
+use Rattle.plant_base.specs.{BatchEvent, BatchRow, Class, ControlLine, Definition, Job, Lot, MasterLine, Movement, Recipe, Refusal, Sublot}
 use Rattle.plant_recipe.specs.WellFormed.{is_well_formed}
 use Rattle.plant_recipe.specs.contracts.progress.ProgressPartialEq.TheImpl.{ghosts as equal}
 use Rattle.plant_recipe.specs.declared.progress.Progress.{Progress}

@@ -6,11 +6,9 @@ use Rattle.sqlite.specs.Order.{Row, column}
 use Rattle.plant_base.specs.Values.{greatest_amount, greatest_moment, greatest_phase, greatest_priority, greatest_seq, greatest_sublot, greatest_version}
 use Rattle.plant_base.specs.WellFormedCommands.{HasLineValues}
 use Rattle.plant_base.specs.RowValues.{HasPhaseNumber}
-use Rattle.plant_base.specs.declared.rows.RecipeLine.{RecipeLine}
+use Rattle.plant_base.specs.{Event, RecipeLine, Word}
 use Rattle.plant_base.specs.declared.rows.RecipeLine.TheVariants as line
-use Rattle.plant_base.specs.declared.states.Event.{Event}
 use Rattle.plant_base.specs.declared.states.Event.TheVariants as event
-use Rattle.plant_base.specs.declared.states.Word.{Word}
 use Rattle.plant_base.specs.declared.states.Word.TheVariants as word
 use Rattle.plant_base.specs.Words.{word_name}
 use Rattle.plant_recipe.specs.Progress.{greatest_attempt}

@@ -6,15 +6,11 @@ use Rattle.std.specs.List.{list_all}
 use Rattle.sqlite.specs.declared.types.Value.{Value}
 use Rattle.plant_base.specs.Values.{is_id, is_text, is_id_byte, is_text_byte, begins_with_letter, is_amount, greatest_amount, greatest_moment, greatest_sublot}
 use Rattle.plant_base.specs.Words.{batch_state_name}
-use Rattle.plant_base.specs.declared.rows.EdgeKind.{EdgeKind}
+use Rattle.plant_base.specs.{BatchState, EdgeKind, JobState, MarkKind, RecipeState}
 use Rattle.plant_base.specs.declared.rows.EdgeKind.TheVariants as edge_kind
-use Rattle.plant_base.specs.declared.rows.MarkKind.{MarkKind}
 use Rattle.plant_base.specs.declared.rows.MarkKind.TheVariants as mark_kind
-use Rattle.plant_base.specs.declared.states.RecipeState.{RecipeState}
 use Rattle.plant_base.specs.declared.states.RecipeState.TheVariants as recipe_state
-use Rattle.plant_base.specs.declared.states.JobState.{JobState}
 use Rattle.plant_base.specs.declared.states.JobState.TheVariants as job_state
-use Rattle.plant_base.specs.declared.states.BatchState.{BatchState}
 use Rattle.plant_base.specs.declared.states.BatchState.TheVariants as batch_state
 use Rattle.plant_tables_columns.specs.declared.booked.MovementKindCode.{MovementKindCode}
 use Rattle.plant_tables_columns.specs.declared.booked.MovementKindCode.TheVariants as kind_code

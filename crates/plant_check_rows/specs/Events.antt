@@ -1,9 +1,6 @@
 -- Batches and events that break a rule.
 use Rattle.std.specs.Prelude.{ℕ, Bool, true, false, not, ◌==◌, if◌then◌else◌, List, Option, Some, Result, Ok, Err}
-use Rattle.plant_base.specs.declared.refusal.Refusal.{Refusal}
-use Rattle.plant_base.specs.declared.rows.BatchEvent.{BatchEvent}
-use Rattle.plant_base.specs.declared.rows.BatchRow.{BatchRow}
-use Rattle.plant_base.specs.declared.rows.ControlLine.{ControlLine}
+use Rattle.plant_base.specs.{BatchEvent, BatchRow, ControlLine, Refusal}
 use Rattle.plant_recipe.specs.contracts.progress.ProgressPartialEq.TheImpl.{ghosts as equal}
 use Rattle.plant_recipe.specs.declared.progress.Progress.{Progress}
 use Rattle.plant_recipe.specs.Progress.{run_of}

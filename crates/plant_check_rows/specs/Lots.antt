@@ -1,9 +1,6 @@
 -- Lots, sublots and holds that break a rule.
 use Rattle.std.specs.Prelude.{List, map, Option}
-use Rattle.plant_base.specs.declared.rows.Definition.{Definition}
-use Rattle.plant_base.specs.declared.rows.Hold.{Hold}
-use Rattle.plant_base.specs.declared.rows.Lot.{Lot}
-use Rattle.plant_base.specs.declared.rows.Sublot.{Sublot}
+use Rattle.plant_base.specs.{Definition, Hold, Lot, Sublot}
 use Rattle.plant_view.specs.Production.{is_defined}
 use Rattle.plant_tables_columns.specs.declared.booked.BookedRow.{BookedRow}
 use Rattle.plant_check.specs.Lots.{are_from_zero, sublots_among, is_lot_among, is_born}

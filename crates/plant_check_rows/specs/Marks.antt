@@ -3,9 +3,7 @@ use Rattle.std.specs.Prelude.{Bool, List, Option, None}
 use Rattle.std.specs.List.{list_any}
 use Rattle.std.specs.Ordering.{is_eq}
 use Rattle.plant_base.specs.Recalls.{mark_order}
-use Rattle.plant_base.specs.declared.rows.Mark.{Mark}
-use Rattle.plant_base.specs.declared.rows.Movement.{Movement}
-use Rattle.plant_base.specs.declared.rows.Recall.{Recall}
+use Rattle.plant_base.specs.{Mark, Movement, Recall}
 use Rattle.plant_view.specs.Genealogy.{edges_among}
 use Rattle.plant_view.specs.Recalls.{marks}
 use Rattle.plant_check_rows.specs.Keys.{mark_key}

@@ -1,10 +1,6 @@
 -- Movements that break a rule.
 use Rattle.std.specs.Prelude.{ℕ, List, Option, Some, None, is_some}
-use Rattle.plant_base.specs.declared.rows.BatchRow.{BatchRow}
-use Rattle.plant_base.specs.declared.rows.ControlLine.{ControlLine}
-use Rattle.plant_base.specs.declared.rows.Lot.{Lot}
-use Rattle.plant_base.specs.declared.rows.Movement.{Movement}
-use Rattle.plant_base.specs.declared.rows.Sublot.{Sublot}
+use Rattle.plant_base.specs.{BatchRow, ControlLine, Lot, Movement, Sublot}
 use Rattle.plant_stock.specs.Stock.{goes_to, comes_from}
 use Rattle.plant_view.specs.Genealogy.{batch_by}
 use Rattle.plant_tables_columns.specs.Booked.{movement_from}

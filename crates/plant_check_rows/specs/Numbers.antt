@@ -1,9 +1,6 @@
 -- Movements, events, batches and holds whose number or moment breaks a rule.
 use Rattle.std.specs.Prelude.{ℕ, nat_le, List, [], ◌∷◌, Option, Some, None}
-use Rattle.plant_base.specs.declared.rows.BatchEvent.{BatchEvent}
-use Rattle.plant_base.specs.declared.rows.BatchRow.{BatchRow}
-use Rattle.plant_base.specs.declared.rows.Hold.{Hold}
-use Rattle.plant_base.specs.declared.rows.Movement.{Movement}
+use Rattle.plant_base.specs.{BatchEvent, BatchRow, Hold, Movement}
 use Rattle.plant_stock.specs.Stock.{comes_from}
 use Rattle.plant_check_stock.specs.Numbering.{is_given, is_next_line, is_apart, is_entered_before}
 use Rattle.plant_check_stock.specs.Times.{row_mark_of, row_mark_of_event, is_no_later}

@@ -1,14 +1,7 @@
 -- Definitions, orders, batches and their lines that break a rule.
 use Rattle.std.specs.Prelude.{◌==◌, List, length, map, filter, Option, Some, None}
 use Rattle.plant_base.specs.State.{same}
-use Rattle.plant_base.specs.declared.rows.BatchRow.{BatchRow}
-use Rattle.plant_base.specs.declared.rows.Class.{Class}
-use Rattle.plant_base.specs.declared.rows.ControlLine.{ControlLine}
-use Rattle.plant_base.specs.declared.rows.Definition.{Definition}
-use Rattle.plant_base.specs.declared.rows.Job.{Job}
-use Rattle.plant_base.specs.declared.rows.MasterLine.{MasterLine}
-use Rattle.plant_base.specs.declared.rows.Recipe.{Recipe}
-use Rattle.plant_base.specs.declared.states.JobState.{JobState}
+use Rattle.plant_base.specs.{BatchRow, Class, ControlLine, Definition, Job, JobState, MasterLine, Recipe}
 use Rattle.plant_base.specs.declared.states.JobState.TheVariants.{Open, Cancelled, Released, Finished}
 use Rattle.plant_view.specs.Production.{is_size_of_recipe, control_among, job_among}
 use Rattle.plant_check_plans.specs.Batches.{control_asked_for, is_control, is_row_among}

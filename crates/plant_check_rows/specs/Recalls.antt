@@ -1,7 +1,6 @@
 -- Recalls that break a rule.
 use Rattle.std.specs.Prelude.{ℕ, List, Option, is_some}
-use Rattle.plant_base.specs.declared.rows.Lot.{Lot}
-use Rattle.plant_base.specs.declared.rows.Recall.{Recall}
+use Rattle.plant_base.specs.{Lot, Recall}
 use Rattle.plant_tables_columns.specs.StatedRecalls.{recall_from}
 use Rattle.plant_tables_columns.specs.declared.recalls.StatedRecall.{StatedRecall}
 use Rattle.plant_check_stock.specs.Movements.{lot_among}

@@ -1,7 +1,7 @@
 -- Receipts that break a rule.
 use Rattle.std.specs.Prelude.{ℕ, ◌==◌, List, length, filter, Option}
 use Rattle.plant_base.specs.Content.{is_content}
-use Rattle.plant_base.specs.declared.rows.Receipt.{Receipt}
+use Rattle.plant_base.specs.{Receipt}
 use Rattle.plant_check_stock.specs.Numbering.{is_given}
 use Rattle.plant_check_stock.specs.Receipts.{seqs_of}
 use Rattle.plant_check_rows.specs.Keys.{id_key}

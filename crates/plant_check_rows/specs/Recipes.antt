@@ -1,10 +1,6 @@
 -- Recipes and their lines that break a rule.
 use Rattle.std.specs.Prelude.{List, map, Option}
-use Rattle.plant_base.specs.declared.rows.Definition.{Definition}
-use Rattle.plant_base.specs.declared.rows.Header.{Header}
-use Rattle.plant_base.specs.declared.rows.MasterLine.{MasterLine}
-use Rattle.plant_base.specs.declared.rows.Recipe.{Recipe}
-use Rattle.plant_base.specs.declared.rows.RecipeLine.{RecipeLine}
+use Rattle.plant_base.specs.{Definition, Header, MasterLine, Recipe, RecipeLine}
 use Rattle.plant_base.specs.declared.rows.RecipeLine.TheVariants as line
 use Rattle.plant_recipe.specs.WellFormed.{is_well_formed}
 use Rattle.plant_view.specs.Production.{is_defined, is_known, rows_among, lines_among}

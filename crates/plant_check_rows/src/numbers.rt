@@ -1,7 +1,6 @@
 //! Movements, events, batches and holds whose number or moment breaks a rule.
 ghost use Rattle.std.specs.Prelude.{◌≡◌, List, false, IfOk, IfSome, None};
-ghost use Rattle.plant_base.specs.declared.rows.BatchEvent.{BatchEvent as BatchEventRow};
-ghost use Rattle.plant_base.specs.declared.rows.Movement.{Movement as MovementRow};
+ghost use Rattle.plant_base.specs.{BatchEvent as BatchEventRow, Movement as MovementRow};
 ghost use Rattle.plant_check_stock.specs.Times.{is_no_later, never_fall, row_marks};
 ghost use Rattle.plant_check_rows.specs.Numbers.{event_as, event_fall_fault, event_fall_fault_in, fall_fault};
 ghost use Rattle.plant_check_rows.specs.Numbers.{fall_fault_in, late_fault_in, line_fault, line_fault_in};

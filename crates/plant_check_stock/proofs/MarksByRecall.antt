@@ -6,8 +6,7 @@ use Rattle.std.proofs.lemmas.Bool.{false≢true, false_from_ne_true}
 use Rattle.std.proofs.lemmas.Grind.{flat_map-append}
 use Rattle.std.proofs.lemmas.List.Elements.{Contains-append_cases, Contains-append_left, Contains-push}
 use Rattle.plant_base.specs.Recalls.{is_open, mark_order, mark_eq, mark_ties, mark_total}
-use Rattle.plant_base.specs.declared.rows.Mark.{Mark}
-use Rattle.plant_base.specs.declared.rows.Recall.{Recall}
+use Rattle.plant_base.specs.{Mark, Recall}
 use Rattle.plant_trace.specs.Reach.{Lists}
 use Rattle.plant_trace.specs.Recalls.{IsRecalled}
 use Rattle.plant_trace.specs.declared.node.Node.{Node}

@@ -1,8 +1,7 @@
 -- The numbers of movements and events.
 use Rattle.std.specs.Prelude.{ℕ, ◌+◌, Bool, true, not, ◌&&◌, ◌==◌, nat_le, nat_lt, if◌then◌else◌, List, [], ◌∷◌, Option, Some, None}
 use Rattle.std.specs.List.{list_any, list_all}
-use Rattle.plant_base.specs.declared.rows.BatchEvent.{BatchEvent}
-use Rattle.plant_base.specs.declared.rows.Movement.{Movement}
+use Rattle.plant_base.specs.{BatchEvent, Movement}
 use Rattle.plant_stock.specs.Stock.{comes_from, entries, are_one_merge}
 
 -- the number of an accepted command

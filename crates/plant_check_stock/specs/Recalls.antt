@@ -1,9 +1,7 @@
 -- The lots and the moments of recalls.
 use Rattle.std.specs.Prelude.{ℕ, Bool, true, ◌&&◌, nat_le, List, Option, Some, None, is_some}
 use Rattle.std.specs.List.{list_all}
-use Rattle.plant_base.specs.declared.rows.Lifting.{Lifting}
-use Rattle.plant_base.specs.declared.rows.Lot.{Lot}
-use Rattle.plant_base.specs.declared.rows.Recall.{Recall}
+use Rattle.plant_base.specs.{Lifting, Lot, Recall}
 use Rattle.plant_check_stock.specs.Movements.{lot_among}
 
 -- where it was lifted, that is no earlier than the recall itself and no later than the desk's moment

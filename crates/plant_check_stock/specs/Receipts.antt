@@ -2,7 +2,7 @@
 use Rattle.std.specs.Prelude.{ℕ, Bool, true, not, ◌&&◌, ◌==◌, List, [], ◌∷◌, map}
 use Rattle.std.specs.List.{list_all, list_any}
 use Rattle.plant_base.specs.Content.{is_content}
-use Rattle.plant_base.specs.declared.rows.Receipt.{Receipt}
+use Rattle.plant_base.specs.{Receipt}
 use Rattle.plant_check_stock.specs.Numbering.{is_given}
 
 -- the number is that of an accepted command, and the content is made of what contents are made of

@@ -3,7 +3,7 @@
 ghost use Rattle.std.specs.Prelude.{◌≡◌, ◌∷◌, ◌++◌, [], List, IfOk, OnOk, map};
 ghost use Rattle.std.specs.List.{list_any};
 ghost use Rattle.plant_base.specs.Recalls.{is_open, mark_order};
-ghost use Rattle.plant_base.specs.declared.rows.Recall.{Recall};
+ghost use Rattle.plant_base.specs.{Recall};
 ghost use Rattle.plant_trace.specs.Reach.{Lists};
 ghost use Rattle.plant_trace.specs.Recalls.{IsRecalled};
 ghost use Rattle.plant_view.specs.Recalls.{mark_on, marks};

@@ -4,12 +4,8 @@ use Rattle.std.specs.Prelude.{◌↔◌, ◌&&◌, ◌||◌, not, nat_le, if◌t
 use Rattle.std.specs.List.{list_any, list_all}
 use Rattle.std.proofs.lemmas.Bool.{false≢true, and_from}
 use Rattle.plant_base.specs.WellFormedCommands.{is_well_formed_command, are_parts, are_apart, has_sublot, has_numbers, are_orders, is_version, is_same_sublot}
-use Rattle.plant_base.specs.declared.command.Command.{Command}
+use Rattle.plant_base.specs.{Command, Header, OrderRow, Part, RecipeLine}
 use Rattle.plant_base.specs.declared.command.Command.TheVariants as body
-use Rattle.plant_base.specs.declared.command.Part.{Part}
-use Rattle.plant_base.specs.declared.rows.Header.{Header}
-use Rattle.plant_base.specs.declared.rows.OrderRow.{OrderRow}
-use Rattle.plant_base.specs.declared.rows.RecipeLine.{RecipeLine}
 use Rattle.plant_recipe.specs.WellFormed.{has_allowed_length, has_size_range, has_phase, has_product, has_no_repeats, all_fit, repeats, fits, is_well_formed}
 use Rattle.plant_rules.specs.Wrong.{is_whole}
 use Rattle.plant_command_errors.specs.CommandErrors.{index_of, one_more, pair_of, pair_with, unless, first_of, parts_again, lines_again, too_much, parts_error, orders_error, lines_error, amounts_error, recipe_error, list_error, command_error_of}

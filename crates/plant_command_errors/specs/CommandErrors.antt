@@ -2,12 +2,8 @@
 use Rattle.std.specs.Prelude.{ℕ, ◌+◌, ◌&&◌, List, [], ◌∷◌, ◌++◌, length, Bool, not, nat_le, if◌then◌else◌, codes, decimal, Option, Some, None}
 use Rattle.plant_base.specs.Values.{greatest_amount}
 use Rattle.plant_base.specs.WellFormedCommands.{is_well_formed_command, is_same_sublot}
-use Rattle.plant_base.specs.declared.command.Command.{Command}
+use Rattle.plant_base.specs.{Command, Header, OrderRow, Part, RecipeLine}
 use Rattle.plant_base.specs.declared.command.Command.TheVariants as body
-use Rattle.plant_base.specs.declared.command.Part.{Part}
-use Rattle.plant_base.specs.declared.rows.Header.{Header}
-use Rattle.plant_base.specs.declared.rows.OrderRow.{OrderRow}
-use Rattle.plant_base.specs.declared.rows.RecipeLine.{RecipeLine}
 use Rattle.plant_recipe.specs.WellFormed.{greatest_lines, has_allowed_length, has_size_range, has_phase, has_product, repeats, fits}
 use Rattle.plant_command_errors.specs.declared.command_errors.CommandError.{CommandError}
 use Rattle.plant_command_errors.specs.declared.command_errors.CommandError.TheVariants as command_error

@@ -8,10 +8,8 @@ use Rattle.plant_base.specs.Content.{content_of}
 use Rattle.plant_base.specs.WellFormedCommands.{stamp_of}
 use Rattle.plant_base.proofs.PutKeepsOrder.{found_put, found_same}
 use Rattle.plant_base.proofs.KeyOrders.{same_itself, same_id, id_tie}
-use Rattle.plant_base.specs.declared.rows.Receipt.{Receipt}
-use Rattle.plant_base.specs.declared.refusal.Refusal.{Refusal}
+use Rattle.plant_base.specs.{Envelope, Receipt, Refusal}
 use Rattle.plant_base.specs.declared.refusal.Refusal.TheVariants.{BadForm, MomentBack}
-use Rattle.plant_base.specs.declared.command.Envelope.{Envelope}
 use Rattle.plant_view.specs.Refusals.{refuse}
 use Rattle.plant_rules.specs.Wrong.{is_whole, wrong, wrong_plain, wrong_there, kept_among, kept_for, decoded}
 use Rattle.plant_rules.specs.Step.{step, step_body, step_plain, unless_refused, noted, taken}

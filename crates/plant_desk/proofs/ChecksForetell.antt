@@ -1,9 +1,7 @@
 -- A check says what the command would be answered.
 use Rattle.std.proofs.Common.{◌≡◌, ℕ, Option, Some, None, refl}
 use Rattle.plant_base.specs.State.{State}
-use Rattle.plant_base.specs.declared.command.Command.{Command}
-use Rattle.plant_base.specs.declared.command.Envelope.{Envelope}
-use Rattle.plant_base.specs.declared.refusal.Refusal.{Refusal}
+use Rattle.plant_base.specs.{Command, Envelope, Refusal}
 use Rattle.plant_rules.specs.Wrong.{wrong, kept_for}
 use Rattle.plant_rules.specs.Step.{step}
 use Rattle.plant_causes.specs.Causes.{checked, checked_by}

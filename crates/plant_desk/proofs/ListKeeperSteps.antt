@@ -3,13 +3,11 @@ use Rattle.std.proofs.Common.{◌≡◌, ◌∙◌, ℕ, Option, Some, None, Res
 use Rattle.std.specs.Prelude.{not, if◌then◌else◌}
 use Rattle.plant_base.specs.State.{State}
 use Rattle.plant_base.specs.WellFormedCommands.{HasValues}
-use Rattle.plant_base.specs.declared.command.Envelope.{Envelope}
-use Rattle.plant_base.specs.declared.refusal.Refusal.{Refusal}
+use Rattle.plant_base.specs.{Envelope, Receipt, Refusal}
 use Rattle.plant_view.specs.DecisionInvariant.{DecisionInvariant}
 use Rattle.plant_base.specs.Content.{content_of}
 use Rattle.plant_base.specs.State.{same}
 use Rattle.plant_base.proofs.KeyOrders.{same_itself}
-use Rattle.plant_base.specs.declared.rows.Receipt.{Receipt}
 use Rattle.plant_base.specs.declared.refusal.Refusal.TheVariants.{BadForm, RefReused}
 use Rattle.plant_view.specs.Refusals.{refuse}
 use Rattle.plant_rules.specs.Step.{step, unless_refused, taken, IsRepeated}

@@ -4,7 +4,7 @@ use Rattle.std.specs.Prelude.{cond}
 use Rattle.std.proofs.lemmas.List.{append-nil, map-append}
 use Rattle.std.proofs.lemmas.List.Elements.{filter_more}
 use Rattle.plant_base.specs.State.{same}
-use Rattle.plant_base.specs.declared.rows.BatchEvent.{BatchEvent}
+use Rattle.plant_base.specs.{BatchEvent}
 use Rattle.plant_recipe.specs.Progress.{progress_after, turn_or_stay}
 use Rattle.plant_recipe.proofs.EventFold.{progress_after_push}
 use Rattle.plant_view.specs.Tables.{events_among}

@@ -5,7 +5,7 @@ use Rattle.std.specs.List.{list_any}
 use Rattle.std.proofs.lemmas.Bool.{false≢true, or_cases, or_left, or_right}
 use Rattle.std.proofs.lemmas.List.Folds.{Any-from_list_any, list_any-from_Any}
 use Rattle.plant_base.specs.Recalls.{is_open}
-use Rattle.plant_base.specs.declared.rows.Recall.{Recall}
+use Rattle.plant_base.specs.{Recall}
 use Rattle.plant_trace.specs.Nodes.{node_eq}
 use Rattle.plant_trace.specs.Reach.{Lists, IsReached}
 use Rattle.plant_trace.specs.Recalls.{is_recalled}

@@ -1,8 +1,7 @@
 -- That a check says what the command would be answered.
 use Rattle.std.specs.Prelude.{◌≡◌, Option, Some, None}
 use Rattle.plant_base.specs.State.{State}
-use Rattle.plant_base.specs.declared.command.Envelope.{Envelope}
-use Rattle.plant_base.specs.declared.refusal.Refusal.{Refusal}
+use Rattle.plant_base.specs.{Envelope, Refusal}
 use Rattle.plant_causes.specs.Causes.{checked}
 use Rattle.plant_causes.specs.declared.checking.Checked.{Checked}
 use Rattle.plant_causes.specs.declared.checking.Checked.TheVariants as check

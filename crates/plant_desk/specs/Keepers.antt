@@ -1,7 +1,7 @@
 -- What a keeper does.
 use Rattle.std.specs.Prelude.{◌≡◌, ℕ, Bool, true, false, ◌⊎◌, Result, Ok, Err}
 use Rattle.plant_base.specs.State.{State}
-use Rattle.plant_base.specs.declared.command.Envelope.{Envelope}
+use Rattle.plant_base.specs.{Envelope}
 use Rattle.plant_rules.specs.Step.{step}
 use Rattle.plant_causes.specs.Causes.{checked}
 use Rattle.plant_causes.specs.declared.checking.Checked.{Checked}

@@ -1,7 +1,7 @@
 -- Sendings: commands that are sent, answered or stopped, and sent again.
 use Rattle.std.specs.Prelude.{◌≡◌, List, [], ◌∷◌, IsSome, ⊤}
 use Rattle.plant_base.specs.State.{State}
-use Rattle.plant_base.specs.declared.command.Envelope.{Envelope}
+use Rattle.plant_base.specs.{Envelope}
 use Rattle.plant_rules.specs.Step.{step}
 
 -- how a command that was sent ended: it was answered, or the desk was stopped, before it acted or after that

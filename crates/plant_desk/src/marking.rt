@@ -3,7 +3,7 @@ ghost use Rattle.std.specs.Prelude.{◌≡◌, IfOk, map, filter};
 ghost use Rattle.std.specs.List.{list_any};
 ghost use Rattle.plant_base.specs.Recalls.{is_open};
 ghost use Rattle.plant_trace.specs.Nodes.{node_eq};
-ghost use Rattle.plant_trace.specs.HoldsIfHonest.{HoldsIfHonest};
+ghost use Rattle.plant_trace.specs.ReadOnly.{ReadOnly};
 ghost use Rattle.plant_view.specs.Recalls.{mark_on, recalls_on};
 ghost use Rattle.plant_desk.specs.Marking.{reaches_by};
 
@@ -20,7 +20,7 @@ pub(crate) fn marks_on<E: Edges>(
     recalls: &[Recall],
     node: Node,
 ) -> Result<Vec<Mark>, TraceFault<E::Fault>>
-    ensures { HoldsIfHonest E.honest E.kept E.frame edges.old edges.new
+    ensures { ReadOnly E.Edges edges.old edges.new
         (IfOk result (λ rows. rows.items ≡ map (λ r. mark_on r.id node)
         (recalls_on recalls.now (E.pairs edges.old) node))) }
 {

@@ -5,7 +5,7 @@ use Rattle.sqlite.specs.State as store
 use Rattle.sqlite.specs.State.{HasCleanDisk}
 use Rattle.plant_base.specs.State.{State, newest_schema}
 use Rattle.sql_tables.proofs.TransactionEnds.{IsStore}
-use Rattle.plant_base.specs.declared.command.Envelope.{Envelope}
+use Rattle.plant_base.specs.{Envelope}
 use Rattle.plant_causes.specs.declared.checking.Checked.{Checked}
 use Rattle.plant_desk.specs.Keepers.{Checks, Asks}
 use Rattle.plant_messages.specs.declared.question.Question.{Question}

@@ -6,8 +6,7 @@ use Rattle.plant_base.specs.State.{State}
 use Rattle.sql_tables.proofs.TransactionEnds.{IsStore}
 use Rattle.plant_base.specs.Content.{content_of}
 use Rattle.plant_base.specs.WellFormedCommands.{stamp_of}
-use Rattle.plant_base.specs.declared.command.Envelope.{Envelope}
-use Rattle.plant_base.specs.declared.refusal.Refusal.{Refusal}
+use Rattle.plant_base.specs.{Envelope, Refusal}
 use Rattle.plant_view.specs.declared.change.Decision.{Decision}
 use Rattle.plant_view.specs.declared.change.Decision.TheVariants as decision
 use Rattle.plant_rules.specs.Step.{step, step_body, noted, IsRepeated, IsDecision}

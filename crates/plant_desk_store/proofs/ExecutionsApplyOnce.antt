@@ -2,7 +2,7 @@
 use Rattle.std.proofs.Common.{◌≡◌, ◌∙◌, List, [], ◌∷◌, refl, sym, ap, subst, inl, inr}
 use Rattle.sqlite_trees.specs.declared.store.Store.{Ghosts}
 use Rattle.plant_base.specs.State.{State}
-use Rattle.plant_base.specs.declared.command.Envelope.{Envelope}
+use Rattle.plant_base.specs.{Envelope}
 use Rattle.plant_rules.specs.Step.{step}
 use Rattle.plant_desk.specs.AppliedOnce.{once, plain, but_receipts}
 use Rattle.plant_desk.specs.Sendings.{answered, stopped_before, stopped_after, Sending, answered_of, BeginsWith, IsPersistent}

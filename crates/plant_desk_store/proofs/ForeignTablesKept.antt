@@ -13,7 +13,7 @@ use Rattle.sql_tables.specs.CrashStates.{IsSettled}
 use Rattle.sql_tables.proofs.WritesInTurn.{others_then}
 use Rattle.plant_tables.specs.DeskTableDefs.{desk_table_defs}
 use Rattle.plant_tables.specs.DeskCrashStates.{IsAt, FindsTables, FailureLeaves}
-use Rattle.plant_base.specs.declared.command.Envelope.{Envelope}
+use Rattle.plant_base.specs.{Envelope}
 use Rattle.plant_base.specs.State.{State}
 use Rattle.plant_desk.specs.Keepers.{shuts}
 use Rattle.plant_messages.specs.declared.reply.Reply.{Reply}

@@ -2,7 +2,7 @@
 use Rattle.std.proofs.Common.{Bool, List, length, take, Option, None, Some}
 use Rattle.sqlite.specs.State as store
 use Rattle.plant_base.specs.State.{State}
-use Rattle.plant_base.specs.declared.command.Envelope.{Envelope}
+use Rattle.plant_base.specs.{Envelope}
 use Rattle.plant_view.proofs.LotsAreBalanced.{balanced}
 use Rattle.plant_view.proofs.StockIsConserved.{conserved}
 use Rattle.plant_invariant.specs.StateInvariant.{StateInvariant}

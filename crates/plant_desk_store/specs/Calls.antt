@@ -5,7 +5,7 @@ use Rattle.sqlite.specs.Effect.{Database}
 use Rattle.sqlite.specs.State as store
 use Rattle.sqlite.specs.State.{HasCleanDisk, Survives}
 use Rattle.plant_base.specs.State.{State, newest_schema}
-use Rattle.plant_base.specs.declared.command.Envelope.{Envelope}
+use Rattle.plant_base.specs.{Envelope}
 use Rattle.plant_trace.specs.Reach.{IsAcyclic}
 use Rattle.plant_view.specs.Conservation.{IsConserved, IsBalanced}
 use Rattle.plant_view.specs.Genealogy.{edges_of}

@@ -5,7 +5,7 @@ use Rattle.sqlite.specs.Tree.{Trees}
 use Rattle.sqlite.specs.Effect.{Database, IsDatabase}
 use Rattle.plant_base.specs.Recalls.{mark_order}
 use Rattle.plant_base.specs.State.{State, opening, newest_schema}
-use Rattle.plant_base.specs.declared.rows.Mark.{Mark}
+use Rattle.plant_base.specs.{Mark}
 use Rattle.plant_view.specs.Genealogy.{edges_of}
 use Rattle.plant_view.specs.Recalls.{Reaches, node_of}
 use Rattle.plant_view.specs.Tables.{tables_of}

@@ -6,7 +6,7 @@ use Rattle.sqlite.specs.Effect.{Database}
 use Rattle.sqlite.specs.State as store
 use Rattle.sqlite_catalog.specs.Listing.{IsSound}
 use Rattle.plant_base.specs.State.{State, newest_schema}
-use Rattle.plant_base.specs.declared.command.Envelope.{Envelope}
+use Rattle.plant_base.specs.{Envelope}
 use Rattle.plant_view.specs.Tables.{tables_of, IsWholeIn}
 use Rattle.plant_rules.specs.Step.{step}
 use Rattle.plant_invariant.specs.StateInvariant.{StateInvariant}

@@ -8,7 +8,7 @@ use Rattle.sqlite.specs.State as store
 use Rattle.sqlite.specs.State.{HasCleanDisk}
 use Rattle.sqlite_trees.specs.declared.store.Store.{Ghosts}
 use Rattle.plant_base.specs.State.{State, opening, newest_schema, same, lot_at}
-use Rattle.plant_base.specs.declared.rows.Sublot.{Sublot}
+use Rattle.plant_base.specs.{Envelope, Sublot}
 use Rattle.plant_stock.specs.Stock.{entered, left, born_of, left_of}
 use Rattle.plant_trace.specs.Reach.{IsReached, Lists}
 use Rattle.plant_trace.specs.declared.direction.Direction.{Direction}
@@ -19,7 +19,6 @@ use Rattle.plant_invariant.specs.StateInvariant.{StateInvariant}
 use Rattle.sql_tables.specs.StoredRows.{AreFree}
 use Rattle.plant_tables.specs.DeskTableDefs.{desk_table_defs}
 use Rattle.plant_tables.specs.Keyed.{HoldsTablesOf, HoldsTables}
-use Rattle.plant_base.specs.declared.command.Envelope.{Envelope}
 use Rattle.plant_causes.specs.Causes.{checked}
 use Rattle.plant_causes.specs.declared.checking.Checked.{Checked}
 use Rattle.plant_answers.specs.AnswerLaws.{StandsFrom, standing_order}

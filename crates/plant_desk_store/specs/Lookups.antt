@@ -1,8 +1,7 @@
 -- What is decided by look-ups over a store.
 use Rattle.std.specs.Prelude.{◌≡◌, Some, None}
 use Rattle.plant_base.specs.State.{State}
-use Rattle.plant_base.specs.declared.command.Envelope.{Envelope}
-use Rattle.plant_base.specs.declared.rows.Receipt.{Receipt}
+use Rattle.plant_base.specs.{Envelope, Receipt}
 use Rattle.plant_rules.specs.Step.{IsDecision}
 use Rattle.plant_rules.specs.Wrong.{wrong, kept_for}
 use Rattle.plant_desk_store.specs.declared.lookups.Decided.{Decided}

@@ -6,7 +6,7 @@ use Rattle.sqlite.specs.State as store
 use Rattle.sqlite.specs.State.{HasCleanDisk, IsUnchanged, Survives}
 use Rattle.plant_base.specs.State.{State, opening, newest_schema}
 use Rattle.plant_base.specs.Values.{greatest_seq}
-use Rattle.plant_base.specs.declared.command.Envelope.{Envelope}
+use Rattle.plant_base.specs.{Envelope}
 use Rattle.plant_view.specs.OneBatch.{PutsOneBatch}
 use Rattle.plant_view.specs.Tables.{tables_of, changed_all}
 use Rattle.plant_view.specs.declared.change.RowChange.{RowChange}

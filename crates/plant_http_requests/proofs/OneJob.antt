@@ -5,7 +5,7 @@ use Rattle.std.specs.Result.{result_ok}
 use Rattle.std.specs.Bool.{MatchBool}
 use Rattle.httparse.specs.Grammar.{RequestHead}
 use Rattle.httparse.proofs.GrammarLemmas.{request_unique}
-use Rattle.plant_base.specs.declared.rows.OrderRow.{OrderRow}
+use Rattle.plant_base.specs.{Envelope, OrderRow}
 use Rattle.plant_orders.specs.Orders.{FailsAs}
 use Rattle.plant_orders.specs.declared.fault.CsvFault.{CsvFault}
 use Rattle.plant_orders.specs.declared.fault.CsvKind.{CsvKind}
@@ -20,7 +20,6 @@ use Rattle.plant_http_requests.specs.declared.reading.HeadEnd.TheVariants as end
 use Rattle.plant_http_requests.specs.HeadEnd.{end_of_head}
 use Rattle.plant_http_requests.specs.Heads.{field_lines, Parsed}
 use Rattle.plant_http_requests.specs.Steps.{fails}
-use Rattle.plant_base.specs.declared.command.Envelope.{Envelope}
 use Rattle.plant_message_schema.specs.declared.format_errors.FormatError.{FormatError}
 use Rattle.plant_text_commands.specs.declared.checks.ToCheck.TheVariants as to_check
 use Rattle.plant_text.specs.Lines.{line_says}

@@ -4,7 +4,7 @@ use Rattle.std.specs.Char.{to_ascii_lowercase}
 use Rattle.plant_base.specs.Options.{◌>>=◌}
 use Rattle.plant_base.specs.Digits.{digits_of}
 use Rattle.plant_base.specs.Values.{is_id, is_moment, is_text, only}
-use Rattle.plant_base.specs.declared.command.Stamp.{Stamp}
+use Rattle.plant_base.specs.{Stamp}
 use Rattle.plant_orders.specs.declared.importing.ImportMetadata.{ImportMetadata}
 
 -- names and values, in their order

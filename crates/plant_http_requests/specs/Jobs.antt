@@ -3,7 +3,7 @@ use Rattle.std.specs.Prelude.{◌≡◌, ℕ, ◌<◌, Bool, true, false, nat_lt
 use Rattle.std.specs.Bool.{MatchBool}
 use Rattle.httparse.specs.Grammar.{RequestHead}
 use Rattle.httparse.specs.Spans.{name_and_value}
-use Rattle.plant_base.specs.declared.rows.OrderRow.{OrderRow}
+use Rattle.plant_base.specs.{OrderRow}
 use Rattle.plant_orders.specs.Importing.{import}
 use Rattle.plant_orders.specs.Orders.{orders_of}
 use Rattle.plant_orders.specs.declared.fault.CsvFault.{CsvFault}

@@ -1,12 +1,8 @@
 -- Batches keep to their control recipes after one more command.
 use Rattle.std.proofs.Common.{◌≡◌, ◌∙◌, ℕ, true, false, List, is_some, ap}
 use Rattle.plant_base.specs.State.{State, same, put, lot_order, control_line_order, lot_at}
-use Rattle.plant_base.specs.declared.rows.RecipeLine.{RecipeLine}
-use Rattle.plant_base.specs.declared.rows.ControlLine.{ControlLine}
-use Rattle.plant_base.specs.declared.rows.Lot.{Lot}
-use Rattle.plant_base.specs.declared.rows.MovementKind.{MovementKind}
+use Rattle.plant_base.specs.{ControlLine, Lot, Movement, MovementKind, RecipeLine}
 use Rattle.plant_base.specs.declared.rows.MovementKind.TheVariants as kind
-use Rattle.plant_base.specs.declared.rows.Movement.{Movement}
 use Rattle.plant_stock.specs.Stock.{goes_to, comes_from}
 use Rattle.plant_view.specs.Genealogy.{batch_by, IsBatchThere}
 use Rattle.plant_view.specs.Production.{control_line, control_among, is_batch_among}

@@ -7,10 +7,7 @@ use Rattle.plant_base.specs.Values.{is_id, is_moment, greatest_seq}
 use Rattle.plant_base.specs.WellFormedCommands.{is_version, HasLineValues}
 use Rattle.plant_base.specs.RowValues.{HasClassValues, HasDefinitionValues, HasLotValues, HasHoldValues}
 use Rattle.plant_base.specs.State.{State, same, batch_at}
-use Rattle.plant_base.specs.declared.rows.Header.{Header}
-use Rattle.plant_base.specs.declared.rows.MasterLine.{MasterLine}
-use Rattle.plant_base.specs.declared.rows.Batch.{Batch}
-use Rattle.plant_base.specs.declared.rows.ControlLine.{ControlLine}
+use Rattle.plant_base.specs.{Batch, ControlLine, Header, MasterLine}
 use Rattle.plant_base.proofs.FindIsFirst.{found_passes, found_keeps}
 use Rattle.plant_base.proofs.KeyOrders.{same_id, same_key, same_itself, key_itself}
 use Rattle.plant_view.specs.Production.{headers_of, header_among, rows_among, IsWholeRecipe, orders_of, control_among, IsConsistentBatch, is_batch_among}

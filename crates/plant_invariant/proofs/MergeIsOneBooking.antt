@@ -4,11 +4,8 @@ use Rattle.std.specs.List.{AllByRecursion}
 use Rattle.plant_base.specs.Values.{is_id}
 use Rattle.plant_base.specs.WellFormedCommands.{HasPartValues}
 use Rattle.plant_base.specs.State.{State, put, lot_order, place_at}
-use Rattle.plant_base.specs.declared.rows.Lot.{Lot}
+use Rattle.plant_base.specs.{Lot, Movement, Part, Stamp}
 use Rattle.plant_base.specs.declared.rows.MovementKind.TheVariants.{Merged}
-use Rattle.plant_base.specs.declared.rows.Movement.{Movement}
-use Rattle.plant_base.specs.declared.command.Stamp.{Stamp}
-use Rattle.plant_base.specs.declared.command.Part.{Part}
 use Rattle.plant_base.proofs.KeyOrders.{same_itself}
 use Rattle.plant_stock.specs.Stock.{comes_from, are_one_merge, is_one_source, greatest_parts}
 use Rattle.plant_view.specs.DecisionInvariant.{IsThere}

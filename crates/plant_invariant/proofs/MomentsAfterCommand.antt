@@ -2,11 +2,7 @@
 use Rattle.std.proofs.Common.{◌≡◌, ℕ, ◌+◌, ◌≤◌, List, [], ◌∷◌, ◌++◌, map, sym, subst, arith}
 use Rattle.std.specs.List.{AllByRecursion}
 use Rattle.std.proofs.lemmas.List.{map-append}
-use Rattle.plant_base.specs.declared.rows.Position.{Position}
-use Rattle.plant_base.specs.declared.rows.Batch.{Batch}
-use Rattle.plant_base.specs.declared.rows.BatchEvent.{BatchEvent}
-use Rattle.plant_base.specs.declared.rows.Movement.{Movement}
-use Rattle.plant_base.specs.declared.rows.Hold.{Hold}
+use Rattle.plant_base.specs.{Batch, BatchEvent, Hold, Movement, Position}
 use Rattle.plant_base.proofs.PutKeepsOrder.{all_weaker}
 use Rattle.plant_view.proofs.CommandsPreserveInvariant.{all_two}
 use Rattle.plant_view.proofs.RowsInTurn.{all_mapped}

@@ -7,8 +7,7 @@ use Rattle.std.specs.Ordering.{nat_cmp, ordering_then}
 use Rattle.std.specs.declared.cmp.Ordering.TheVariants.{Less}
 use Rattle.std.proofs.lemmas.Cmp.{tied_itself, nat_cmp_total}
 use Rattle.std.proofs.lemmas.Bool.{false≢true, eqb-true}
-use Rattle.plant_base.specs.declared.rows.BatchEvent.{BatchEvent}
-use Rattle.plant_base.specs.declared.rows.Movement.{Movement}
+use Rattle.plant_base.specs.{BatchEvent, Movement}
 use Rattle.plant_base.proofs.PutKeepsOrder.{all_weaker, all_push}
 use Rattle.plant_stock.specs.Stock.{goes_to, comes_from, is_sublot_key}
 use Rattle.plant_view.proofs.CommandsPreserveInvariant.{all_two}

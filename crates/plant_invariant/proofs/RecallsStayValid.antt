@@ -2,10 +2,7 @@
 use Rattle.std.proofs.Common.{◌≡◌, ◌∙◌, ◌≤◌, ℕ, false, List, Option, Some, None, find, is_some, refl, ap, arith}
 use Rattle.plant_base.specs.RowValues.{HasLiftingValues}
 use Rattle.plant_base.specs.State.{State, same, put, lot_order, recall_order, lot_at}
-use Rattle.plant_base.specs.declared.command.Stamp.{Stamp}
-use Rattle.plant_base.specs.declared.rows.Lifting.{Lifting}
-use Rattle.plant_base.specs.declared.rows.Lot.{Lot}
-use Rattle.plant_base.specs.declared.rows.Recall.{Recall}
+use Rattle.plant_base.specs.{Lifting, Lot, Recall, Stamp}
 use Rattle.plant_base.proofs.FindIsFirst.{found_keeps}
 use Rattle.plant_base.proofs.PutKeepsOrder.{all_weaker, all_put}
 use Rattle.plant_view.specs.DecisionInvariant.{DecisionInvariant}

@@ -9,7 +9,7 @@ use Rattle.std.specs.declared.cmp.Ordering.TheVariants.{Less, Equal, Greater}
 use Rattle.std.proofs.lemmas.Bool.Decides.{nat_tests}
 use Rattle.plant_base.specs.Content.{content_of}
 use Rattle.plant_base.specs.State.{put, receipt_order}
-use Rattle.plant_base.specs.declared.rows.Receipt.{Receipt}
+use Rattle.plant_base.specs.{Receipt}
 use Rattle.plant_base.proofs.PutKeepsOrder.{all_weaker, all_put, sorted_put}
 use Rattle.plant_base.proofs.KeyOrders.{id_total}
 use Rattle.plant_base.proofs.ContentIsInjective.{content_written}

@@ -8,22 +8,12 @@ use Rattle.std.proofs.lemmas.List.Elements.{recursion_from_All}
 use Rattle.plant_base.specs.Values.{is_id}
 use Rattle.plant_base.specs.State.{State, opening, same, put, class_order, definition_order, batch_order, lot_order, hold_order, receipt_order, recall_order, control_lines_of, definition_at, lot_at, place_at, batch_at, job_at, recall_at}
 use Rattle.plant_base.specs.WellFormedCommands.{HasValues, HasBodyValues, HasPartValues, is_phase_number, are_parts, stamp_of}
-use Rattle.plant_base.specs.declared.refusal.Refusal.{Refusal}
+use Rattle.plant_base.specs.{Batch, Class, Command, Definition, Envelope, Hold, Lot, Part, Place, Receipt, Refusal, Stamp}
 use Rattle.plant_base.specs.declared.refusal.Refusal.TheVariants.{BadForm, MomentBack}
 use Rattle.plant_base.specs.declared.states.Word.TheVariants.{Done}
 use Rattle.plant_base.specs.declared.states.Event.TheVariants as event
-use Rattle.plant_base.specs.declared.rows.Class.{Class}
-use Rattle.plant_base.specs.declared.rows.Definition.{Definition}
-use Rattle.plant_base.specs.declared.rows.Batch.{Batch}
-use Rattle.plant_base.specs.declared.rows.Lot.{Lot}
-use Rattle.plant_base.specs.declared.rows.Place.{Place}
-use Rattle.plant_base.specs.declared.rows.Hold.{Hold}
 use Rattle.plant_base.specs.declared.rows.MovementKind.TheVariants as kind
-use Rattle.plant_base.specs.declared.command.Part.{Part}
-use Rattle.plant_base.specs.declared.command.Stamp.{Stamp}
-use Rattle.plant_base.specs.declared.command.Command.{Command}
 use Rattle.plant_base.specs.declared.command.Command.TheVariants as body
-use Rattle.plant_base.specs.declared.command.Envelope.{Envelope}
 use Rattle.plant_base.proofs.FindIsFirst.{found_keeps}
 use Rattle.plant_base.proofs.PutKeepsOrder.{all_weaker, all_put, found_new}
 use Rattle.plant_base.proofs.KeyOrders.{same_itself}
@@ -43,7 +33,6 @@ use Rattle.plant_rules.specs.Recalling.{opened, with_lifted}
 use Rattle.plant_rules.specs.Splitting.{def_of}
 use Rattle.plant_rules.specs.Merging.{def_at, def_of_parts, part_lines}
 use Rattle.plant_base.specs.Content.{content_of}
-use Rattle.plant_base.specs.declared.rows.Receipt.{Receipt}
 use Rattle.plant_rules.specs.Wrong.{is_whole, wrong, wrong_body, wrong_there, decoded, kept_for}
 use Rattle.plant_rules.specs.Step.{step, step_body, unless_refused, noted, taken}
 use Rattle.plant_rules.proofs.NextSublotNumber.{next_free}

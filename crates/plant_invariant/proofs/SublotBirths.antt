@@ -8,9 +8,7 @@ use Rattle.std.proofs.lemmas.Cmp.{tied_itself, nat_list_cmp_total, nat_list_eq_e
 use Rattle.std.proofs.lemmas.List.{map-append}
 use Rattle.std.proofs.Math.Nat.{le-max_left, le-max_right}
 use Rattle.plant_base.specs.State.{State, same, put, id_cmp, lot_order, place_order, lot_at, place_at}
-use Rattle.plant_base.specs.declared.rows.Lot.{Lot}
-use Rattle.plant_base.specs.declared.rows.Place.{Place}
-use Rattle.plant_base.specs.declared.rows.Movement.{Movement}
+use Rattle.plant_base.specs.{Lot, Movement, Place}
 use Rattle.plant_base.proofs.PutKeepsOrder.{all_weaker, all_put}
 use Rattle.plant_base.proofs.KeyOrders.{same_id, same_itself, key_itself, same_key_tie, test_tie, place_order_total, place_tie}
 use Rattle.plant_stock.specs.Stock.{goes_to, is_sublot_key, entries}

@@ -3,9 +3,7 @@ use Rattle.std.specs.Prelude.{◌≡◌, ℕ, ◌≤◌, true, List, Option, Som
 use Rattle.std.specs.List.{AllByRecursion}
 use Rattle.plant_base.specs.RowValues.{HasRecallValues}
 use Rattle.plant_base.specs.State.{same}
-use Rattle.plant_base.specs.declared.rows.Lifting.{Lifting}
-use Rattle.plant_base.specs.declared.rows.Lot.{Lot}
-use Rattle.plant_base.specs.declared.rows.Recall.{Recall}
+use Rattle.plant_base.specs.{Lifting, Lot, Recall}
 
 -- where it was lifted, that is no earlier than the recall itself and no later than the desk's moment
 abbrev pub IsLiftedBetween : ℕ → ℕ → Option Lifting → Type 0

@@ -6,8 +6,7 @@ use Rattle.plant_base.specs.Values.{is_id}
 use Rattle.plant_base.specs.WellFormedCommands.{HasValues}
 use Rattle.plant_base.specs.Content.{is_content, content_of}
 use Rattle.plant_base.specs.State.{put, receipt_order}
-use Rattle.plant_base.specs.declared.rows.Receipt.{Receipt}
-use Rattle.plant_base.specs.declared.command.Envelope.{Envelope}
+use Rattle.plant_base.specs.{Envelope, Receipt}
 
 pub record HasReceiptValues (r : Receipt) : Type 0 where
   pub reference : is_id r.reference ≡ true

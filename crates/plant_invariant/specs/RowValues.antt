@@ -5,13 +5,8 @@ use Rattle.plant_base.specs.Values.{is_id, is_text, is_amount, is_moment, greate
 use Rattle.plant_base.specs.WellFormedCommands.{is_version, HasLineValues}
 use Rattle.plant_base.specs.RowValues.{HasClassValues, HasDefinitionValues, HasPhaseNumber, HasLotValues, HasHoldValues}
 use Rattle.plant_base.specs.State.{State}
-use Rattle.plant_base.specs.declared.rows.MasterLine.{MasterLine}
-use Rattle.plant_base.specs.declared.rows.ControlLine.{ControlLine}
-use Rattle.plant_base.specs.declared.rows.BatchEvent.{BatchEvent}
-use Rattle.plant_base.specs.declared.rows.Place.{Place}
-use Rattle.plant_base.specs.declared.rows.MovementKind.{MovementKind}
+use Rattle.plant_base.specs.{BatchEvent, ControlLine, MasterLine, Movement, MovementKind, Place}
 use Rattle.plant_base.specs.declared.rows.MovementKind.TheVariants as kind
-use Rattle.plant_base.specs.declared.rows.Movement.{Movement}
 
 pub record HasMasterValues (l : MasterLine) : Type 0 where
   pub recipe : is_id l.recipe ≡ true

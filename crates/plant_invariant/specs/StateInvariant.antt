@@ -1,7 +1,7 @@
 -- The states that commands lead to, with all that holds of their rows.
 use Rattle.plant_base.specs.State.{State, opening, newest_schema}
 use Rattle.plant_base.specs.WellFormedCommands.{HasValues}
-use Rattle.plant_base.specs.declared.command.Envelope.{Envelope}
+use Rattle.plant_base.specs.{Envelope}
 use Rattle.plant_view.specs.DecisionInvariant.{DecisionInvariant}
 use Rattle.plant_view.specs.Tables.{tables_of}
 use Rattle.plant_rules.specs.Step.{step}

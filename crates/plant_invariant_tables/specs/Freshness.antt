@@ -2,7 +2,7 @@
 use Rattle.std.specs.Prelude.{◌≡◌, ℕ, true, List}
 use Rattle.plant_base.specs.State.{State, newest_schema}
 use Rattle.plant_base.specs.WellFormedCommands.{HasValues}
-use Rattle.plant_base.specs.declared.command.Envelope.{Envelope}
+use Rattle.plant_base.specs.{Envelope}
 use Rattle.plant_view.specs.OneBatch.{puts_one_batch}
 use Rattle.plant_view.specs.Tables.{tables_of, changed_all}
 use Rattle.plant_view.specs.declared.change.RowChange.{RowChange}

@@ -7,10 +7,8 @@ use Rattle.std.proofs.lemmas.List.Elements.{All-contains, All-contains_itself, A
 use Rattle.plant_base.specs.Edges.{edge_kind_number, edge_order, edge_total}
 use Rattle.plant_base.specs.State.{same}
 use Rattle.plant_base.proofs.KeyOrders.{same_itself}
-use Rattle.plant_base.specs.declared.rows.EdgeKind.{EdgeKind}
+use Rattle.plant_base.specs.{EdgeKind, EdgeRow, Movement}
 use Rattle.plant_base.specs.declared.rows.EdgeKind.TheVariants.{LotToBatch}
-use Rattle.plant_base.specs.declared.rows.EdgeRow.{EdgeRow}
-use Rattle.plant_base.specs.declared.rows.Movement.{Movement}
 use Rattle.plant_base.proofs.EdgeIsItsKey.{one_edge}
 use Rattle.plant_view.proofs.MappedContains.{mapped_in, filtered_in, come}
 use Rattle.plant_tables_columns.proofs.OptionalValues.{some_same}

@@ -13,24 +13,7 @@ use Rattle.plant_base.specs.Edges.{edge_kind_number, edge_order}
 use Rattle.plant_base.specs.Recalls.{mark_kind_number, mark_order}
 use Rattle.plant_base.specs.RowValues.{HasClassValues, HasDefinitionValues, HasLotValues, HasHoldValues, HasRecallValues}
 use Rattle.plant_base.specs.State.{State, newest_schema, same, class_order, definition_order, recipe_order, master_line_order, job_order, control_line_order, event_order, lot_order, movement_order, hold_order, receipt_order, recall_order, class_at, definition_at, recipe_at, master_lines_of, job_at, batch_at, batch_of, control_lines_of, lot_at, place_at, hold_at, receipt_at, recall_at}
-use Rattle.plant_base.specs.declared.rows.Meta.{Meta}
-use Rattle.plant_base.specs.declared.rows.Class.{Class}
-use Rattle.plant_base.specs.declared.rows.Definition.{Definition}
-use Rattle.plant_base.specs.declared.rows.Recipe.{Recipe}
-use Rattle.plant_base.specs.declared.rows.MasterLine.{MasterLine}
-use Rattle.plant_base.specs.declared.rows.Job.{Job}
-use Rattle.plant_base.specs.declared.rows.BatchRow.{BatchRow}
-use Rattle.plant_base.specs.declared.rows.ControlLine.{ControlLine}
-use Rattle.plant_base.specs.declared.rows.BatchEvent.{BatchEvent}
-use Rattle.plant_base.specs.declared.rows.Lot.{Lot}
-use Rattle.plant_base.specs.declared.rows.Sublot.{Sublot}
-use Rattle.plant_base.specs.declared.rows.Movement.{Movement}
-use Rattle.plant_base.specs.declared.rows.Hold.{Hold}
-use Rattle.plant_base.specs.declared.rows.EdgeRow.{EdgeRow}
-use Rattle.plant_base.specs.declared.rows.Receipt.{Receipt}
-use Rattle.plant_base.specs.declared.rows.Recall.{Recall}
-use Rattle.plant_base.specs.declared.rows.Mark.{Mark}
-use Rattle.plant_base.specs.declared.rows.MarkKind.{MarkKind}
+use Rattle.plant_base.specs.{BatchEvent, BatchRow, Class, ControlLine, Definition, EdgeRow, Hold, Job, Lot, Mark, MarkKind, MasterLine, Meta, Movement, Recall, Receipt, Recipe, Sublot}
 use Rattle.plant_view.specs.Genealogy.{edge_rows, edges_of}
 use Rattle.plant_view.specs.Recalls.{node_at, is_on, marks_on}
 use Rattle.plant_view.specs.Refusals.{holds_of}

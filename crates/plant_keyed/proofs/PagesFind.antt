@@ -16,17 +16,7 @@ use Rattle.sqlite_value.proofs.OrderLemmas.{value_cmp-Int, value_cmp-Text}
 use Rattle.plant_base.specs.RowValues.{HasClassValues, HasDefinitionValues, HasLotValues, HasHoldValues, HasRecallValues}
 use Rattle.plant_base.specs.State.{State, newest_schema, id_cmp, same, class_order, definition_order, job_order, lot_order, hold_order, recall_order}
 use Rattle.plant_base.specs.Words.{job_state_name}
-use Rattle.plant_base.specs.declared.rows.BatchRow.{BatchRow}
-use Rattle.plant_base.specs.declared.rows.Class.{Class}
-use Rattle.plant_base.specs.declared.rows.Definition.{Definition}
-use Rattle.plant_base.specs.declared.rows.Hold.{Hold}
-use Rattle.plant_base.specs.declared.rows.Job.{Job}
-use Rattle.plant_base.specs.declared.rows.Lifting.{Lifting}
-use Rattle.plant_base.specs.declared.rows.Lot.{Lot}
-use Rattle.plant_base.specs.declared.rows.Recall.{Recall}
-use Rattle.plant_base.specs.declared.rows.Receipt.{Receipt}
-use Rattle.plant_base.specs.declared.rows.Sublot.{Sublot}
-use Rattle.plant_base.specs.declared.states.JobState.{JobState}
+use Rattle.plant_base.specs.{BatchRow, Class, Definition, Hold, Job, JobState, Lifting, Lot, Recall, Receipt, Sublot}
 use Rattle.plant_base.proofs.PutKeepsOrder.{all_weaker}
 use Rattle.plant_view.specs.Tables.{Tables, tables_of, batch_row_order, sublot_order}
 use Rattle.plant_invariant.specs.Receipts.{AreApart}

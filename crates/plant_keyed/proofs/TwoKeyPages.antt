@@ -17,13 +17,8 @@ use Rattle.sqlite_value.specs.Order.{value_cmp}
 use Rattle.sqlite_value.proofs.OrderLemmas.{value_cmp-Text}
 use Rattle.plant_base.specs.State.{State, newest_schema, id_cmp, same, recipe_order, movement_order, job_order}
 use Rattle.plant_base.specs.Words.{recipe_state_name, job_state_name}
-use Rattle.plant_base.specs.declared.rows.Job.{Job}
-use Rattle.plant_base.specs.declared.rows.Movement.{Movement}
-use Rattle.plant_base.specs.declared.rows.MovementKind.{MovementKind}
+use Rattle.plant_base.specs.{Job, JobState, Movement, MovementKind, Recipe, RecipeState}
 use Rattle.plant_base.specs.declared.rows.MovementKind.TheVariants as kind
-use Rattle.plant_base.specs.declared.rows.Recipe.{Recipe}
-use Rattle.plant_base.specs.declared.states.JobState.{JobState}
-use Rattle.plant_base.specs.declared.states.RecipeState.{RecipeState}
 use Rattle.plant_view.specs.Tables.{tables_of}
 use Rattle.plant_view.specs.Views.{is_named}
 use Rattle.plant_view.proofs.RowKeys.{recipe_order_total}

@@ -3,8 +3,7 @@ use Rattle.std.specs.Prelude.{◌≡◌, ◌⊎◌, ◌↔◌, ◌==◌, ◌&&�
 use Rattle.std.specs.List.Sorted.{IsSortedByKey}
 use Rattle.plant_base.specs.Edges.{edge_kind_number}
 use Rattle.plant_base.specs.State.{same}
-use Rattle.plant_base.specs.declared.rows.EdgeKind.{EdgeKind}
-use Rattle.plant_base.specs.declared.rows.EdgeRow.{EdgeRow}
+use Rattle.plant_base.specs.{EdgeKind, EdgeRow}
 use Rattle.plant_trace.specs.Nodes.{node_cmp}
 use Rattle.plant_trace.specs.Turned.{turned}
 use Rattle.plant_trace.specs.declared.direction.Direction.{Direction}

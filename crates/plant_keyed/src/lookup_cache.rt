@@ -1,7 +1,7 @@
 //! What lookups over one connection remember.
 
 ghost use Rattle.std.specs.Prelude.{◌≡◌, false, Some, None};
-ghost use Rattle.plant_base.specs.declared.rows.Position.{Position as Known};
+ghost use Rattle.plant_base.specs.{Position as Known};
 
 use crate::edge_cache::EdgeCache;
 use plant_base::Position;

@@ -1,8 +1,6 @@
 -- What the typed values of members are.
 use Rattle.std.specs.Prelude.{⊤, ℕ, List, [], ◌∷◌, Bool, true, false, Option, Some, None}
-use Rattle.plant_base.specs.declared.states.JobState.{JobState}
-use Rattle.plant_base.specs.declared.states.RecipeState.{RecipeState}
-use Rattle.plant_base.specs.declared.states.Word.{Word}
+use Rattle.plant_base.specs.{JobState, RecipeState, Word}
 use Rattle.plant_worklists.specs.declared.cursors.DueCursor.{DueCursor}
 use Rattle.plant_worklists.specs.declared.cursors.HoldCursor.{HoldCursor}
 use Rattle.plant_worklists.specs.declared.cursors.MovementCursor.{MovementCursor}

@@ -6,10 +6,7 @@ use Rattle.std.specs.Prelude.{if◌then◌else◌}
 use Rattle.std.specs.List.{filter_map, cons_option}
 use Rattle.plant_base.specs.Edges.{edge_order}
 use Rattle.plant_base.specs.State.{State, newest_schema, put}
-use Rattle.plant_base.specs.declared.rows.EdgeRow.{EdgeRow}
-use Rattle.plant_base.specs.declared.rows.Movement.{Movement}
-use Rattle.plant_base.specs.declared.rows.Receipt.{Receipt}
-use Rattle.plant_base.specs.declared.rows.Recall.{Recall}
+use Rattle.plant_base.specs.{EdgeRow, Movement, Recall, Receipt}
 use Rattle.plant_view.specs.Genealogy.{edge_row_of, edges_among}
 use Rattle.plant_view.specs.Recalls.{marks}
 use Rattle.plant_view.specs.Rows.{put_all}

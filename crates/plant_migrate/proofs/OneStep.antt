@@ -6,7 +6,7 @@ use Rattle.sqlite.specs.State as store
 use Rattle.sqlite.specs.State.{HasCleanDisk, Survives}
 use Rattle.sqlite.proofs.StateLemmas.{survives_then}
 use Rattle.plant_base.specs.State.{newest_schema}
-use Rattle.plant_base.specs.declared.rows.Position.{Position}
+use Rattle.plant_base.specs.{Position}
 use Rattle.plant_view.specs.Tables.{Tables}
 use Rattle.plant_view.specs.declared.change.RowChange.{RowChange}
 use Rattle.sql_tables.specs.StoredRows.{AreFree, KeepsOtherTables}

@@ -6,9 +6,7 @@ use Rattle.std.specs.List.{filter_map, cons_option}
 use Rattle.sqlite.specs.Effect.{Database}
 use Rattle.plant_base.specs.Edges.{edge_order}
 use Rattle.plant_base.specs.State.{put}
-use Rattle.plant_base.specs.declared.rows.EdgeRow.{EdgeRow}
-use Rattle.plant_base.specs.declared.rows.Meta.{Meta}
-use Rattle.plant_base.specs.declared.rows.Position.{Position}
+use Rattle.plant_base.specs.{EdgeRow, Meta, Position}
 use Rattle.plant_view.specs.Tables.{Tables, changed, changed_all}
 use Rattle.plant_view.specs.declared.change.RowChange.{RowChange}
 use Rattle.plant_view.specs.declared.change.RowChange.TheVariants as change

@@ -7,7 +7,7 @@ use Rattle.sqlite.specs.Order.{Row}
 use Rattle.sqlite.specs.Tree.{Trees}
 use Rattle.sqlite.specs.State as store
 use Rattle.plant_base.specs.State.{State}
-use Rattle.plant_base.specs.declared.rows.Meta.{Meta}
+use Rattle.plant_base.specs.{Meta}
 use Rattle.plant_view.specs.Tables.{tables_of, position_of}
 use Rattle.sql_tables.specs.StoredRows.{KeepsOtherTables}
 use Rattle.sql_tables.specs.CrashStates.{IsSettled}

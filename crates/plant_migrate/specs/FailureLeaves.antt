@@ -5,8 +5,7 @@ use Rattle.sqlite.specs.Tree.{Trees}
 use Rattle.sqlite.specs.Effect.{Database}
 use Rattle.sqlite.specs.State as store
 use Rattle.plant_base.specs.State.{State}
-use Rattle.plant_base.specs.declared.rows.Meta.{Meta}
-use Rattle.plant_base.specs.declared.rows.Position.{Position}
+use Rattle.plant_base.specs.{Meta, Position}
 use Rattle.plant_view.specs.Tables.{tables_of, IsWholeIn}
 use Rattle.sql_tables.specs.StoredRows.{KeepsOtherTables}
 use Rattle.plant_tables.specs.DeskTableDefs.{desk_table_defs, meta_table}

@@ -1,8 +1,7 @@
 -- The changes that raise tables of a schema to the next, and what becomes of the tables.
 use Rattle.std.specs.Prelude.{◌≡◌, ℕ, zero, suc, ◌+◌, ◌==◌, List, [], Option, option_map, option_and_then, if◌then◌else◌}
 use Rattle.std.specs.List.{AllByRecursion, filter_map}
-use Rattle.plant_base.specs.declared.rows.EdgeRow.{EdgeRow}
-use Rattle.plant_base.specs.declared.rows.Position.{Position}
+use Rattle.plant_base.specs.{EdgeRow, Position}
 use Rattle.plant_view.specs.Genealogy.{edge_row_of}
 use Rattle.plant_view.specs.Tables.{Tables, changed_all}
 use Rattle.plant_view.specs.declared.change.RowChange.{RowChange}

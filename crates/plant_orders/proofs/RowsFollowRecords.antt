@@ -17,7 +17,7 @@ use Rattle.plant_orders.specs.Orders.{◌>>=◌, fault, id_of, due_of, order_of,
 use Rattle.plant_base.specs.Values.{greatest_amount, greatest_version, greatest_priority}
 use Rattle.plant_orders.specs.Numbers.{bounded}
 use Rattle.plant_orders.specs.ReaderPosition.{ReaderIsAt, GaveNext}
-use Rattle.plant_base.specs.declared.rows.OrderRow.{OrderRow}
+use Rattle.plant_base.specs.{OrderRow}
 use Rattle.plant_orders.specs.declared.fault.CsvFault.{CsvFault}
 use Rattle.plant_orders.specs.declared.fault.CsvKind.{CsvKind}
 use Rattle.plant_orders.specs.declared.fault.CsvKind.TheVariants as kind

@@ -4,7 +4,7 @@ use Rattle.csv.specs.Records.{field_at}
 use Rattle.csv.specs.Reading.{default_config, strip_bom, records_from}
 use Rattle.csv.specs.declared.parser.State.TheVariants as st
 use Rattle.plant_base.specs.Values.{greatest_amount, greatest_version, greatest_priority}
-use Rattle.plant_base.specs.declared.rows.OrderRow.{OrderRow}
+use Rattle.plant_base.specs.{OrderRow}
 use Rattle.plant_orders.specs.Numbers.{bounded}
 use Rattle.plant_orders.specs.Orders.{fault, id_of, due_of, order_of, is_header}
 use Rattle.plant_orders.specs.declared.fault.CsvKind.{CsvKind}

@@ -1,8 +1,7 @@
 -- The command that takes the orders of a file.
 use Rattle.std.specs.Prelude.{List}
 use Rattle.plant_base.specs.declared.command.Command.TheVariants.{ImportOrders}
-use Rattle.plant_base.specs.declared.command.Envelope.{Envelope}
-use Rattle.plant_base.specs.declared.rows.OrderRow.{OrderRow}
+use Rattle.plant_base.specs.{Envelope, OrderRow}
 use Rattle.plant_orders.specs.declared.importing.ImportMetadata.{ImportMetadata}
 
 -- one command that takes all orders of a file

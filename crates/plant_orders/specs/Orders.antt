@@ -7,7 +7,7 @@ use Rattle.csv.specs.declared.error.ErrorKind.{ErrorKind}
 use Rattle.csv.specs.declared.parser.State.TheVariants as st
 use Rattle.plant_base.specs.Values.{is_id, greatest_amount, greatest_version, greatest_priority}
 use Rattle.plant_base.specs.Dates.{is_due}
-use Rattle.plant_base.specs.declared.rows.OrderRow.{OrderRow}
+use Rattle.plant_base.specs.{OrderRow}
 use Rattle.plant_orders.specs.Numbers.{bounded}
 use Rattle.plant_orders.specs.declared.fault.CsvKind.{CsvKind}
 use Rattle.plant_orders.specs.declared.fault.CsvKind.TheVariants as kind

@@ -9,13 +9,10 @@ use Rattle.std.proofs.lemmas.List.{at_drop_more}
 use Rattle.std.proofs.lemmas.List.Elements.{All-contains}
 use Rattle.std.proofs.lemmas.List.Sums.{fold_push, fold-append, AllPass-from_list_all}
 use Rattle.std.proofs.lemmas.List.Folds.{fold_along, fold_stays}
-use Rattle.plant_base.specs.declared.states.BatchState.{BatchState}
+use Rattle.plant_base.specs.{BatchState, Event, Refusal, Word}
 use Rattle.plant_base.specs.declared.states.BatchState.TheVariants.{Complete}
-use Rattle.plant_base.specs.declared.states.Word.{Word}
 use Rattle.plant_base.specs.declared.states.Word.TheVariants.{Done}
-use Rattle.plant_base.specs.declared.states.Event.{Event}
 use Rattle.plant_base.specs.declared.states.Event.TheVariants.{Moved, PhaseDone, Closed}
-use Rattle.plant_base.specs.declared.refusal.Refusal.{Refusal}
 use Rattle.plant_base.specs.declared.refusal.Refusal.TheVariants.{PhasesLeft, NotNextPhase, BatchClosed, WrongState, TooMany, NotFinished}
 use Rattle.plant_recipe.specs.declared.progress.Progress.{Progress}
 use Rattle.plant_recipe.specs.StateTable.{Row, state_table, next_state_of}

@@ -11,8 +11,7 @@ use Rattle.std.proofs.lemmas.List.Sums.{sum_by-cons}
 use Rattle.plant_base.specs.Values.{greatest_amount}
 use Rattle.plant_base.specs.State.{same}
 use Rattle.plant_base.proofs.KeyOrders.{same_id}
-use Rattle.plant_base.specs.declared.rows.Header.{Header}
-use Rattle.plant_base.specs.declared.rows.RecipeLine.{RecipeLine}
+use Rattle.plant_base.specs.{Header, RecipeLine}
 use Rattle.plant_base.specs.declared.rows.RecipeLine.TheVariants.{In, Out, Parameter, Phase}
 use Rattle.plant_recipe.specs.Scaling.{scaled_of, RisesWithSize, KeepsAtBase}
 use Rattle.plant_recipe.specs.WellFormed.{repeats, has_no_repeats, fits, all_fit, is_in_of, is_out_of, is_parameter_of, is_phase, has_allowed_length, has_size_range, has_phase, has_product, is_well_formed, phases_of, greatest_lines, OccursOnceIfWellFormed, HasPhasesIfWellFormed}

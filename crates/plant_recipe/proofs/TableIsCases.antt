@@ -3,9 +3,8 @@ use Rattle.std.proofs.Common.{◌≡◌, ◌∙◌, ℕ, ◌<◌, Some, refl, ap
 use Rattle.std.specs.Prelude.{Contains, slice_index_or}
 use Rattle.std.specs.List.{AllByRecursion}
 use Rattle.std.proofs.lemmas.List.Elements.{All-contains, All-from_recursion}
-use Rattle.plant_base.specs.declared.states.BatchState.{BatchState}
+use Rattle.plant_base.specs.{BatchState, Word}
 use Rattle.plant_base.specs.declared.states.BatchState.TheVariants.{Idle, Running, Complete, Pausing, Paused, Holding, Held, Restarting, Stopping, Stopped, Aborting, Aborted}
-use Rattle.plant_base.specs.declared.states.Word.{Word}
 use Rattle.plant_base.specs.declared.states.Word.TheVariants.{Start, Stop, Hold, Restart, Abort, Reset, Pause, Resume, Done}
 use Rattle.plant_recipe.specs.StateTable.{Row, state_table, next_state_of, IsWholeTable}
 

@@ -1,8 +1,7 @@
 -- Control recipes: copies of master recipes, scaled to a size.
 use Rattle.std.specs.Prelude.{◌≡◌, ℕ, length, Bool, false, ◌&&◌, ◌==◌, nat_le, if◌then◌else◌, List, map, Option, Some, None}
 use Rattle.std.specs.List.{list_any}
-use Rattle.plant_base.specs.declared.rows.Header.{Header}
-use Rattle.plant_base.specs.declared.rows.RecipeLine.{RecipeLine}
+use Rattle.plant_base.specs.{Header, RecipeLine}
 use Rattle.plant_base.specs.declared.rows.RecipeLine.TheVariants.{In, Out, Parameter, Phase}
 use Rattle.plant_recipe.specs.WellFormed.{phases_of}
 use Rattle.plant_recipe.specs.Scaling.{scaled_of}

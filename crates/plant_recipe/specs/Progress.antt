@@ -1,13 +1,10 @@
 -- The progress of a batch: the fold of its events.
 use Rattle.std.specs.Prelude.{◌≡◌, ℕ, ◌+◌, ◌≤◌, Bool, true, false, ◌&&◌, ◌==◌, not, nat_le, if◌then◌else◌, List, ◌++◌, fold, Option, Some, None, Result, Ok, Err, IsErr, IsTrue}
 use Rattle.std.specs.Result.{result_ok, result_unwrap_or}
-use Rattle.plant_base.specs.declared.states.BatchState.{BatchState}
+use Rattle.plant_base.specs.{BatchState, Event, Refusal, Word}
 use Rattle.plant_base.specs.declared.states.BatchState.TheVariants.{Idle, Running, Complete, Stopped, Aborted}
-use Rattle.plant_base.specs.declared.states.Word.{Word}
 use Rattle.plant_base.specs.declared.states.Word.TheVariants.{Reset, Done}
-use Rattle.plant_base.specs.declared.states.Event.{Event}
 use Rattle.plant_base.specs.declared.states.Event.TheVariants.{Moved, PhaseDone, Closed}
-use Rattle.plant_base.specs.declared.refusal.Refusal.{Refusal}
 use Rattle.plant_base.specs.declared.refusal.Refusal.TheVariants.{BadMove, PhasesLeft, NotNextPhase, BatchClosed, WrongState, TooMany, NotFinished}
 use Rattle.plant_recipe.specs.declared.progress.Progress.{Progress}
 use Rattle.plant_recipe.specs.StateTable.{next_state_of}

@@ -1,9 +1,8 @@
 -- The state table of a batch. It is the desk's own, after the example of procedural states and commands of IEC 61512-1.
 -- `Done` is the ending of a state without a command.
 use Rattle.std.specs.Prelude.{◌≡◌, ◌↔◌, List, [], ◌∷◌, Option, Some, None, Contains}
-use Rattle.plant_base.specs.declared.states.BatchState.{BatchState}
+use Rattle.plant_base.specs.{BatchState, Word}
 use Rattle.plant_base.specs.declared.states.BatchState.TheVariants.{Idle, Running, Complete, Pausing, Paused, Holding, Held, Restarting, Stopping, Stopped, Aborting, Aborted}
-use Rattle.plant_base.specs.declared.states.Word.{Word}
 use Rattle.plant_base.specs.declared.states.Word.TheVariants.{Start, Stop, Hold, Restart, Abort, Reset, Pause, Resume, Done}
 
 -- a row says that from a state a word leads to a state

@@ -4,10 +4,8 @@ use Rattle.std.proofs.lemmas.Bool.{false≢true}
 use Rattle.std.proofs.lemmas.Bool.Decides.{nat_tests}
 use Rattle.plant_base.specs.Values.{greatest_seq}
 use Rattle.plant_base.specs.State.{State, lot_at, place_at}
-use Rattle.plant_base.specs.declared.refusal.Refusal.{Refusal}
-use Rattle.plant_base.specs.declared.command.Command.{Command}
+use Rattle.plant_base.specs.{Command, Part, Refusal}
 use Rattle.plant_base.specs.declared.command.Command.TheVariants as body
-use Rattle.plant_base.specs.declared.command.Part.{Part}
 use Rattle.plant_recipe.specs.declared.progress.Progress.{Progress}
 use Rattle.plant_view.specs.Refusals.{refuse, at_limit}
 use Rattle.plant_rules_production.specs.Batches.{refuse_turn}

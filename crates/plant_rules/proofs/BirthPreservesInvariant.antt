@@ -4,15 +4,8 @@ use Rattle.std.specs.Prelude.{◌==◌, ◌&&◌}
 use Rattle.std.specs.List.{AllByRecursion}
 use Rattle.plant_base.specs.Values.{greatest_amount, greatest_sublot}
 use Rattle.plant_base.specs.State.{State, same, put, lot_order, place_order, definition_at, batch_at, lot_at}
-use Rattle.plant_base.specs.declared.rows.Hold.{Hold}
-use Rattle.plant_base.specs.declared.rows.Lot.{Lot}
-use Rattle.plant_base.specs.declared.rows.Place.{Place}
-use Rattle.plant_base.specs.declared.rows.Movement.{Movement}
-use Rattle.plant_base.specs.declared.rows.MovementKind.{MovementKind}
+use Rattle.plant_base.specs.{Hold, Lot, Movement, MovementKind, Place, Produce, Receive, Stamp}
 use Rattle.plant_base.specs.declared.rows.MovementKind.TheVariants.{Received, Produced}
-use Rattle.plant_base.specs.declared.command.Stamp.{Stamp}
-use Rattle.plant_base.specs.declared.command.Receive.{Receive}
-use Rattle.plant_base.specs.declared.command.Produce.{Produce}
 use Rattle.plant_base.proofs.PutKeepsOrder.{all_put, all_weaker, sorted_put, found_put}
 use Rattle.plant_base.proofs.KeyOrders.{same_itself, key_itself, lot_order_total, place_order_total}
 use Rattle.plant_stock.specs.Stock.{entered, left, goes_to, comes_from, is_sublot_key, entering, leaving}

@@ -1,11 +1,8 @@
 -- The rows of a new lot make the tables of the next state.
 use Rattle.std.proofs.Common.{◌≡◌, ◌∙◌, ℕ, ◌+◌, ◌-◌, false, cond, List, Some, None, [], ◌∷◌, ◌++◌, map, is_some, refl, sym, ap, arith}
 use Rattle.plant_base.specs.State.{State, put, newest_schema, place_order, lot_at}
-use Rattle.plant_base.specs.declared.rows.MovementKind.{MovementKind}
+use Rattle.plant_base.specs.{Mark, Movement, MovementKind, Place, Produce, Recall, Stamp}
 use Rattle.plant_base.specs.declared.rows.MovementKind.TheVariants.{Received, Produced}
-use Rattle.plant_base.specs.declared.rows.Place.{Place}
-use Rattle.plant_base.specs.declared.rows.Movement.{Movement}
-use Rattle.plant_base.specs.declared.command.Stamp.{Stamp}
 use Rattle.plant_base.proofs.KeyOrders.{key_itself}
 use Rattle.plant_stock.specs.Stock.{goes_to, comes_from, is_sublot_key, entered, left, entering, leaving}
 use Rattle.plant_stock.proofs.StockAfterMovement.{entered_push, left_push}
@@ -15,9 +12,6 @@ use Rattle.plant_rules.specs.Receipt.{born_as}
 use Rattle.plant_view.specs.DecisionInvariant.{DecisionInvariant}
 use Rattle.plant_view.specs.Tables.{sublot_order, sublot_row, tables_of, changed_all}
 use Rattle.plant_base.specs.Recalls.{mark_order}
-use Rattle.plant_base.specs.declared.rows.Mark.{Mark}
-use Rattle.plant_base.specs.declared.rows.Recall.{Recall}
-use Rattle.plant_base.specs.declared.command.Produce.{Produce}
 use Rattle.plant_trace.specs.declared.node.Node.TheVariants as node
 use Rattle.plant_view.specs.Genealogy.{edges_of}
 use Rattle.plant_view.specs.Recalls.{mark_on, marks, marks_on, recalls_on}

@@ -3,12 +3,7 @@ use Rattle.std.proofs.Common.{◌≡◌, ℕ, List, find, is_some, true}
 use Rattle.std.specs.List.{AllByRecursion}
 use Rattle.std.specs.List.Sorted.{IsStrictlySortedBy}
 use Rattle.plant_base.specs.State.{State, same, class_order, definition_order, class_at}
-use Rattle.plant_base.specs.declared.rows.Class.{Class}
-use Rattle.plant_base.specs.declared.rows.Definition.{Definition}
-use Rattle.plant_base.specs.declared.rows.Lot.{Lot}
-use Rattle.plant_base.specs.declared.command.Stamp.{Stamp}
-use Rattle.plant_base.specs.declared.command.AddClass.{AddClass}
-use Rattle.plant_base.specs.declared.command.AddDefinition.{AddDefinition}
+use Rattle.plant_base.specs.{AddClass, AddDefinition, Class, Definition, Lot, Stamp}
 use Rattle.plant_base.proofs.PutKeepsOrder.{all_put, all_weaker, sorted_put}
 use Rattle.plant_base.proofs.KeyOrders.{id_total, id_still}
 use Rattle.plant_rules.specs.Catalogue.{add_class, add_definition}

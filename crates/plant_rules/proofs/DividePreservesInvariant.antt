@@ -3,11 +3,8 @@ use Rattle.std.proofs.Common.{◌≡◌, ◌≤◌, true, Some, is_some, refl, a
 use Rattle.std.specs.Prelude.{◌==◌, ◌&&◌}
 use Rattle.plant_base.specs.Values.{greatest_amount, greatest_sublot}
 use Rattle.plant_base.specs.State.{State, same, place_order, lot_at, place_at}
-use Rattle.plant_base.specs.declared.rows.Place.{Place}
-use Rattle.plant_base.specs.declared.rows.Movement.{Movement}
+use Rattle.plant_base.specs.{Divide, Movement, Place, Stamp}
 use Rattle.plant_base.specs.declared.rows.MovementKind.TheVariants.{Divided}
-use Rattle.plant_base.specs.declared.command.Stamp.{Stamp}
-use Rattle.plant_base.specs.declared.command.Divide.{Divide}
 use Rattle.plant_base.proofs.PutKeepsOrder.{all_put, all_push, all_weaker, sorted_put, found_put}
 use Rattle.plant_base.proofs.KeyOrders.{key_itself, place_order_total}
 use Rattle.plant_stock.proofs.StockAfterMovement.{entered_push, left_push}

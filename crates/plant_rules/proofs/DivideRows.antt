@@ -3,13 +3,8 @@ use Rattle.std.proofs.Common.{sym, ◌≡◌, ◌∙◌, ℕ, ◌-◌, false, co
 use Rattle.std.specs.Prelude.{◌==◌, ◌&&◌}
 use Rattle.std.specs.List.{AllByRecursion}
 use Rattle.plant_base.specs.State.{State, same, put, newest_schema, place_order, place_at}
-use Rattle.plant_base.specs.declared.rows.MovementKind.{MovementKind}
+use Rattle.plant_base.specs.{Divide, Movement, MovementKind, Place, Stamp, Sublot}
 use Rattle.plant_base.specs.declared.rows.MovementKind.TheVariants.{Divided}
-use Rattle.plant_base.specs.declared.rows.Place.{Place}
-use Rattle.plant_base.specs.declared.rows.Sublot.{Sublot}
-use Rattle.plant_base.specs.declared.rows.Movement.{Movement}
-use Rattle.plant_base.specs.declared.command.Stamp.{Stamp}
-use Rattle.plant_base.specs.declared.command.Divide.{Divide}
 use Rattle.plant_base.proofs.KeyOrders.{key_itself, place_order_total, test_tie}
 use Rattle.plant_base.proofs.PutKeepsOrder.{all_weaker, put_there}
 use Rattle.plant_base.proofs.FindIsFirst.{found_keeps}

@@ -1,7 +1,6 @@
 -- What the addition of a movement's edge makes of the tables.
 use Rattle.std.proofs.Common.{◌≡◌, List, [], ◌∷◌, ◌++◌, Option, Some, None, refl}
-use Rattle.plant_base.specs.declared.rows.EdgeRow.{EdgeRow}
-use Rattle.plant_base.specs.declared.rows.Movement.{Movement}
+use Rattle.plant_base.specs.{EdgeRow, Movement}
 use Rattle.plant_view.specs.Genealogy.{edge_row_of}
 use Rattle.plant_view.specs.Tables.{Tables, changed, changed_all}
 use Rattle.plant_view.specs.declared.change.RowChange.{RowChange}

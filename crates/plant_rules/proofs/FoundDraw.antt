@@ -2,7 +2,7 @@
 use Rattle.std.proofs.Common.{◌≡◌, ℕ, List, Option, Some, None, is_some, sym, ap}
 use Rattle.std.specs.Prelude.{option_map}
 use Rattle.plant_base.specs.State.{State, batch_at}
-use Rattle.plant_base.specs.declared.rows.Batch.{Batch}
+use Rattle.plant_base.specs.{Batch}
 use Rattle.plant_base.proofs.FindIsFirst.{found_passes}
 use Rattle.plant_base.proofs.KeyOrders.{same_id}
 use Rattle.plant_view.specs.Tables.{batch_row, progress_at}

@@ -7,12 +7,7 @@ use Rattle.std.specs.Prelude.{not, ◌&&◌}
 use Rattle.std.proofs.lemmas.Cmp.{then_total, on_total, nat_list_cmp_total}
 use Rattle.std.proofs.lemmas.List.Kept.{IsStrictlySortedBy-filter}
 use Rattle.plant_base.specs.State.{State, same, hold_order, recall_order, lot_at}
-use Rattle.plant_base.specs.declared.rows.Hold.{Hold}
-use Rattle.plant_base.specs.declared.rows.Recall.{Recall}
-use Rattle.plant_base.specs.declared.rows.Receipt.{Receipt}
-use Rattle.plant_base.specs.declared.command.Stamp.{Stamp}
-use Rattle.plant_base.specs.declared.command.HoldLot.{HoldLot}
-use Rattle.plant_base.specs.declared.command.UnholdLot.{UnholdLot}
+use Rattle.plant_base.specs.{Hold, HoldLot, Recall, Receipt, Stamp, UnholdLot}
 use Rattle.plant_base.proofs.PutKeepsOrder.{all_put, sorted_put}
 use Rattle.plant_rules.specs.Holding.{hold, unhold}
 use Rattle.plant_view.specs.DecisionInvariant.{DecisionInvariant}

@@ -3,9 +3,7 @@ use Rattle.std.proofs.Common.{◌≡◌, ℕ, ◌+◌, false, List, [], ◌∷�
 use Rattle.std.specs.List.{AllByRecursion}
 use Rattle.std.proofs.lemmas.Bool.{or_parts}
 use Rattle.plant_base.specs.State.{State}
-use Rattle.plant_base.specs.declared.command.Part.{Part}
-use Rattle.plant_base.specs.declared.command.Stamp.{Stamp}
-use Rattle.plant_base.specs.declared.rows.Recall.{Recall}
+use Rattle.plant_base.specs.{Part, Recall, Stamp}
 use Rattle.plant_trace.specs.declared.node.Node.TheVariants as node
 use Rattle.plant_view.specs.Genealogy.{edges_of, edges_among}
 use Rattle.plant_view.specs.Recalls.{marks, is_blocked}

@@ -7,11 +7,8 @@ use Rattle.std.proofs.lemmas.Bool.{false≢true}
 use Rattle.std.proofs.lemmas.Bool.Decides.{nat_tests}
 use Rattle.plant_base.specs.State.{State, lot_at, place_at}
 use Rattle.plant_base.specs.WellFormedCommands.{is_same_sublot, has_sublot, are_apart, are_parts}
-use Rattle.plant_base.specs.declared.refusal.Refusal.{Refusal}
+use Rattle.plant_base.specs.{Movement, Part, Place, Refusal}
 use Rattle.plant_base.specs.declared.refusal.Refusal.TheVariants.{UnknownLot, UnknownSublot}
-use Rattle.plant_base.specs.declared.rows.Place.{Place}
-use Rattle.plant_base.specs.declared.rows.Movement.{Movement}
-use Rattle.plant_base.specs.declared.command.Part.{Part}
 use Rattle.plant_base.proofs.FindIsFirst.{found_passes}
 use Rattle.plant_base.proofs.KeyOrders.{same_key}
 use Rattle.plant_stock.specs.Stock.{entered, left}

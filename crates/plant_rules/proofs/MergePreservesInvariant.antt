@@ -7,12 +7,7 @@ use Rattle.std.proofs.lemmas.List.Sums.{sum_by-cons}
 use Rattle.std.proofs.lemmas.Bool.{false≢true}
 use Rattle.plant_base.specs.Values.{greatest_amount}
 use Rattle.plant_base.specs.State.{State, same, lot_order, definition_at, lot_at, place_at}
-use Rattle.plant_base.specs.declared.rows.Lot.{Lot}
-use Rattle.plant_base.specs.declared.rows.Place.{Place}
-use Rattle.plant_base.specs.declared.rows.Movement.{Movement}
-use Rattle.plant_base.specs.declared.command.Stamp.{Stamp}
-use Rattle.plant_base.specs.declared.command.Part.{Part}
-use Rattle.plant_base.specs.declared.command.Merge.{Merge}
+use Rattle.plant_base.specs.{Lot, Merge, Movement, Part, Place, Stamp}
 use Rattle.plant_base.proofs.PutKeepsOrder.{all_weaker, found_new}
 use Rattle.plant_base.proofs.KeyOrders.{same_id, same_key, same_itself}
 use Rattle.plant_stock.specs.Stock.{entered, left, leaving, goes_to, comes_from, total_of}

@@ -5,11 +5,7 @@ use Rattle.std.specs.List.{AllByRecursion}
 use Rattle.std.proofs.lemmas.List.Sums.{sum_by-cons}
 use Rattle.std.proofs.lemmas.List.{append-nil}
 use Rattle.plant_base.specs.State.{State, same, put, newest_schema, lot_order, place_order, lot_at, place_at}
-use Rattle.plant_base.specs.declared.command.Part.{Part}
-use Rattle.plant_base.specs.declared.rows.Place.{Place}
-use Rattle.plant_base.specs.declared.rows.Movement.{Movement}
-use Rattle.plant_base.specs.declared.command.Stamp.{Stamp}
-use Rattle.plant_base.specs.declared.command.Merge.{Merge}
+use Rattle.plant_base.specs.{Merge, Movement, Part, Place, Stamp}
 use Rattle.plant_base.proofs.PutKeepsOrder.{put_there, all_weaker}
 use Rattle.plant_base.proofs.KeyOrders.{key_itself, place_order_total, test_tie}
 use Rattle.plant_stock.specs.Stock.{entered, left, entering, leaving, total_of}

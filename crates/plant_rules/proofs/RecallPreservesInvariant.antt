@@ -4,10 +4,7 @@ use Rattle.std.specs.List.Sorted.{IsStrictlySortedBy}
 use Rattle.std.specs.Cmp.{IsTotalOrder}
 use Rattle.std.proofs.lemmas.Cmp.{on_total, nat_list_cmp_total}
 use Rattle.plant_base.specs.State.{State, recall_order, recall_at}
-use Rattle.plant_base.specs.declared.rows.Recall.{Recall}
-use Rattle.plant_base.specs.declared.command.Stamp.{Stamp}
-use Rattle.plant_base.specs.declared.command.RecallLot.{RecallLot}
-use Rattle.plant_base.specs.declared.command.LiftRecall.{LiftRecall}
+use Rattle.plant_base.specs.{LiftRecall, Recall, RecallLot, Stamp}
 use Rattle.plant_base.proofs.PutKeepsOrder.{sorted_put}
 use Rattle.plant_rules.specs.Recalling.{opened, recall, lifted, with_lifted, lift}
 use Rattle.plant_view.specs.DecisionInvariant.{DecisionInvariant}

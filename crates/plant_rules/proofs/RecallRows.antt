@@ -1,10 +1,7 @@
 -- The rows of a recall, and of one that is lifted, make the tables of the next state.
 use Rattle.std.proofs.Common.{◌≡◌, ◌∙◌, false, List, map, Option, Some, is_some, refl, sym, ap}
 use Rattle.plant_base.specs.State.{State, newest_schema, same, recall_at}
-use Rattle.plant_base.specs.declared.command.Stamp.{Stamp}
-use Rattle.plant_base.specs.declared.command.RecallLot.{RecallLot}
-use Rattle.plant_base.specs.declared.command.LiftRecall.{LiftRecall}
-use Rattle.plant_base.specs.declared.rows.Recall.{Recall}
+use Rattle.plant_base.specs.{LiftRecall, Recall, RecallLot, Stamp}
 use Rattle.plant_trace.specs.Reach.{Lists}
 use Rattle.plant_trace.specs.Recalls.{IsRecalled}
 use Rattle.plant_trace.specs.declared.node.Node.{Node}

@@ -5,12 +5,9 @@ use Rattle.plant_base.specs.Values.{greatest_seq}
 use Rattle.plant_base.specs.State.{State, same, newest_schema}
 use Rattle.plant_base.specs.Content.{content_of}
 use Rattle.plant_base.specs.WellFormedCommands.{stamp_of}
-use Rattle.plant_base.specs.declared.rows.Receipt.{Receipt}
+use Rattle.plant_base.specs.{Command, Envelope, Receipt, Stamp}
 use Rattle.plant_base.specs.declared.refusal.Refusal.TheVariants.{BadForm, MomentBack, RefReused}
-use Rattle.plant_base.specs.declared.command.Stamp.{Stamp}
-use Rattle.plant_base.specs.declared.command.Command.{Command}
 use Rattle.plant_base.specs.declared.command.Command.TheVariants as body
-use Rattle.plant_base.specs.declared.command.Envelope.{Envelope}
 use Rattle.plant_base.proofs.KeyOrders.{same_id}
 use Rattle.plant_view.specs.Refusals.{refuse}
 use Rattle.plant_view.specs.Tables.{tables_of, changed, changed_all, Decides}

@@ -2,11 +2,7 @@
 use Rattle.std.proofs.Common.{◌≡◌, ◌∙◌, ℕ, ◌-◌, false, map, Some, is_some, refl, sym, ap}
 use Rattle.plant_base.specs.State.{State, put, newest_schema, lot_order, lot_at}
 use Rattle.plant_base.specs.declared.rows.MovementKind.TheVariants as kind
-use Rattle.plant_base.specs.declared.rows.Lot.{Lot}
-use Rattle.plant_base.specs.declared.rows.Place.{Place}
-use Rattle.plant_base.specs.declared.rows.Sublot.{Sublot}
-use Rattle.plant_base.specs.declared.command.Stamp.{Stamp}
-use Rattle.plant_base.specs.declared.command.Split.{Split}
+use Rattle.plant_base.specs.{Lot, Place, Split, Stamp, Sublot}
 use Rattle.plant_rules.specs.Booking.{line_of}
 use Rattle.plant_rules.specs.Splitting.{def_of, split, split_rows}
 use Rattle.plant_view.specs.Views.{IsSublotAt}

@@ -8,21 +8,16 @@ use Rattle.plant_base.specs.Values.{greatest_amount, is_amount, is_moment, is_te
 use Rattle.plant_base.specs.State.{State, opening}
 use Rattle.plant_base.specs.WellFormedCommands.{HasValues, HasBodyValues, is_version, are_orders, are_parts, stamp_of}
 use Rattle.plant_base.specs.declared.states.RecipeState.TheVariants.{Approved, Withdrawn}
-use Rattle.plant_base.specs.declared.refusal.Refusal.{Refusal}
+use Rattle.plant_base.specs.{Command, Envelope, Part, Receipt, Refusal, Stamp}
 use Rattle.plant_base.specs.declared.refusal.Refusal.TheVariants.{BadForm, MomentBack}
 use Rattle.plant_base.specs.declared.states.Word.TheVariants.{Done}
 use Rattle.plant_base.specs.declared.states.Event.TheVariants as event
-use Rattle.plant_base.specs.declared.command.Part.{Part}
-use Rattle.plant_base.specs.declared.command.Stamp.{Stamp}
-use Rattle.plant_base.specs.declared.command.Command.{Command}
 use Rattle.plant_base.specs.declared.command.Command.TheVariants as body
-use Rattle.plant_base.specs.declared.command.Envelope.{Envelope}
 use Rattle.plant_base.proofs.PutKeepsOrder.{all_weaker}
 use Rattle.plant_stock.specs.Stock.{entered, left}
 use Rattle.plant_view.specs.Refusals.{sublot_standing}
 use Rattle.plant_rules.specs.Consumption.{is_own_product}
 use Rattle.plant_base.specs.Content.{content_of}
-use Rattle.plant_base.specs.declared.rows.Receipt.{Receipt}
 use Rattle.plant_rules.specs.Wrong.{is_whole, wrong, wrong_body, wrong_there, decoded, kept_for}
 use Rattle.plant_rules.specs.Step.{step, step_body, unless_refused, noted, taken}
 use Rattle.plant_view.specs.DecisionInvariant.{DecisionInvariant}

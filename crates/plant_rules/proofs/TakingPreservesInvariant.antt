@@ -1,12 +1,8 @@
 -- What is taken from a sublot keeps a state consistent.
 use Rattle.std.proofs.Common.{◌≡◌, ℕ, ◌≤◌, ◌∷◌, [], cond, true, false, List, Some, is_some, sym, subst, ap, refl, arith}
 use Rattle.plant_base.specs.State.{State, place_at, batch_at}
-use Rattle.plant_base.specs.declared.rows.Movement.{Movement}
-use Rattle.plant_base.specs.declared.rows.MovementKind.{MovementKind}
+use Rattle.plant_base.specs.{Consume, Movement, MovementKind, Scrap, Stamp}
 use Rattle.plant_base.specs.declared.rows.MovementKind.TheVariants.{Scrapped, Consumed}
-use Rattle.plant_base.specs.declared.command.Stamp.{Stamp}
-use Rattle.plant_base.specs.declared.command.Scrap.{Scrap}
-use Rattle.plant_base.specs.declared.command.Consume.{Consume}
 use Rattle.plant_base.proofs.PutKeepsOrder.{all_push}
 use Rattle.plant_stock.specs.Stock.{comes_from, is_sublot_key, entering, leaving}
 use Rattle.plant_stock.proofs.StockAfterMovement.{entered_push, left_push}

@@ -2,11 +2,8 @@
 use Rattle.std.proofs.Common.{◌≡◌, ◌∙◌, ℕ, ◌+◌, ◌-◌, cond, List, None, [], ◌∷◌, ◌++◌, map, Some, refl, sym, ap, arith}
 use Rattle.std.specs.Prelude.{◌==◌, ◌&&◌}
 use Rattle.plant_base.specs.State.{State, same, put, newest_schema, place_order, place_at}
-use Rattle.plant_base.specs.declared.rows.MovementKind.{MovementKind}
+use Rattle.plant_base.specs.{Movement, MovementKind, Place, Stamp}
 use Rattle.plant_base.specs.declared.rows.MovementKind.TheVariants.{Scrapped, Consumed}
-use Rattle.plant_base.specs.declared.rows.Place.{Place}
-use Rattle.plant_base.specs.declared.rows.Movement.{Movement}
-use Rattle.plant_base.specs.declared.command.Stamp.{Stamp}
 use Rattle.plant_base.proofs.KeyOrders.{key_itself, place_order_total, test_tie}
 use Rattle.plant_base.proofs.PutKeepsOrder.{put_there}
 use Rattle.plant_stock.specs.Stock.{goes_to, comes_from, is_sublot_key, entered, left, entering, leaving}

@@ -2,14 +2,9 @@
 use Rattle.std.specs.Prelude.{ℕ, ◌+◌, ◌&&◌, nat_lt, Bool, false, not, List, [], ◌∷◌, Option, Some, None, is_some, is_none, map}
 use Rattle.plant_base.specs.Recalls.{is_open}
 use Rattle.plant_base.specs.State.{State, newest_schema, put, recall_order, lot_at, recall_at}
-use Rattle.plant_base.specs.declared.refusal.Refusal.{Refusal}
+use Rattle.plant_base.specs.{LiftRecall, Lot, Recall, RecallLot, Refusal, Stamp}
 use Rattle.plant_base.specs.declared.refusal.Refusal.TheVariants.{Exists, UnknownLot, UnknownRecall, RecallLifted, TooMany}
-use Rattle.plant_base.specs.declared.command.Stamp.{Stamp}
-use Rattle.plant_base.specs.declared.command.RecallLot.{RecallLot}
-use Rattle.plant_base.specs.declared.command.LiftRecall.{LiftRecall}
 use Rattle.plant_base.specs.Values.{greatest_seq}
-use Rattle.plant_base.specs.declared.rows.Lot.{Lot}
-use Rattle.plant_base.specs.declared.rows.Recall.{Recall}
 use Rattle.plant_trace.specs.declared.node.Node.{Node}
 use Rattle.plant_view.specs.Recalls.{mark_on}
 use Rattle.plant_view.specs.Refusals.{refuse, at_limit}

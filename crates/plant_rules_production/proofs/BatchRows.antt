@@ -13,18 +13,10 @@ use Rattle.std.proofs.lemmas.List.Elements.{filter-append}
 use Rattle.std.proofs.lemmas.List.Sums.{length-filter}
 use Rattle.plant_base.specs.Values.{greatest_seq}
 use Rattle.plant_base.specs.State.{State, newest_schema, same, put, batch_order, job_at, batch_at, control_lines_of}
-use Rattle.plant_base.specs.declared.refusal.Refusal.{Refusal}
+use Rattle.plant_base.specs.{Batch, BatchEvent, BatchRow, CloseBatch, ControlLine, Event, Job, Refusal, Stamp}
 use Rattle.plant_base.specs.declared.refusal.Refusal.TheVariants.{UnknownBatch, BatchClosed, TooMany, NotFinished}
 use Rattle.plant_base.specs.declared.states.JobState.TheVariants.{Finished}
-use Rattle.plant_base.specs.declared.states.Event.{Event}
 use Rattle.plant_base.specs.declared.states.Event.TheVariants.{Closed}
-use Rattle.plant_base.specs.declared.rows.Job.{Job}
-use Rattle.plant_base.specs.declared.rows.Batch.{Batch}
-use Rattle.plant_base.specs.declared.rows.BatchRow.{BatchRow}
-use Rattle.plant_base.specs.declared.rows.BatchEvent.{BatchEvent}
-use Rattle.plant_base.specs.declared.rows.ControlLine.{ControlLine}
-use Rattle.plant_base.specs.declared.command.Stamp.{Stamp}
-use Rattle.plant_base.specs.declared.command.CloseBatch.{CloseBatch}
 use Rattle.plant_base.proofs.PutKeepsOrder.{put_map, put_there}
 use Rattle.plant_base.proofs.FindIsFirst.{found_passes, found_keeps}
 use Rattle.plant_base.proofs.KeyOrders.{same_id, same_itself, id_total}

@@ -4,9 +4,7 @@ use Rattle.std.specs.Prelude.{not}
 use Rattle.std.specs.List.{list_any}
 use Rattle.plant_base.specs.State.{State, newest_schema, job_order, recipe_at, job_at}
 use Rattle.plant_base.specs.declared.refusal.Refusal.TheVariants.{UnknownRecipe, OrderConflict, SizeOutOfRange, TooMany}
-use Rattle.plant_base.specs.declared.rows.OrderRow.{OrderRow}
-use Rattle.plant_base.specs.declared.command.Stamp.{Stamp}
-use Rattle.plant_base.specs.declared.command.ImportOrders.{ImportOrders}
+use Rattle.plant_base.specs.{ImportOrders, OrderRow, Stamp}
 use Rattle.plant_view.specs.declared.change.Decision.{Decision}
 use Rattle.plant_view.specs.declared.change.Decision.TheVariants.{Change, Refused, Repeat}
 use Rattle.plant_view.specs.declared.change.RowChange.TheVariants as row

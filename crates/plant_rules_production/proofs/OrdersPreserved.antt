@@ -9,16 +9,8 @@ use Rattle.std.specs.declared.cmp.Ordering.TheVariants.{Equal}
 use Rattle.std.proofs.lemmas.Cmp.{eq_by_cmp_equiv}
 use Rattle.std.proofs.lemmas.Bool.{false≢true}
 use Rattle.plant_base.specs.State.{same, put, job_order, batch_order, control_line_order}
-use Rattle.plant_base.specs.declared.states.JobState.{JobState}
+use Rattle.plant_base.specs.{Batch, BatchEvent, ControlLine, Header, Job, JobState, MasterLine, OrderRow, RecipeLine}
 use Rattle.plant_base.specs.declared.states.JobState.TheVariants.{Open, Cancelled, Released, Finished}
-use Rattle.plant_base.specs.declared.rows.Header.{Header}
-use Rattle.plant_base.specs.declared.rows.RecipeLine.{RecipeLine}
-use Rattle.plant_base.specs.declared.rows.MasterLine.{MasterLine}
-use Rattle.plant_base.specs.declared.rows.OrderRow.{OrderRow}
-use Rattle.plant_base.specs.declared.rows.Job.{Job}
-use Rattle.plant_base.specs.declared.rows.Batch.{Batch}
-use Rattle.plant_base.specs.declared.rows.ControlLine.{ControlLine}
-use Rattle.plant_base.specs.declared.rows.BatchEvent.{BatchEvent}
 use Rattle.plant_base.proofs.FindIsFirst.{found_passes, found_keeps}
 use Rattle.plant_base.proofs.PutKeepsOrder.{all_weaker, all_put, sorted_put, found_put, found_new, put_there, put_kept}
 use Rattle.plant_base.proofs.KeyOrders.{same_id, same_itself, id_total, id_tie, id_still}

@@ -6,27 +6,11 @@ use Rattle.std.proofs.lemmas.List.Elements.{recursion_from_All}
 use Rattle.std.proofs.lemmas.Bool.{false≢true}
 use Rattle.plant_base.specs.State.{State, put, recipe_order, job_order, batch_order, recipe_at, job_at, batch_at, definition_at}
 use Rattle.plant_base.specs.WellFormedCommands.{is_version, has_numbers, HasHeaderValues, HasLineValues, HasOrderValues}
-use Rattle.plant_base.specs.declared.refusal.Refusal.{Refusal}
+use Rattle.plant_base.specs.{AddRecipe, Batch, BatchEvent, CancelOrder, CloseBatch, ControlLine, Event, ImportOrders, Job, MasterLine, OrderRow, Recipe, RecipeLine, RecipeState, Refusal, Release, Stamp}
 use Rattle.plant_base.specs.declared.refusal.Refusal.TheVariants.{UnknownRecipe, UnknownBatch, OrderConflict, SizeOutOfRange, BatchClosed, TooMany, NotFinished}
-use Rattle.plant_base.specs.declared.states.RecipeState.{RecipeState}
 use Rattle.plant_base.specs.declared.states.RecipeState.TheVariants.{Draft}
 use Rattle.plant_base.specs.declared.states.JobState.TheVariants.{Cancelled, Released, Finished}
-use Rattle.plant_base.specs.declared.states.Event.{Event}
 use Rattle.plant_base.specs.declared.states.Event.TheVariants.{Closed}
-use Rattle.plant_base.specs.declared.rows.Recipe.{Recipe}
-use Rattle.plant_base.specs.declared.rows.RecipeLine.{RecipeLine}
-use Rattle.plant_base.specs.declared.rows.MasterLine.{MasterLine}
-use Rattle.plant_base.specs.declared.rows.OrderRow.{OrderRow}
-use Rattle.plant_base.specs.declared.rows.Job.{Job}
-use Rattle.plant_base.specs.declared.rows.Batch.{Batch}
-use Rattle.plant_base.specs.declared.rows.BatchEvent.{BatchEvent}
-use Rattle.plant_base.specs.declared.rows.ControlLine.{ControlLine}
-use Rattle.plant_base.specs.declared.command.Stamp.{Stamp}
-use Rattle.plant_base.specs.declared.command.AddRecipe.{AddRecipe}
-use Rattle.plant_base.specs.declared.command.ImportOrders.{ImportOrders}
-use Rattle.plant_base.specs.declared.command.CancelOrder.{CancelOrder}
-use Rattle.plant_base.specs.declared.command.Release.{Release}
-use Rattle.plant_base.specs.declared.command.CloseBatch.{CloseBatch}
 use Rattle.plant_base.proofs.FindIsFirst.{found_passes}
 use Rattle.plant_base.proofs.PutKeepsOrder.{all_weaker, all_push}
 use Rattle.plant_base.proofs.KeyOrders.{same_id}

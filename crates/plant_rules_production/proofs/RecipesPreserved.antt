@@ -7,18 +7,8 @@ use Rattle.std.specs.Ordering.{is_eq}
 use Rattle.std.proofs.lemmas.Bool.{false≢true}
 use Rattle.plant_base.specs.State.{same, put, definition_order, recipe_order, master_line_order}
 use Rattle.plant_base.specs.WellFormedCommands.{is_version, HasHeaderValues, HasLineValues}
-use Rattle.plant_base.specs.declared.states.RecipeState.{RecipeState}
-use Rattle.plant_base.specs.declared.rows.Definition.{Definition}
-use Rattle.plant_base.specs.declared.rows.Header.{Header}
-use Rattle.plant_base.specs.declared.rows.Recipe.{Recipe}
-use Rattle.plant_base.specs.declared.rows.RecipeLine.{RecipeLine}
+use Rattle.plant_base.specs.{Batch, BatchEvent, ControlLine, Definition, Header, Job, MasterLine, OrderRow, Recipe, RecipeLine, RecipeState}
 use Rattle.plant_base.specs.declared.rows.RecipeLine.TheVariants.{In, Out, Parameter, Phase}
-use Rattle.plant_base.specs.declared.rows.MasterLine.{MasterLine}
-use Rattle.plant_base.specs.declared.rows.OrderRow.{OrderRow}
-use Rattle.plant_base.specs.declared.rows.Job.{Job}
-use Rattle.plant_base.specs.declared.rows.Batch.{Batch}
-use Rattle.plant_base.specs.declared.rows.ControlLine.{ControlLine}
-use Rattle.plant_base.specs.declared.rows.BatchEvent.{BatchEvent}
 use Rattle.plant_base.proofs.FindIsFirst.{found_passes}
 use Rattle.plant_base.proofs.PutKeepsOrder.{all_weaker, sorted_put, found_put, found_same, put_there, put_kept}
 use Rattle.plant_base.proofs.KeyOrders.{same_key, key_itself, id_still}

@@ -10,17 +10,7 @@ use Rattle.plant_base.specs.State.{State, newest_schema, same, put, batch_order,
 use Rattle.plant_base.specs.declared.refusal.Refusal.TheVariants.{Exists, UnknownOrder, NotApproved, OrderNotOpen, ScaledToNothing, TooMany}
 use Rattle.plant_base.specs.declared.states.RecipeState.TheVariants.{Approved}
 use Rattle.plant_base.specs.declared.states.JobState.TheVariants.{Released}
-use Rattle.plant_base.specs.declared.rows.Header.{Header}
-use Rattle.plant_base.specs.declared.rows.Recipe.{Recipe}
-use Rattle.plant_base.specs.declared.rows.RecipeLine.{RecipeLine}
-use Rattle.plant_base.specs.declared.rows.MasterLine.{MasterLine}
-use Rattle.plant_base.specs.declared.rows.OrderRow.{OrderRow}
-use Rattle.plant_base.specs.declared.rows.Job.{Job}
-use Rattle.plant_base.specs.declared.rows.Batch.{Batch}
-use Rattle.plant_base.specs.declared.rows.BatchEvent.{BatchEvent}
-use Rattle.plant_base.specs.declared.rows.ControlLine.{ControlLine}
-use Rattle.plant_base.specs.declared.command.Stamp.{Stamp}
-use Rattle.plant_base.specs.declared.command.Release.{Release}
+use Rattle.plant_base.specs.{Batch, BatchEvent, ControlLine, Header, Job, MasterLine, OrderRow, Recipe, RecipeLine, Release, Stamp}
 use Rattle.plant_base.proofs.PutKeepsOrder.{put_map, all_weaker}
 use Rattle.plant_base.proofs.FindIsFirst.{found_passes, found_keeps}
 use Rattle.plant_base.proofs.KeyOrders.{same_key, id_total}

@@ -9,17 +9,9 @@ use Rattle.std.proofs.lemmas.Bool.{false≢true, false_from_ne_true}
 use Rattle.std.proofs.lemmas.Option.{same_Some}
 use Rattle.std.proofs.lemmas.Cmp.{eq_by_cmp_equiv}
 use Rattle.plant_base.specs.State.{State, same, put, job_order, batch_order, batch_at}
-use Rattle.plant_base.specs.declared.refusal.Refusal.{Refusal}
+use Rattle.plant_base.specs.{Batch, BatchEvent, BatchState, ControlLine, Event, Job, RecipeLine, Refusal, Stamp}
 use Rattle.plant_base.specs.declared.refusal.Refusal.TheVariants.{PhasesLeft, NotNextPhase, BatchClosed, WrongState, TooMany}
-use Rattle.plant_base.specs.declared.states.BatchState.{BatchState}
-use Rattle.plant_base.specs.declared.states.Event.{Event}
 use Rattle.plant_base.specs.declared.states.Event.TheVariants.{Moved, PhaseDone, Closed}
-use Rattle.plant_base.specs.declared.rows.Job.{Job}
-use Rattle.plant_base.specs.declared.rows.Batch.{Batch}
-use Rattle.plant_base.specs.declared.rows.BatchEvent.{BatchEvent}
-use Rattle.plant_base.specs.declared.rows.ControlLine.{ControlLine}
-use Rattle.plant_base.specs.declared.rows.RecipeLine.{RecipeLine}
-use Rattle.plant_base.specs.declared.command.Stamp.{Stamp}
 use Rattle.plant_base.proofs.FindIsFirst.{found_passes, found_keeps}
 use Rattle.plant_base.proofs.PutKeepsOrder.{all_weaker, found_same}
 use Rattle.plant_base.proofs.KeyOrders.{same_id, same_itself}

@@ -2,11 +2,8 @@
 use Rattle.std.specs.Prelude.{ℕ, ◌+◌, ◌-◌, Bool, true, false, not, ◌==◌, ◌&&◌, nat_le, if◌then◌else◌, List, filter, Option, Some, None, Result, Ok, Err, sum_by, ℤ, pos, ◌-ℤ◌}
 use Rattle.plant_base.specs.Values.{greatest_amount}
 use Rattle.plant_base.specs.State.{same}
-use Rattle.plant_base.specs.declared.command.Part.{Part}
-use Rattle.plant_base.specs.declared.refusal.Refusal.{Refusal}
+use Rattle.plant_base.specs.{Movement, MovementKind, Part, Refusal}
 use Rattle.plant_base.specs.declared.refusal.Refusal.TheVariants.{TooMuch}
-use Rattle.plant_base.specs.declared.rows.Movement.{Movement}
-use Rattle.plant_base.specs.declared.rows.MovementKind.{MovementKind}
 use Rattle.plant_base.specs.declared.rows.MovementKind.TheVariants.{Received, Consumed, Produced, Scrapped, Divided, Split, Merged}
 
 -- the lot and sublot that a movement of this kind, lot and sublot brings its amount to

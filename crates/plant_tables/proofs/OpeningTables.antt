@@ -9,7 +9,7 @@ use Rattle.sqlite.specs.Order.{Row}
 use Rattle.sqlite.specs.Effect.{IsDatabase}
 use Rattle.sqlite.specs.State.{State}
 use Rattle.plant_base.specs.State.{newest_schema}
-use Rattle.plant_base.specs.declared.rows.Meta.{Meta}
+use Rattle.plant_base.specs.{Meta}
 use Rattle.plant_view.specs.Recalls.{marks}
 use Rattle.plant_view.specs.declared.change.RowChange.TheVariants as change
 use Rattle.sql_tables.specs.StoredRows.{AreFree}

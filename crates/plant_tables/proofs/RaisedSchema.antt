@@ -7,7 +7,7 @@ use Rattle.sqlite.specs.Schema.{Schema}
 use Rattle.sqlite.specs.State.{State}
 use Rattle.sqlite_tied.specs.Compute.{everything}
 use Rattle.plant_base.specs.State as desk
-use Rattle.plant_base.specs.declared.rows.Position.{Position}
+use Rattle.plant_base.specs.{Position}
 use Rattle.plant_view.specs.Tables.{Tables, tables_of, changed, changed_all}
 use Rattle.plant_view.specs.declared.change.RowChange.{RowChange}
 use Rattle.plant_view.specs.declared.change.RowChange.TheVariants as change

@@ -21,12 +21,7 @@ use Rattle.plant_base.specs.Edges.{edge_kind_number, edge_order, edge_total}
 use Rattle.plant_base.specs.Recalls.{mark_kind_number, mark_order, mark_total}
 use Rattle.plant_base.specs.State.{same, put, class_order, definition_order, recipe_order, master_line_order, job_order, control_line_order, lot_order, hold_order, receipt_order, recall_order}
 use Rattle.plant_base.proofs.PutKeepsOrder.{all_weaker, sorted_put}
-use Rattle.plant_base.specs.declared.rows.Meta.{Meta}
-use Rattle.plant_base.specs.declared.rows.BatchRow.{BatchRow}
-use Rattle.plant_base.specs.declared.rows.BatchEvent.{BatchEvent}
-use Rattle.plant_base.specs.declared.rows.Movement.{Movement}
-use Rattle.plant_base.specs.declared.rows.Hold.{Hold}
-use Rattle.plant_base.specs.declared.rows.Mark.{Mark}
+use Rattle.plant_base.specs.{BatchEvent, BatchRow, Hold, Mark, Meta, Movement}
 use Rattle.plant_view.proofs.RowsInTurn.{all_of}
 pub use Rattle.plant_view.proofs.RowsInTurn.{all_filtered as all_filter}
 use Rattle.plant_view.specs.Recalls.{without_marks}

@@ -1,7 +1,7 @@
 -- What a raising to the next schema promises of whatever tables it raises, of the store before and after it and of its result.
 use Rattle.std.specs.Prelude.{ℕ, ◌+◌, List, Result, OnOk, OnErr}
 use Rattle.sqlite.specs.State.{State, HasCleanDisk}
-use Rattle.plant_base.specs.declared.rows.Position.{Position}
+use Rattle.plant_base.specs.{Position}
 use Rattle.plant_view.specs.Tables.{Tables, changed_all}
 use Rattle.plant_view.specs.declared.change.RowChange.{RowChange}
 use Rattle.sql_tables.specs.StoredRows.{KeepsOtherTables, AreFree}

@@ -2,7 +2,7 @@
 use Rattle.std.specs.Prelude.{ℕ, ◌+◌, ◌≤◌, ◌<◌, List, [], ◌∷◌, ◌++◌}
 use Rattle.sqlite.specs.Effect.{Database}
 use Rattle.plant_base.specs.State.{newest_schema}
-use Rattle.plant_base.specs.declared.rows.Position.{Position}
+use Rattle.plant_base.specs.{Position}
 use Rattle.plant_view.specs.Tables.{Tables, changed_all}
 use Rattle.plant_view.specs.declared.change.RowChange.{RowChange}
 use Rattle.plant_view.specs.declared.change.RowChange.TheVariants as change

@@ -7,7 +7,7 @@ use Rattle.sqlite.specs.declared.types.Value.TheVariants.{Null, Int, Text}
 use Rattle.sqlite.specs.Order.{Row, column}
 use Rattle.plant_base.specs.Values.{is_id, is_amount, greatest_amount}
 use Rattle.plant_base.specs.WellFormedCommands.{HasLineValues}
-use Rattle.plant_base.specs.declared.rows.RecipeLine.{RecipeLine}
+use Rattle.plant_base.specs.{RecipeLine}
 use Rattle.plant_base.specs.declared.rows.RecipeLine.TheVariants as line
 use Rattle.sql_tables.specs.TableDefs.{integer}
 use Rattle.sql_tables.specs.Rows.{fits_columns}

@@ -2,9 +2,8 @@
 use Rattle.std.proofs.Common.{◌≡◌, refl, ap, ◌∙◌, subst, ℕ, List, true, ◌&&◌, Option, Some, None, eqb-true}
 use Rattle.std.specs.Prelude.{is_none}
 use Rattle.std.proofs.lemmas.Bool.{and_parts}
-use Rattle.plant_base.specs.declared.rows.MovementKind.{MovementKind}
+use Rattle.plant_base.specs.{Movement, MovementKind}
 use Rattle.plant_base.specs.declared.rows.MovementKind.TheVariants as kind
-use Rattle.plant_base.specs.declared.rows.Movement.{Movement}
 use Rattle.plant_base.proofs.KeyOrders.{same_id, same_itself}
 use Rattle.plant_tables_columns.specs.Booked.{names_nothing, batch_named, is_zero, lot_named, is_lot, sublot_named, kind_of_code, kind_from, moved_as, movement_from, code_of, other_lot, other_sublot, booked_of}
 use Rattle.plant_view.specs.Genealogy.{batch_by}

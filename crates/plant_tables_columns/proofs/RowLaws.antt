@@ -8,14 +8,8 @@ use Rattle.std.specs.List.{list_all}
 use Rattle.sqlite.specs.Order.{Row}
 use Rattle.plant_base.specs.Content.{is_content_byte, is_there}
 use Rattle.plant_base.specs.RowValues.{HasClassValues, HasDefinitionValues, HasLotValues, HasHoldValues, HasLiftingValues, HasRecallValues}
-use Rattle.plant_base.specs.declared.rows.MasterLine.{MasterLine}
-use Rattle.plant_base.specs.declared.rows.ControlLine.{ControlLine}
-use Rattle.plant_base.specs.declared.rows.MovementKind.{MovementKind}
+use Rattle.plant_base.specs.{ControlLine, Lifting, MasterLine, Movement, MovementKind, Recall, Receipt}
 use Rattle.plant_base.specs.declared.rows.MovementKind.TheVariants as kind
-use Rattle.plant_base.specs.declared.rows.Movement.{Movement}
-use Rattle.plant_base.specs.declared.rows.Receipt.{Receipt}
-use Rattle.plant_base.specs.declared.rows.Lifting.{Lifting}
-use Rattle.plant_base.specs.declared.rows.Recall.{Recall}
 use Rattle.plant_base.specs.Values.{is_id, greatest_amount, greatest_moment, greatest_seq, greatest_sublot}
 use Rattle.plant_tables_columns.specs.Reading.{is_in, greatest_number}
 use Rattle.plant_tables_columns.specs.Columns.{Columns, read_row}

@@ -8,10 +8,7 @@ use Rattle.sqlite.specs.Order.{Row, column}
 use Rattle.plant_base.specs.Values.{is_id, is_text, is_amount, is_moment, greatest_amount, greatest_moment, greatest_phase, greatest_priority, greatest_seq, greatest_sublot, greatest_version}
 use Rattle.plant_base.specs.WellFormedCommands.{is_version, is_priority, HasHeaderValues, HasLineValues}
 use Rattle.plant_base.specs.Words.{recipe_state_name, job_state_name, batch_state_name}
-use Rattle.plant_base.specs.declared.rows.Header.{Header}
-use Rattle.plant_base.specs.declared.rows.MasterLine.{MasterLine}
-use Rattle.plant_base.specs.declared.rows.ControlLine.{ControlLine}
-use Rattle.plant_base.specs.declared.states.Event.{Event}
+use Rattle.plant_base.specs.{ControlLine, Event, Header, MasterLine}
 use Rattle.plant_base.specs.Edges.{edge_kind_number}
 use Rattle.plant_base.specs.Recalls.{mark_kind_number}
 use Rattle.plant_base.specs.RowValues.{HasPhaseNumber}

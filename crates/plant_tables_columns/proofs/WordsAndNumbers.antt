@@ -8,15 +8,11 @@ use Rattle.std.proofs.lemmas.Bool.Decides.{Decides-int_eq}
 use Rattle.plant_base.specs.State.{same}
 use Rattle.plant_base.specs.Values.{greatest_phase}
 use Rattle.plant_base.specs.Words.{recipe_state_name, job_state_name, batch_state_name, word_name}
-use Rattle.plant_base.specs.declared.states.RecipeState.{RecipeState}
+use Rattle.plant_base.specs.{BatchState, EdgeKind, Event, JobState, MarkKind, RecipeState, Word}
 use Rattle.plant_base.specs.declared.states.RecipeState.TheVariants as recipe_state
-use Rattle.plant_base.specs.declared.states.JobState.{JobState}
 use Rattle.plant_base.specs.declared.states.JobState.TheVariants as job_state
-use Rattle.plant_base.specs.declared.states.BatchState.{BatchState}
 use Rattle.plant_base.specs.declared.states.BatchState.TheVariants as batch_state
-use Rattle.plant_base.specs.declared.states.Word.{Word}
 use Rattle.plant_base.specs.declared.states.Word.TheVariants as word
-use Rattle.plant_base.specs.declared.states.Event.{Event}
 use Rattle.plant_base.specs.declared.states.Event.TheVariants as event
 use Rattle.plant_base.proofs.FindIsFirst.{found_passes}
 use Rattle.plant_base.proofs.KeyOrders.{same_id}
@@ -28,9 +24,7 @@ use Rattle.plant_tables_columns.specs.Naming.{named, numbered, event_name, event
 use Rattle.plant_base.specs.RowValues.{HasPhaseNumber}
 use Rattle.plant_base.specs.Edges.{edge_kind_number}
 use Rattle.plant_base.specs.Recalls.{mark_kind_number}
-use Rattle.plant_base.specs.declared.rows.EdgeKind.{EdgeKind}
 use Rattle.plant_base.specs.declared.rows.EdgeKind.TheVariants as edge_kind
-use Rattle.plant_base.specs.declared.rows.MarkKind.{MarkKind}
 use Rattle.plant_base.specs.declared.rows.MarkKind.TheVariants as mark_kind
 use Rattle.plant_tables_columns.specs.declared.line.LineKindCode.{LineKindCode}
 use Rattle.plant_tables_columns.specs.declared.line.LineKindCode.TheVariants as line_kind_code

@@ -1,9 +1,8 @@
 -- The movement that a row of table movement books, where its columns are those of its kind.
 use Rattle.std.specs.Prelude.{ℕ, ◌==◌, Bool, false, ◌&&◌, List, Option, Some, None, is_none, option_map, if◌then◌else◌}
 use Rattle.plant_base.specs.State.{same}
-use Rattle.plant_base.specs.declared.rows.MovementKind.{MovementKind}
+use Rattle.plant_base.specs.{Movement, MovementKind}
 use Rattle.plant_base.specs.declared.rows.MovementKind.TheVariants as kind
-use Rattle.plant_base.specs.declared.rows.Movement.{Movement}
 use Rattle.plant_tables_columns.specs.declared.booked.MovementKindCode.{MovementKindCode}
 use Rattle.plant_tables_columns.specs.declared.booked.MovementKindCode.TheVariants as kind_code
 use Rattle.plant_tables_columns.specs.declared.booked.BookedRow.{BookedRow}

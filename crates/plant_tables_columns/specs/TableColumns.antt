@@ -7,29 +7,8 @@ use Rattle.sqlite.specs.Order.{Row, column}
 use Rattle.plant_base.specs.Options.{◌>>=◌}
 use Rattle.plant_base.specs.Values.{greatest_phase, greatest_priority, greatest_version}
 use Rattle.plant_recipe.specs.Progress.{greatest_attempt}
-use Rattle.plant_base.specs.declared.rows.Meta.{Meta}
-use Rattle.plant_base.specs.declared.rows.Class.{Class}
-use Rattle.plant_base.specs.declared.rows.Definition.{Definition}
-use Rattle.plant_base.specs.declared.rows.Header.{Header}
-use Rattle.plant_base.specs.declared.rows.Recipe.{Recipe}
-use Rattle.plant_base.specs.declared.rows.RecipeLine.{RecipeLine}
+use Rattle.plant_base.specs.{Batch, BatchEvent, BatchRow, Class, ControlLine, Definition, EdgeRow, Event, Header, Hold, Job, Lot, Mark, MasterLine, Meta, Movement, OrderRow, Recall, Receipt, Recipe, RecipeLine, Sublot}
 use Rattle.plant_base.specs.declared.rows.RecipeLine.TheVariants as line
-use Rattle.plant_base.specs.declared.rows.MasterLine.{MasterLine}
-use Rattle.plant_base.specs.declared.rows.OrderRow.{OrderRow}
-use Rattle.plant_base.specs.declared.rows.Job.{Job}
-use Rattle.plant_base.specs.declared.rows.Batch.{Batch}
-use Rattle.plant_base.specs.declared.rows.BatchRow.{BatchRow}
-use Rattle.plant_base.specs.declared.rows.ControlLine.{ControlLine}
-use Rattle.plant_base.specs.declared.states.Event.{Event}
-use Rattle.plant_base.specs.declared.rows.BatchEvent.{BatchEvent}
-use Rattle.plant_base.specs.declared.rows.Lot.{Lot}
-use Rattle.plant_base.specs.declared.rows.Sublot.{Sublot}
-use Rattle.plant_base.specs.declared.rows.Hold.{Hold}
-use Rattle.plant_base.specs.declared.rows.EdgeRow.{EdgeRow}
-use Rattle.plant_base.specs.declared.rows.Movement.{Movement}
-use Rattle.plant_base.specs.declared.rows.Receipt.{Receipt}
-use Rattle.plant_base.specs.declared.rows.Recall.{Recall}
-use Rattle.plant_base.specs.declared.rows.Mark.{Mark}
 use Rattle.sql_tables.specs.TableDefs.{integer, text, text_or_null}
 use Rattle.plant_tables_columns.specs.Reading.{id_from, text_from, amount_from, greatest_number, is_null, is_empty, is_zero}
 use Rattle.plant_tables_columns.specs.Columns.{Columns, one, ◌⊗◌, made, read_row}

@@ -9,7 +9,7 @@ use Rattle.plant_tables_columns.specs.TableColumns.{row_of_meta, row_of_class, r
 -- ---- end of how rows are stored and read
 use Rattle.plant_tables.specs.DeskTables.{rows_of, contents_of}
 use Rattle.sqlite.specs.Order.{Row}
-use Rattle.plant_base.specs.declared.rows.Meta.{Meta}
+use Rattle.plant_base.specs.{Meta}
 use Rattle.sql_tables.specs.TableDefs.{TableDef}
 use Rattle.plant_tables.specs.DeskTableDefs.{table_defs_of}
 use Rattle.plant_tables.proofs.DeskStatements.{by_schema}

@@ -1,8 +1,7 @@
 -- What the reading of rows keeps.
 use Rattle.std.specs.Prelude.{◌≡◌, ℕ, Some, slice_get}
 use Rattle.sqlite.specs.Effect.{Database}
-use Rattle.plant_base.specs.declared.rows.Movement.{Movement}
-use Rattle.plant_base.specs.declared.rows.Recall.{Recall}
+use Rattle.plant_base.specs.{Movement, Recall}
 use Rattle.plant_view.specs.Tables.{Tables}
 use Rattle.sql_tables.specs.TableDefs.{TableDef}
 use Rattle.plant_tables.specs.DeskTableDefs.{table_defs_of}

@@ -3,7 +3,7 @@ use Rattle.std.proofs.Common.{◌≡◌, ◌∙◌, Bool, true, false, Option, S
 use Rattle.std.specs.Prelude.{is_none}
 use Rattle.std.proofs.lemmas.Bool.{false≢true}
 use Rattle.plant_base.specs.State.{State}
-use Rattle.plant_base.specs.declared.command.Envelope.{Envelope}
+use Rattle.plant_base.specs.{Envelope}
 use Rattle.plant_rules.specs.Wrong.{is_whole, wrong}
 use Rattle.plant_causes.specs.Causes.{checked}
 use Rattle.plant_causes.specs.declared.checking.Checked.{Checked}

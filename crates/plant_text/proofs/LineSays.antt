@@ -14,8 +14,7 @@ use Rattle.plant_worklists.specs.declared.cursors.DueCursor.{DueCursor}
 use Rattle.plant_worklists.specs.declared.cursors.HoldCursor.{HoldCursor}
 use Rattle.plant_worklists.specs.declared.cursors.MovementCursor.{MovementCursor}
 use Rattle.plant_worklists.specs.declared.cursors.RecipeCursor.{RecipeCursor}
-use Rattle.plant_base.specs.declared.states.JobState.{JobState}
-use Rattle.plant_base.specs.declared.states.RecipeState.{RecipeState}
+use Rattle.plant_base.specs.{JobState, RecipeState}
 use Rattle.plant_messages.specs.declared.question.Question.{Question}
 use Rattle.plant_messages.specs.declared.question.Question.TheVariants as Q
 use Rattle.plant_message_schema.specs.declared.members.Member.{Member}

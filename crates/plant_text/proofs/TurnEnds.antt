@@ -6,7 +6,7 @@ use Rattle.plant_text.proofs.KnownBytes.{Appends-nil}
 use Rattle.plant_text.proofs.LineSays.{line_long}
 use Rattle.plant_base.specs.State.{State}
 use Rattle.plant_desk.specs.Keepers.{States, Executes, Asks, shuts}
-use Rattle.plant_base.specs.declared.command.Envelope.{Envelope}
+use Rattle.plant_base.specs.{Envelope}
 use Rattle.plant_messages.specs.declared.question.Question.{Question}
 use Rattle.plant_messages.specs.declared.reply.DeskFault.{DeskFault}
 use Rattle.plant_messages.specs.declared.reply.DeskFault.TheVariants.{Store, Memory, Shut}

@@ -3,7 +3,7 @@ use Rattle.std.specs.Prelude.{◌≡◌, ℕ, ◌≤◌, ◌==◌, ◌||◌, Lis
 use Rattle.std.specs.Str.Lines.{strip_carriage_return, lines}
 use Rattle.std.specs.Io.KnownBytes.{Appends, IsAtEnd}
 use Rattle.plant_base.specs.State.{State}
-use Rattle.plant_base.specs.declared.command.Envelope.{Envelope}
+use Rattle.plant_base.specs.{Envelope}
 use Rattle.plant_base.specs.declared.refusal.Refusal.TheVariants.{BadForm}
 use Rattle.plant_rules.specs.Step.{step}
 use Rattle.plant_desk.specs.Replies.{reply}

@@ -4,7 +4,7 @@ use Rattle.serde_json.specs.Data.{Data}
 use Rattle.serde_json.specs.declared.value.Value.{Value}
 use Rattle.serde_json.specs.View.{items_of, view}
 use Rattle.serde_json.specs.Written.{has_float, items_have_float, compact_text}
-use Rattle.plant_base.specs.declared.rows.Movement.{Movement}
+use Rattle.plant_base.specs.{Lifting, Movement, Recall, RecipeLine}
 use Rattle.plant_view.specs.Genealogy.{batch_by, ends_of}
 use Rattle.plant_messages.specs.declared.genealogy.BookedEdge.{BookedEdge}
 use Rattle.plant_messages.specs.declared.genealogy.Genealogy.{Genealogy}
@@ -23,9 +23,6 @@ use Rattle.plant_messages.specs.declared.question.RecallAnswer.{RecallAnswer}
 use Rattle.plant_messages.specs.declared.question.BatchLines.{BatchLines}
 use Rattle.plant_messages.specs.declared.question.BookedLine.{BookedLine}
 use Rattle.plant_messages.specs.declared.question.RecipeAnswer.{RecipeAnswer}
-use Rattle.plant_base.specs.declared.rows.Lifting.{Lifting}
-use Rattle.plant_base.specs.declared.rows.Recall.{Recall}
-use Rattle.plant_base.specs.declared.rows.RecipeLine.{RecipeLine}
 use Rattle.plant_base.specs.declared.rows.RecipeLine.TheVariants as line
 use Rattle.plant_text_answers.specs.BatchAnswers.{booking_data, batch_data}
 use Rattle.plant_trace.specs.declared.node.Node.{Node}

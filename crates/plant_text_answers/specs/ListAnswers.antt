@@ -3,16 +3,8 @@ use Rattle.std.specs.Prelude.{ℕ, List, Option, Some, None, map, codes}
 use Rattle.serde_json.specs.Data.{Data, null, boolean, string, array, object, member, no_members}
 use Rattle.serde_json.specs.View.{items_of}
 use Rattle.plant_base.specs.Words.{batch_state_name}
-use Rattle.plant_base.specs.declared.rows.Class.{Class}
-use Rattle.plant_base.specs.declared.rows.Definition.{Definition}
-use Rattle.plant_base.specs.declared.rows.Hold.{Hold}
-use Rattle.plant_base.specs.declared.rows.Job.{Job}
-use Rattle.plant_base.specs.declared.rows.Lifting.{Lifting}
-use Rattle.plant_base.specs.declared.rows.Movement.{Movement}
-use Rattle.plant_base.specs.declared.rows.MovementKind.{MovementKind}
+use Rattle.plant_base.specs.{Class, Definition, Hold, Job, Lifting, Movement, MovementKind, Recall, Recipe}
 use Rattle.plant_base.specs.declared.rows.MovementKind.TheVariants as kind
-use Rattle.plant_base.specs.declared.rows.Recall.{Recall}
-use Rattle.plant_base.specs.declared.rows.Recipe.{Recipe}
 use Rattle.plant_view.specs.Genealogy.{batch_by}
 use Rattle.plant_worklists.specs.Worklists.{other_lot}
 use Rattle.plant_worklists.specs.declared.page.Page.{Page}

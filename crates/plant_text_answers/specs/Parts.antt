@@ -2,7 +2,7 @@
 use Rattle.std.specs.Prelude.{ℕ, List, map, codes, Option, Some, None}
 use Rattle.serde_json.specs.Data.{Data, Items, null, string, object, member, no_members}
 use Rattle.serde_json.specs.View.{items_of}
-use Rattle.plant_base.specs.declared.rows.Sublot.{Sublot}
+use Rattle.plant_base.specs.{Sublot}
 use Rattle.plant_text_answers.specs.Natural.{natural}
 
 abbrev pub sublot_data : Sublot → Data

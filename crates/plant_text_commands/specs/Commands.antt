@@ -3,8 +3,7 @@ use Rattle.std.specs.Prelude.{ℕ, List, [], ◌∷◌, codes, Option, Some, Non
 use Rattle.std.specs.Option.{option_or}
 use Rattle.serde_json.specs.Data.{Data}
 use Rattle.serde_json.specs.Find.{get, as_str}
-use Rattle.plant_base.specs.declared.command.Command.{Command}
-use Rattle.plant_base.specs.declared.command.Envelope.{Envelope}
+use Rattle.plant_base.specs.{Command, Envelope}
 use Rattle.plant_message_schema.specs.declared.words.CommandKind.{CommandKind}
 use Rattle.plant_message_schema.specs.declared.words.CommandKind.TheVariants as c
 use Rattle.plant_message_schema.specs.declared.fields.Field.{Field}

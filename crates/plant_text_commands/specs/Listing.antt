@@ -1,7 +1,7 @@
 -- Commands that have a list.
 use Rattle.std.specs.Prelude.{List, [], ◌∷◌, Some, Result, Ok, Err}
 use Rattle.serde_json.specs.Data.{Data}
-use Rattle.plant_base.specs.declared.command.Command.{Command}
+use Rattle.plant_base.specs.{Command}
 use Rattle.plant_base.specs.declared.command.Command.TheVariants as body
 use Rattle.plant_message_schema.specs.declared.members.Member.TheVariants as m
 use Rattle.plant_message_schema.specs.declared.words.Row.TheVariants as row

@@ -1,6 +1,6 @@
 -- Commands that are made of their values alone.
 use Rattle.std.specs.Prelude.{List, [], ◌∷◌, Option, Some, None}
-use Rattle.plant_base.specs.declared.command.Command.{Command}
+use Rattle.plant_base.specs.{Command}
 use Rattle.plant_base.specs.declared.command.Command.TheVariants as body
 use Rattle.plant_message_schema.specs.declared.words.CommandKind.{CommandKind}
 use Rattle.plant_message_schema.specs.declared.words.CommandKind.TheVariants as c

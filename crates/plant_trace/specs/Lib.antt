@@ -10,3 +10,4 @@ pub mod Waiting
 pub mod NodeIndexes
 pub mod Mentions
 pub mod Recalls
+pub mod ReadOnly

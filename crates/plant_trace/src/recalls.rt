@@ -5,7 +5,7 @@ ghost use Rattle.std.specs.List.Sorted.{IsStrictlySortedBy};
 ghost use Rattle.plant_trace.specs.Nodes.{node_cmp};
 ghost use Rattle.plant_trace.specs.Reach.{Lists};
 ghost use Rattle.plant_trace.specs.Recalls.{IsRecalled, RecalledWhereReached, StaysWhereUnreached, GrowsByNew};
-ghost use Rattle.plant_trace.specs.HoldsIfHonest.{HoldsIfHonest};
+ghost use Rattle.plant_trace.specs.ReadOnly.{ReadOnly};
 
 use crate::direction::Direction;
 use crate::edges::Edges;
@@ -26,7 +26,7 @@ pub fn reached<E: Edges>(
     edges: &mut E,
     lot: Id,
 ) -> Result<Vec<Node>, TraceFault<E::Fault>>
-    ensures reported { HoldsIfHonest E.honest E.kept E.frame edges.old edges.new
+    ensures reported { ReadOnly E.Edges edges.old edges.new
         (IfOk result (λ nodes. Lists (IsRecalled (E.pairs edges.old) lot) nodes.items)) }
 
     // of every source

@@ -4,7 +4,7 @@ ghost use Rattle.std.specs.Prelude.{◌≡◌, List, IfOk};
 ghost use Rattle.std.specs.List.Sorted.{IsStrictlySortedBy};
 ghost use Rattle.plant_trace.specs.Nodes.{node_cmp};
 ghost use Rattle.plant_trace.specs.Reach.{IsReached, Lists};
-ghost use Rattle.plant_trace.specs.HoldsIfHonest.{HoldsIfHonest};
+ghost use Rattle.plant_trace.specs.ReadOnly.{ReadOnly};
 
 use crate::direction::Direction;
 use crate::edges::Edges;
@@ -24,7 +24,7 @@ pub fn closure_in_rounds<E: Edges>(
     start: Node,
     direction: Direction,
 ) -> Result<Vec<Node>, TraceFault<E::Fault>>
-    ensures reported { HoldsIfHonest E.honest E.kept E.frame edges.old edges.new
+    ensures reported { ReadOnly E.Edges edges.old edges.new
         (IfOk result (λ nodes. Lists (IsReached direction (E.pairs edges.old) start) nodes.items)) }
 
     // of every source

@@ -2,7 +2,7 @@
 
 ghost use Rattle.std.specs.Prelude.{◌≡◌, List, IfOk};
 ghost use Rattle.plant_trace.specs.Reach.{IsNext, Lists};
-ghost use Rattle.plant_trace.specs.HoldsIfHonest.{HoldsIfHonest};
+ghost use Rattle.plant_trace.specs.ReadOnly.{ReadOnly};
 
 use crate::direction::Direction;
 use crate::edges::Edges;
@@ -16,7 +16,7 @@ pub fn ask<E: Edges>(
     node: Node,
     direction: Direction,
 ) -> Result<Vec<Node>, TraceFault<E::Fault>>
-    ensures { HoldsIfHonest E.honest E.kept E.frame edges.old edges.new
+    ensures { ReadOnly E.Edges edges.old edges.new
         (IfOk result (λ nodes. Lists (IsNext direction (E.pairs edges.old) node) nodes.items)) }
 {
     let answer = match direction {

@@ -5,9 +5,7 @@ use Rattle.std.specs.List.{AllByRecursion}
 use Rattle.std.proofs.lemmas.Bool.{false≢true}
 use Rattle.plant_base.specs.Values.{greatest_amount}
 use Rattle.plant_base.specs.State.{State, same, put, lot_order, place_order, lot_at, place_at}
-use Rattle.plant_base.specs.declared.rows.Lot.{Lot}
-use Rattle.plant_base.specs.declared.rows.Place.{Place}
-use Rattle.plant_base.specs.declared.refusal.Refusal.{Refusal}
+use Rattle.plant_base.specs.{Lot, Place, Refusal}
 use Rattle.plant_base.proofs.PutKeepsOrder.{found_still, found_same}
 use Rattle.plant_base.proofs.FindIsFirst.{found_passes, found_keeps}
 use Rattle.plant_base.proofs.KeyOrders.{same_key, lot_tie, place_tie}

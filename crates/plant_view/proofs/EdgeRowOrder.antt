@@ -7,8 +7,7 @@ use Rattle.std.specs.declared.cmp.Ordering.{Ordering}
 use Rattle.std.specs.List.Sorted.{IsStrictlySortedBy}
 use Rattle.plant_base.specs.Edges.{edge_order, edge_total}
 use Rattle.plant_base.specs.State.{put}
-use Rattle.plant_base.specs.declared.rows.EdgeRow.{EdgeRow}
-use Rattle.plant_base.specs.declared.rows.Movement.{Movement}
+use Rattle.plant_base.specs.{EdgeRow, Movement}
 use Rattle.plant_view.specs.Genealogy.{edge_row_of, edge_rows}
 use Rattle.plant_view.specs.Rows.{put_all}
 use Rattle.plant_view.specs.Tables.{edges_in}

@@ -26,10 +26,8 @@ use Rattle.plant_base.specs.Recalls.{is_open, mark_kind_number, mark_order, mark
 use Rattle.plant_view.specs.Recalls.{mark_on, node_at, node_of, nodes_from, marks_of, marks, Reaches, recalls_on, is_on}
 use Rattle.plant_view.specs.Rows.{put_all}
 use Rattle.plant_view.specs.MarkLaws.{AreThePairs, StayWhereUnreached, GrowByProduct, ComeWithRecall, GoWithLift, AreOnNode}
-use Rattle.plant_base.specs.declared.rows.Mark.{Mark}
-use Rattle.plant_base.specs.declared.rows.MarkKind.{MarkKind}
+use Rattle.plant_base.specs.{Mark, MarkKind, Recall}
 use Rattle.plant_base.specs.declared.rows.MarkKind.TheVariants as kind
-use Rattle.plant_base.specs.declared.rows.Recall.{Recall}
 use Rattle.plant_view.proofs.RowKeys.{both_tie}
 use Rattle.plant_view.proofs.Membership.{all_at, map_in, map_from, filter_in, filter_from, flat_in, flat_from, put_in, put_from, put_past, put_once, all_stay, all_in, one_list, put_all_from, sorted_put_all, map_sorted}
 

@@ -9,8 +9,7 @@ use Rattle.std.specs.declared.cmp.Ordering.TheVariants.{Less, Equal, Greater}
 use Rattle.std.proofs.lemmas.List.Sums.{sum_by-cons}
 use Rattle.std.proofs.lemmas.Bool.{false≢true}
 use Rattle.plant_base.specs.State.{State, place_order}
-use Rattle.plant_base.specs.declared.rows.Place.{Place}
-use Rattle.plant_base.specs.declared.rows.Movement.{Movement}
+use Rattle.plant_base.specs.{Movement, Place}
 use Rattle.plant_base.proofs.PutKeepsOrder.{at_rest, all_weaker}
 use Rattle.plant_base.proofs.KeyOrders.{same_key, place_order_total, same_key_tie, test_tie}
 use Rattle.plant_stock.specs.Stock.{is_sublot_key}

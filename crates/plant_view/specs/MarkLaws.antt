@@ -10,9 +10,7 @@ use Rattle.plant_trace.specs.declared.node.Node.{Node}
 use Rattle.plant_base.specs.Recalls.{mark_order, is_open}
 use Rattle.plant_view.specs.Recalls.{node_at, is_on, marks, mark_on, node_of, recalls_on, Reaches}
 use Rattle.plant_view.specs.Rows.{put_all}
-use Rattle.plant_base.specs.declared.rows.Mark.{Mark}
-use Rattle.plant_base.specs.declared.rows.MarkKind.{MarkKind}
-use Rattle.plant_base.specs.declared.rows.Recall.{Recall}
+use Rattle.plant_base.specs.{Mark, MarkKind, Recall}
 
 -- the marks are the pairs of an open recall and a node that it reaches, each once
 abbrev pub AreThePairs : Type 0

@@ -3,11 +3,8 @@ use Rattle.std.specs.Prelude.{◌≡◌, ◌==◌, ℕ, Bool, true, not, ◌&&�
 use Rattle.std.specs.List.{flat_map}
 use Rattle.plant_base.specs.Recalls.{is_open, mark_kind_number, mark_order}
 use Rattle.plant_base.specs.State.{State, same}
-use Rattle.plant_base.specs.declared.rows.Mark.{Mark}
-use Rattle.plant_base.specs.declared.rows.MarkKind.{MarkKind}
+use Rattle.plant_base.specs.{Mark, MarkKind, Movement, Recall}
 use Rattle.plant_base.specs.declared.rows.MarkKind.TheVariants as kind
-use Rattle.plant_base.specs.declared.rows.Movement.{Movement}
-use Rattle.plant_base.specs.declared.rows.Recall.{Recall}
 use Rattle.plant_trace.specs.Reach.{leads}
 use Rattle.plant_trace.specs.Recalls.{IsRecalled, is_recalled}
 use Rattle.plant_trace.specs.declared.node.Node.{Node}

@@ -2,8 +2,7 @@
 use Rattle.std.specs.Prelude.{ℕ, ◌-◌, Bool, Option, Some, filter, length, if◌then◌else◌, nat_le, List}
 use Rattle.plant_base.specs.Values.{greatest_seq}
 use Rattle.plant_base.specs.State.{State, same}
-use Rattle.plant_base.specs.declared.rows.Hold.{Hold}
-use Rattle.plant_base.specs.declared.refusal.Refusal.{Refusal}
+use Rattle.plant_base.specs.{Hold, Refusal}
 use Rattle.plant_stock.specs.Stock.{entered, left}
 
 -- refused where the test holds, and else for what follows

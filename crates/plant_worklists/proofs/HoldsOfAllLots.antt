@@ -9,7 +9,7 @@ use Rattle.std.specs.Set.{sorted_merge}
 use Rattle.std.specs.declared.cmp.Ordering.{Ordering}
 use Rattle.std.specs.declared.cmp.Ordering.TheVariants.{Less, Equal, Greater}
 use Rattle.plant_base.specs.State.{State, hold_order, id_cmp, same}
-use Rattle.plant_base.specs.declared.rows.Hold.{Hold}
+use Rattle.plant_base.specs.{Hold}
 use Rattle.plant_view.specs.DecisionInvariant.{DecisionInvariant}
 use Rattle.plant_worklists.specs.Worklists.{all_holds, holds_after, holds_on, is_after, is_hold_after, is_hold_on}
 use Rattle.plant_worklists.specs.declared.cursors.HoldCursor.{HoldCursor}

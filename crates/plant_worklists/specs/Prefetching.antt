@@ -3,9 +3,7 @@ use Rattle.std.specs.Prelude.{◌≡◌, ◌-◌, ◌==◌, ℕ, Bool, true, fal
 use Rattle.std.specs.List.{starts_with}
 use Rattle.std.specs.Ordering.{is_lt}
 use Rattle.plant_base.specs.State.{State, id_cmp, same}
-use Rattle.plant_base.specs.declared.rows.Hold.{Hold}
-use Rattle.plant_base.specs.declared.rows.Lot.{Lot}
-use Rattle.plant_base.specs.declared.rows.Sublot.{Sublot}
+use Rattle.plant_base.specs.{Hold, Lot, Sublot}
 use Rattle.plant_view.specs.Tables.{sublot_row}
 use Rattle.plant_worklists.specs.FetchPolicy.{after_hit, after_miss, first_policy, is_due, row_with}
 use Rattle.plant_worklists.specs.Pages.{page_of}

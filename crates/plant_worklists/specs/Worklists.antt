@@ -5,21 +5,8 @@ use Rattle.std.specs.declared.cmp.Ordering.{Ordering}
 use Rattle.plant_base.specs.Recalls.{is_open}
 use Rattle.plant_base.specs.State.{State, id_cmp, numbered_cmp, same}
 use Rattle.plant_base.specs.Words.{job_state_name, recipe_state_name}
-use Rattle.plant_base.specs.declared.rows.BatchRow.{BatchRow}
-use Rattle.plant_base.specs.declared.rows.Class.{Class}
-use Rattle.plant_base.specs.declared.rows.Definition.{Definition}
-use Rattle.plant_base.specs.declared.rows.Hold.{Hold}
-use Rattle.plant_base.specs.declared.rows.Job.{Job}
-use Rattle.plant_base.specs.declared.rows.Lot.{Lot}
-use Rattle.plant_base.specs.declared.rows.Movement.{Movement}
-use Rattle.plant_base.specs.declared.rows.MovementKind.{MovementKind}
+use Rattle.plant_base.specs.{BatchRow, Class, Definition, Hold, Job, JobState, Lot, Movement, MovementKind, Recall, Receipt, Recipe, RecipeState, Sublot}
 use Rattle.plant_base.specs.declared.rows.MovementKind.TheVariants as kind
-use Rattle.plant_base.specs.declared.rows.Recall.{Recall}
-use Rattle.plant_base.specs.declared.rows.Receipt.{Receipt}
-use Rattle.plant_base.specs.declared.rows.Recipe.{Recipe}
-use Rattle.plant_base.specs.declared.rows.Sublot.{Sublot}
-use Rattle.plant_base.specs.declared.states.JobState.{JobState}
-use Rattle.plant_base.specs.declared.states.RecipeState.{RecipeState}
 use Rattle.plant_view.specs.Tables.{batch_row, sublot_row}
 use Rattle.plant_view.specs.Views.{is_named}
 use Rattle.plant_worklists.specs.Sorting.{in_order}

@@ -1,7 +1,7 @@
 //! A page of the holds of all lots.
 ghost use Rattle.std.specs.Prelude.{◌≡◌, true, List, Some, IfOk};
-ghost use Rattle.plant_base.specs.declared.rows.Hold.{Hold as Row};
-ghost use Rattle.plant_trace.specs.HoldsIfHonest.{HoldsIfHonest};
+ghost use Rattle.plant_base.specs.{Hold as Row};
+ghost use Rattle.plant_trace.specs.ReadOnly.{ReadOnly};
 ghost use Rattle.plant_view.specs.DecisionInvariant.{DecisionInvariant};
 ghost use Rattle.std.specs.Set.{sorted_merge};
 ghost use Rattle.plant_base.specs.State.{hold_order};
@@ -23,7 +23,7 @@ pub fn all_holds<V: Worklists>(
     view: &mut V,
     cursor: Option<HoldCursor>,
 ) -> Result<Page<Hold>, ViewFault<V::Fault>>
-    ensures { HoldsIfHonest V.honest V.kept V.frame view.old view.new
+    ensures { ReadOnly V.Edges view.old view.new
         (DecisionInvariant (V.state view.old)
         → IfOk result (λ page. page ≡ page_of (all_holds (V.state view.old) cursor))) }
 {
@@ -39,7 +39,7 @@ fn holds_beyond<V: Worklists>(
     view: &mut V,
     place: HoldCursor,
 ) -> Result<Page<Hold>, ViewFault<V::Fault>>
-    ensures { HoldsIfHonest V.honest V.kept V.frame view.old view.new
+    ensures { ReadOnly V.Edges view.old view.new
         (IfOk result (λ page. page ≡ page_of (sorted_merge hold_order true
         (holds_on (V.state view.old) place.lot (Some place.hold))
         (holds_after (V.state view.old) (Some place.lot))))) }
@@ -55,7 +55,7 @@ fn holds_on<V: Worklists>(
     view: &mut V,
     place: HoldCursor,
 ) -> Result<Page<Hold>, ViewFault<V::Fault>>
-    ensures { HoldsIfHonest V.honest V.kept V.frame view.old view.new
+    ensures { ReadOnly V.Edges view.old view.new
         (IfOk result (λ page. page
         ≡ page_of (holds_on (V.state view.old) place.lot (Some place.hold)))) }
 {
@@ -68,7 +68,7 @@ fn holds_after<V: Worklists>(
     view: &mut V,
     lot: Option<Id>,
 ) -> Result<Page<Hold>, ViewFault<V::Fault>>
-    ensures { HoldsIfHonest V.honest V.kept V.frame view.old view.new
+    ensures { ReadOnly V.Edges view.old view.new
         (IfOk result (λ page. page ≡ page_of (holds_after (V.state view.old) lot))) }
 {
     view.holds_after(lot).map_err(ViewFault::View)

@@ -2,7 +2,7 @@
 
 ghost use Rattle.std.specs.Prelude.{◌≡◌, true, false, IfErr, IfOk, IsOk, length, nat_le, slice_get};
 ghost use Rattle.plant_base.specs.State.{lot_at};
-ghost use Rattle.plant_trace.specs.HoldsIfHonest.{HoldsIfHonest};
+ghost use Rattle.plant_trace.specs.ReadOnly.{ReadOnly};
 ghost use Rattle.plant_view.specs.Refusals.{is_held};
 ghost use Rattle.plant_view.specs.DecisionInvariant.{DecisionInvariant};
 ghost use Rattle.plant_view.specs.Tables.{sublots_of};
@@ -23,10 +23,10 @@ fn prefetch_page<V: Worklists, R: OfLot>(
     prefetch: &mut ReadAhead<R>,
     lot: &Id,
 ) -> Result<(), ViewFault<V::Fault>>
-    ensures valid { HoldsIfHonest V.honest V.kept V.frame view.old view.new
+    ensures valid { ReadOnly V.Edges view.old view.new
         (DecisionInvariant (V.state view.old) → IsValidPrefetch R.lot_of (R.all (V.state view.old)) prefetch.old
         → IsValidPrefetch R.lot_of (R.all (V.state view.old)) prefetch.new) }
-    ensures ahead { HoldsIfHonest V.honest V.kept V.frame view.old view.new
+    ensures ahead { ReadOnly V.Edges view.old view.new
         (DecisionInvariant (V.state view.old) → IfOk result (λ _. prefetch.new
         ≡ prefetched R.lot_of (R.all (V.state view.old)) lot.now prefetch.old)) }
     ensures unasked { wants_page lot.now (asked_for lot.now prefetch.old) ≡ false
@@ -49,11 +49,11 @@ pub fn prefetched_lot<V: Worklists>(
     prefetch: &mut ReadAhead<Lot>,
     id: &Id,
 ) -> Result<Option<Lot>, ViewFault<V::Fault>>
-    ensures found { HoldsIfHonest V.honest V.kept V.frame view.old view.new
+    ensures found { ReadOnly V.Edges view.old view.new
         (DecisionInvariant (V.state view.old) → IsValidLotPrefetch (V.state view.old) prefetch.old
         → IfOk result (λ found. found ≡ lot_at (V.state view.old) id.now)
         × IsValidLotPrefetch (V.state view.old) prefetch.new) }
-    ensures ahead { HoldsIfHonest V.honest V.kept V.frame view.old view.new
+    ensures ahead { ReadOnly V.Edges view.old view.new
         (DecisionInvariant (V.state view.old)
         → IfOk result (λ _. prefetch.new ≡ prefetched_lots (V.state view.old) id.now prefetch.old)) }
     ensures unasked { is_answered id.now prefetch.old ≡ true → view.new ≡ view.old }
@@ -73,11 +73,11 @@ pub fn prefetched_is_held<V: Worklists>(
     prefetch: &mut ReadAhead<Hold>,
     lot: &Id,
 ) -> Result<bool, ViewFault<V::Fault>>
-    ensures found { HoldsIfHonest V.honest V.kept V.frame view.old view.new
+    ensures found { ReadOnly V.Edges view.old view.new
         (DecisionInvariant (V.state view.old) → IsValidHoldPrefetch (V.state view.old) prefetch.old
         → IfOk result (λ held. held ≡ is_held (V.state view.old) lot.now)
         × IsValidHoldPrefetch (V.state view.old) prefetch.new) }
-    ensures ahead { HoldsIfHonest V.honest V.kept V.frame view.old view.new
+    ensures ahead { ReadOnly V.Edges view.old view.new
         (DecisionInvariant (V.state view.old)
         → IfOk result (λ _. prefetch.new ≡ prefetched_holds (V.state view.old) lot.now prefetch.old)) }
     ensures unasked { is_answered lot.now prefetch.old ≡ true → view.new ≡ view.old }
@@ -98,11 +98,11 @@ pub fn prefetched_sublots<V: Worklists>(
     prefetch: &mut ReadAhead<Sublot>,
     lot: &Id,
 ) -> Result<Vec<Sublot>, ViewFault<V::Fault>>
-    ensures found { HoldsIfHonest V.honest V.kept V.frame view.old view.new
+    ensures found { ReadOnly V.Edges view.old view.new
         (DecisionInvariant (V.state view.old) → IsValidSublotPrefetch (V.state view.old) prefetch.old
         → IfOk result (λ rows. rows.items ≡ sublots_of (V.state view.old) lot.now)
         × IsValidSublotPrefetch (V.state view.old) prefetch.new) }
-    ensures ahead { HoldsIfHonest V.honest V.kept V.frame view.old view.new
+    ensures ahead { ReadOnly V.Edges view.old view.new
         (DecisionInvariant (V.state view.old)
         → IfOk result (λ _. prefetch.new ≡ prefetched_sublots (V.state view.old) lot.now prefetch.old)) }
     ensures unasked { is_answered lot.now prefetch.old ≡ true → view.new ≡ view.old }

@@ -1,6 +1,6 @@
 //! The movements into a lot, with the fault of a decision: `ViewFault::View` where the view failed.
 ghost use Rattle.std.specs.Prelude.{◌≡◌, IfOk};
-ghost use Rattle.plant_trace.specs.HoldsIfHonest.{HoldsIfHonest};
+ghost use Rattle.plant_trace.specs.ReadOnly.{ReadOnly};
 ghost use Rattle.plant_worklists.specs.Worklists.{movements_into, other_lot};
 
 use crate::view::Worklists;
@@ -13,7 +13,7 @@ pub fn movements_into<V: Worklists>(
     view: &mut V,
     lot: Id,
 ) -> Result<Vec<Movement>, ViewFault<V::Fault>>
-    ensures { HoldsIfHonest V.honest V.kept V.frame view.old view.new
+    ensures { ReadOnly V.Edges view.old view.new
         (IfOk result (λ rows. rows.items ≡ movements_into (V.state view.old) lot)) }
 {
     view.movements_into(lot).map_err(ViewFault::View)

@@ -13,7 +13,7 @@ use plant_view::ViewFault;
 pub trait OfLot: Sized + Copy {
     ghost use Rattle.std.specs.Prelude.{◌≡◌, ℕ, Bool, List, IfOk, filter};
     ghost use Rattle.plant_base.specs.State.{State};
-    ghost use Rattle.plant_trace.specs.HoldsIfHonest.{HoldsIfHonest};
+    ghost use Rattle.plant_trace.specs.ReadOnly.{ReadOnly};
     ghost use Rattle.plant_view.specs.DecisionInvariant.{DecisionInvariant};
     ghost use Rattle.plant_worklists.specs.Prefetching.{Rise, rows_after};
     ghost use Rattle.plant_worklists.specs.Pages.{page_of};
@@ -36,7 +36,7 @@ pub trait OfLot: Sized + Copy {
         view: &mut V,
         cursor: Option<Id>,
     ) -> Result<Page<Self>, ViewFault<V::Fault>>
-        ensures { HoldsIfHonest V.honest V.kept V.frame view.old view.new
+        ensures { ReadOnly V.Edges view.old view.new
             (DecisionInvariant (V.state view.old)
             → IfOk result (λ page. page ≡ page_of (rows_after lot_of cursor (all (V.state view.old))))) };
 }

@@ -1,6 +1,6 @@
 ghost use Rattle.std.specs.Prelude.{◌≡◌, IfOk};
 ghost use Rattle.plant_base.specs.State.{State, recall_at};
-ghost use Rattle.plant_trace.specs.HoldsIfHonest.{HoldsIfHonest};
+ghost use Rattle.plant_trace.specs.ReadOnly.{ReadOnly};
 ghost use Rattle.plant_rules.specs.Recalling.{wrong_lift, lift, lifted};
 ghost use Rattle.plant_view.specs.OneBatch.{PutsOneBatch};
 ghost use Rattle.plant_view.specs.DecisionInvariant.{DecisionInvariant};
@@ -19,7 +19,7 @@ pub(crate) fn decide_lift<V: View>(
 ) -> Result<Decision, ViewFault<V::Fault>>
     requires seq { V.honest view.old → seq ≡ (V.state view.old).seq }
     requires sound { V.honest view.old → DecisionInvariant (V.state view.old) }
-    ensures decides { HoldsIfHonest V.honest V.kept V.frame view.old view.new
+    ensures decides { ReadOnly V.Edges view.old view.new
         (IfOk result (Decides (wrong_lift (V.state view.old) c.now) (V.state view.old)
         (lift (V.state view.old) stamp.now c.now))) }
     ensures one_batch { IfOk result PutsOneBatch }

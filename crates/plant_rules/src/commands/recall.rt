@@ -3,7 +3,7 @@ ghost use Rattle.plant_base.specs.Values.{greatest_seq};
 ghost use Rattle.plant_base.specs.State.{State, lot_at, recall_at};
 ghost use Rattle.plant_trace.specs.Reach.{Lists};
 ghost use Rattle.plant_trace.specs.Recalls.{IsRecalled};
-ghost use Rattle.plant_trace.specs.HoldsIfHonest.{HoldsIfHonest};
+ghost use Rattle.plant_trace.specs.ReadOnly.{ReadOnly};
 ghost use Rattle.plant_rules.specs.Recalling.{may_open, wrong_recall, recall, recall_rows, opened};
 ghost use Rattle.plant_view.specs.Genealogy.{edges_of};
 ghost use Rattle.plant_view.specs.Recalls.{mark_on};
@@ -25,7 +25,7 @@ pub(crate) fn decide_recall<V: View>(
 ) -> Result<Decision, ViewFault<V::Fault>>
     requires seq { V.honest view.old → seq ≡ (V.state view.old).seq }
     requires sound { V.honest view.old → DecisionInvariant (V.state view.old) }
-    ensures decides { HoldsIfHonest V.honest V.kept V.frame view.old view.new
+    ensures decides { ReadOnly V.Edges view.old view.new
         (IfOk result (Decides (wrong_recall (V.state view.old) c.now) (V.state view.old)
         (recall (V.state view.old) stamp.now c.now))) }
     ensures one_batch { IfOk result PutsOneBatch }
@@ -50,7 +50,7 @@ fn nodes_reached<V: View>(
     lot: Id,
     is_wanted: bool,
 ) -> Result<Vec<Node>, ViewFault<V::Fault>>
-    ensures { HoldsIfHonest V.honest V.kept V.frame view.old view.new
+    ensures { ReadOnly V.Edges view.old view.new
         (IfOk result (λ nodes. is_wanted ≡ true
         → Lists (IsRecalled (edges_of (V.state view.old)) lot) nodes.items)) }
 {

@@ -1,7 +1,7 @@
 use Rattle.std.proofs.Common.{◌≡◌, ◌∙◌, Option, option_map, ap}
 use Rattle.std.proofs.lemmas.Result.{IfOk-from_err}
 use Rattle.plant_base.specs.State.{definition_at}
-use Rattle.plant_base.specs.declared.rows.Definition.{Definition}
+use Rattle.plant_base.specs.{Definition}
 use Rattle.plant_trace.proofs.HoldsIfHonest.{HoldsIfHonest-then, HoldsIfHonest-weaker}
 use Rattle.plant_view.specs.Recalls.{is_blocked}
 use Rattle.plant_answers.specs.Genealogy.{lot_node}

@@ -1,7 +1,7 @@
 use Rattle.std.proofs.Common.{◌≡◌, ◌+◌, drop}
 use Rattle.std.specs.Prelude.{not}
 use Rattle.std.specs.List.{position_from}
-use Rattle.plant_base.specs.declared.rows.RecipeLine.{RecipeLine}
+use Rattle.plant_base.specs.{RecipeLine}
 use Rattle.plant_trace.specs.HoldsIfHonest.{HoldsIfHonest}
 use Rattle.plant_view.specs.Production.{is_known}
 use Rattle.plant_causes.proofs.lines.first_unknown.Given as goal

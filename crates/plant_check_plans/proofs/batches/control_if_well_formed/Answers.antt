@@ -1,5 +1,5 @@
 use Rattle.std.proofs.Common.{◌≡◌, ◌∙◌, ap, sym, subst, refl, cond, List, Option, None, IfOk}
-use Rattle.plant_base.specs.declared.rows.RecipeLine.{RecipeLine}
+use Rattle.plant_base.specs.{RecipeLine}
 use Rattle.plant_recipe.specs.WellFormed.{WholeRecipe}
 use Rattle.plant_check_plans.specs.Batches.{control_sized, control_if_well_formed}
 use Rattle.plant_check_plans.proofs.batches.control_if_well_formed.Goals as goal

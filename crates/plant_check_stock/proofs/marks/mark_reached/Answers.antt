@@ -1,6 +1,6 @@
 use Rattle.std.proofs.Common.{◌∙◌, List, subst, sym, ap, map}
 use Rattle.plant_base.specs.Recalls.{mark_order}
-use Rattle.plant_base.specs.declared.rows.Mark.{Mark}
+use Rattle.plant_base.specs.{Mark}
 use Rattle.plant_trace.specs.Reach.{Lists}
 use Rattle.plant_trace.specs.Recalls.{IsRecalled}
 use Rattle.plant_view.specs.Recalls.{mark_on}

@@ -2,7 +2,7 @@ use Rattle.std.proofs.Common.{◌≡◌, ◌∙◌, ◌+◌, ◌∷◌, [], ◌+
 use Rattle.std.proofs.lemmas.List.{take_more, map-append}
 use Rattle.std.specs.BTreeSet.{insert_key}
 use Rattle.plant_base.specs.Recalls.{mark_order}
-use Rattle.plant_base.specs.declared.rows.Mark.{Mark}
+use Rattle.plant_base.specs.{Mark}
 use Rattle.plant_view.specs.Recalls.{mark_on}
 use Rattle.plant_view.specs.Rows.{put_all}
 use Rattle.plant_view.proofs.MarkChanges.{mark_exact}

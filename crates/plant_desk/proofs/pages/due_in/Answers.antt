@@ -1,5 +1,5 @@
 use Rattle.std.proofs.Common.{◌≡◌, ◌∙◌, List, IfOk, filter, map, ap, subst}
-use Rattle.plant_base.specs.declared.rows.Job.{Job}
+use Rattle.plant_base.specs.{Job}
 use Rattle.plant_sorted.specs.declared.keys.ByDue.{ByDue}
 use Rattle.plant_worklists.specs.Sorting.{in_order}
 use Rattle.plant_worklists.specs.Worklists.{due_order, is_due_in}

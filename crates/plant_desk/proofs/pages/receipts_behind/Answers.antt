@@ -1,5 +1,5 @@
 use Rattle.std.proofs.Common.{◌≡◌, ◌∙◌, List, IfOk, filter, map, ap, subst}
-use Rattle.plant_base.specs.declared.rows.Receipt.{Receipt}
+use Rattle.plant_base.specs.{Receipt}
 use Rattle.plant_sorted.specs.declared.keys.ByNumber.{ByNumber}
 use Rattle.plant_worklists.specs.Sorting.{in_order}
 use Rattle.plant_worklists.specs.Worklists.{number_order, is_number_after}

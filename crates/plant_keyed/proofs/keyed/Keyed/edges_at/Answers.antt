@@ -2,7 +2,7 @@ use Rattle.std.proofs.Common.{◌≡◌, ◌∙◌, ◌++◌, List, filter, map,
 use Rattle.std.proofs.lemmas.Slice.{pushed}
 use Rattle.sqlite.specs.Effect.{Database}
 use Rattle.sqlite.specs.Held.{state}
-use Rattle.plant_base.specs.declared.rows.EdgeRow.{EdgeRow}
+use Rattle.plant_base.specs.{EdgeRow}
 use Rattle.plant_view.specs.Genealogy.{edge_rows, edges_among, ends_of}
 use Rattle.plant_keyed.specs.Edges.{begins_at, HasEdgesAt}
 use Rattle.plant_keyed.specs.Abstraction.{abstraction}

@@ -6,7 +6,7 @@
 ghost use Rattle.std.specs.Prelude.{◌≡◌, List, length, IfOk};
 ghost use Rattle.plant_trace.specs.Reach.{IsReached, Lists};
 ghost use Rattle.plant_trace.specs.declared.direction.Direction.TheVariants.{Forward};
-ghost use Rattle.plant_trace.specs.declared.node.Node.{Node};
+ghost use Rattle.plant_trace.specs.{Node};
 
 use plant_base::Id;
 use plant_trace::{Direction, Indexed, Node, closure};

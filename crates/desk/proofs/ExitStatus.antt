@@ -1,7 +1,7 @@
 -- The exit status of an outcome.
 use Rattle.std.proofs.Common.{◌≡◌, ℕ, Bool, true, false, List, Option, Result, Ok, Err}
 use Rattle.desk_program.specs.Performs.{Exits}
-use Rattle.desk_program.specs.declared.fault.Fault.{Fault}
+use Rattle.desk_program.specs.{Fault}
 use Rattle.desk.specs.Worked.{exit_status}
 
 pub told_with : (outcome : Result Bool Fault) (status : ℕ) (old new : Option (List ℕ)) → Exits old new status outcome → status ≡ exit_status outcome

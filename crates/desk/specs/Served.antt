@@ -1,8 +1,8 @@
 -- How the outcome of serving requests is reported.
 use Rattle.std.specs.Prelude.{Bool, false, Result, Ok, Err}
-use Rattle.desk_program.specs.declared.fault.Fault.{Fault}
+use Rattle.desk_program.specs.{Fault}
 use Rattle.desk_program.specs.declared.fault.Fault.TheVariants as fault
-use Rattle.desk_server.specs.declared.fault.ServingFault.{ServingFault}
+use Rattle.desk_server.specs.{ServingFault}
 use Rattle.desk_server.specs.declared.fault.ServingFault.TheVariants as serving
 
 -- nothing counts as a refusal, or the fault

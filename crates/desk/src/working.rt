@@ -5,7 +5,7 @@ ghost use Rattle.desk.specs.Served.{outcome_of};
 ghost use Rattle.desk.specs.Worked.{DeskServes, IsProfileOf, ServingGives, WorkGives};
 ghost use Rattle.desk_program.specs.Runs.{WasHonest};
 ghost use Rattle.desk_server.specs.Serving.{EndsServing, ServesAtMost};
-ghost use Rattle.plant_http_requests.specs.declared.profile.Profile.{Profile};
+ghost use Rattle.plant_http_requests.specs.{Profile};
 
 use desk_cli::{Hosts, Serving, Work};
 use desk_program::{Fault, Performed, adopt, perform_task, performed_of};

@@ -5,8 +5,8 @@ use Rattle.serde_json.specs.Data.{Data, array}
 use Rattle.serde_json.specs.View.{view, items_of}
 use Rattle.serde_json.specs.declared.value.Value.{Value, Array}
 use Rattle.serde_json.proofs.Views.{view-Array}
-use Rattle.plant_check.specs.declared.rule.Rule.{Rule}
-use Rattle.plant_check_rows.specs.declared.finding.Tested.{Tested}
+use Rattle.plant_check.specs.{Rule}
+use Rattle.plant_check_rows.specs.{Tested}
 use Rattle.desk_check.specs.Objects.{each_data, found_data}
 use Rattle.desk_check.specs.Reports.{found_in}
 

@@ -5,19 +5,18 @@ use Rattle.sqlite.specs.Effect.{Database}
 use Rattle.sqlite.specs.State as store
 use Rattle.sqlite.specs.State.{IsUnchanged}
 use Rattle.sql_tables.specs.AtRest.{Keeps}
-use Rattle.sql_tables.specs.declared.fault.Fault.{Fault}
+use Rattle.sql_tables.specs.{Fault}
 use Rattle.plant_base.specs.State.{newest_schema}
 use Rattle.plant_tables_read.specs.Version.{IsVersion}
-use Rattle.plant_tables_read.specs.declared.loaded.Loaded.{Loaded}
+use Rattle.plant_tables_read.specs.{FoundTables, Loaded}
 use Rattle.plant_tables_read.proofs.OneVersion.{one_version}
 use Rattle.plant_check.specs.Broken.{first_broken}
 use Rattle.plant_check.specs.Damaged.{IsDamaged}
-use Rattle.plant_check.specs.declared.rule.Rule.{Rule}
+use Rattle.plant_check.specs.{Rule}
 use Rattle.plant_check_rows.specs.Findings.{first_rule}
 use Rattle.plant_check_rows.proofs.FirstFoundIsFirstBroken.{first_found}
 use Rattle.sql_tables.specs.StoredRows.{AreFree, IsFree}
 use Rattle.plant_tables.specs.DeskTableDefs.{desk_table_defs}
-use Rattle.plant_tables_read.specs.declared.finding.FoundTables.{FoundTables}
 use Rattle.plant_tables_read.specs.declared.finding.FoundTables.TheVariants as tables
 use Rattle.plant_check.specs.declared.rule.Rule.TheVariants as rule
 use Rattle.desk_check.specs.FileReports.{HoldsRows, IsHeldBy, IsHeldIn, IsReadAt, IsFileReportOf, IsReportOf, first_reported}

@@ -4,15 +4,11 @@ use Rattle.std.specs.Prelude.{◌||◌}
 use Rattle.serde_json.specs.Data.{Data}
 use Rattle.serde_json.specs.View.{items_of}
 use Rattle.serde_json.specs.Written.{has_float, items_have_float}
-use Rattle.plant_check.specs.declared.rule.Rule.{Rule}
-use Rattle.plant_check_rows.specs.declared.fault.Column.{Column}
-use Rattle.plant_check_rows.specs.declared.fault.Key.{Key}
+use Rattle.plant_check.specs.{Rule}
+use Rattle.plant_check_rows.specs.{Column, Finding, Key, RowFault, Tested}
 use Rattle.plant_check_rows.specs.declared.fault.Key.TheVariants as key
-use Rattle.plant_check_rows.specs.declared.fault.RowFault.{RowFault}
-use Rattle.plant_check_rows.specs.declared.finding.Finding.{Finding}
 use Rattle.plant_check_rows.specs.declared.finding.Findings.{Findings}
 use Rattle.plant_check_rows.specs.declared.finding.Findings.TheVariants as findings
-use Rattle.plant_check_rows.specs.declared.finding.Tested.{Tested}
 use Rattle.desk_check.specs.Objects.{key_data, column_data, row_data, broken_data, found_data, each_data, findings_data, desk_data, file_report_data, index_data, taken_data, sentence_data, open_error_data, outcome_data}
 use Rattle.desk_check.specs.Reports.{found_in}
 use Rattle.desk_check.specs.declared.barred.DeskIndex.{DeskIndex}

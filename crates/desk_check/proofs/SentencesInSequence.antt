@@ -5,8 +5,8 @@ use Rattle.std.specs.Io.KnownBytes.{Appends}
 use Rattle.std.proofs.KnownBytes.{Appends-trans}
 use Rattle.std.proofs.lemmas.List.{take_more}
 use Rattle.plant_text.specs.Writes.{with_lf}
-use Rattle.plant_check.specs.declared.rule.Rule.{Rule}
-use Rattle.plant_check_rows.specs.declared.finding.Tested.{Tested}
+use Rattle.plant_check.specs.{Rule}
+use Rattle.plant_check_rows.specs.{Tested}
 use Rattle.desk_check.specs.declared.open_error.OpenError.{OpenError}
 use Rattle.desk_check.specs.OpenErrors.{IsErrorText, error_of}
 use Rattle.desk_check.specs.Outcomes.{opening_text, IsFirstSentence, WritesOpening}

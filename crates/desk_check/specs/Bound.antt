@@ -5,7 +5,7 @@ use Rattle.sqlite_schema.specs.declared.schema.Schema.{Schema}
 use Rattle.sqlite_schema.specs.declared.schema.View.{View}
 use Rattle.plant_base.specs.Values.{is_text}
 use Rattle.plant_check_rows.specs.Naming.{table_name}
-use Rattle.plant_check_rows.specs.declared.fault.Table.{Table}
+use Rattle.plant_check_rows.specs.{Table}
 use Rattle.plant_check_rows.specs.declared.fault.Table.TheVariants as table
 use Rattle.desk_check.specs.declared.bound.Binder.{Binder}
 use Rattle.desk_check.specs.declared.file_report.FileReport.{FileReport}

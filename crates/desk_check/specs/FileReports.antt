@@ -9,11 +9,10 @@ use Rattle.plant_tables.specs.DeskTableDefs.{desk_table_defs}
 use Rattle.plant_tables_columns.specs.TableColumns.{only_meta}
 use Rattle.plant_tables_read.specs.Loading.{AreLoaded, contents_loaded}
 use Rattle.plant_tables_read.specs.Version.{IsVersion, HasTablesOf}
-use Rattle.plant_tables_read.specs.declared.finding.FoundTables.{FoundTables}
+use Rattle.plant_tables_read.specs.{FoundTables, Loaded}
 use Rattle.plant_tables_read.specs.declared.finding.FoundTables.TheVariants as tables
-use Rattle.plant_tables_read.specs.declared.loaded.Loaded.{Loaded}
 use Rattle.plant_check.specs.Damaged.{IsDamaged}
-use Rattle.plant_check.specs.declared.rule.Rule.{Rule}
+use Rattle.plant_check.specs.{Rule}
 use Rattle.plant_check.specs.declared.rule.Rule.TheVariants as rule
 use Rattle.plant_check_rows.specs.Findings.{AreFindingsOf, first_rule}
 use Rattle.plant_check_rows.specs.declared.finding.Findings.{Findings}

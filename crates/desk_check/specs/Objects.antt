@@ -3,19 +3,15 @@ use Rattle.std.specs.Prelude.{ℕ, Bool, List, [], ◌∷◌, ◌++◌, codes, O
 use Rattle.serde_json.specs.Data.{Data, Members, null, boolean, number, unsigned, string, array, object, member, no_members}
 use Rattle.serde_json.specs.View.{items_of}
 use Rattle.plant_check.specs.Numbered.{rule_number}
-use Rattle.plant_check.specs.declared.rule.Rule.{Rule}
+use Rattle.plant_check.specs.{Rule}
 use Rattle.plant_check.specs.declared.rule.Rule.TheVariants as rule
 use Rattle.plant_check_rows.specs.Findings.{rule_text}
 use Rattle.plant_check_rows.specs.Naming.{column_name, table_name}
 use Rattle.plant_check_rows.specs.Texts.{found_text, wanted_text}
-use Rattle.plant_check_rows.specs.declared.fault.Column.{Column}
-use Rattle.plant_check_rows.specs.declared.fault.Key.{Key}
+use Rattle.plant_check_rows.specs.{Column, Finding, Key, RowFault, Tested}
 use Rattle.plant_check_rows.specs.declared.fault.Key.TheVariants as key
-use Rattle.plant_check_rows.specs.declared.fault.RowFault.{RowFault}
-use Rattle.plant_check_rows.specs.declared.finding.Finding.{Finding}
 use Rattle.plant_check_rows.specs.declared.finding.Findings.{Findings}
 use Rattle.plant_check_rows.specs.declared.finding.Findings.TheVariants as findings
-use Rattle.plant_check_rows.specs.declared.finding.Tested.{Tested}
 use Rattle.desk_check.specs.Barred.{index_name}
 use Rattle.desk_check.specs.OpenErrors.{open_error_name, cause_text, advice_text}
 use Rattle.desk_check.specs.Reports.{found_in}

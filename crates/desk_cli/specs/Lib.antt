@@ -7,3 +7,8 @@ pub mod Taken
 pub mod CheckFaults
 pub mod Checking
 pub mod DeskChecking
+pub use declared.check_fault.CheckFault.{CheckFault}
+pub use declared.meaning.Serving.{Serving}
+pub use declared.meaning.Task.{Task}
+pub use declared.meaning.WordsFault.{WordsFault}
+pub use declared.meaning.Work.{Work}

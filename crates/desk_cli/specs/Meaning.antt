@@ -8,7 +8,7 @@ use Rattle.clap.specs.Words.{Kinds, Row, Text, all_of, fault_of, first_of, subco
 use Rattle.clap.specs.declared.error.kind.ErrorKind.{ErrorKind}
 use Rattle.clap.specs.declared.error.kind.ErrorKind.TheVariants as kind
 use Rattle.plant_base.specs.Values.{greatest_moment, is_id, is_text, only}
-use Rattle.plant_trace.specs.declared.direction.Direction.{Direction}
+use Rattle.plant_trace.specs.{Direction}
 use Rattle.plant_trace.specs.declared.direction.Direction.TheVariants.{Back, Forward}
 use Rattle.desk_cli.specs.Arguments.{name_of, refusal_text}
 use Rattle.desk_cli.specs.CommandLine.{the_program, greatest_port, most_connections}

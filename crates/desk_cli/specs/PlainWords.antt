@@ -4,7 +4,7 @@ use Rattle.std.specs.Str.{bytes_eq}
 use Rattle.clap.specs.Words.{Text, fault_of, subcommand_of}
 use Rattle.clap.specs.declared.error.kind.ErrorKind.TheVariants as kind
 use Rattle.plant_base.specs.Values.{is_id}
-use Rattle.plant_trace.specs.declared.direction.Direction.{Direction}
+use Rattle.plant_trace.specs.{Direction}
 use Rattle.plant_trace.specs.declared.direction.Direction.TheVariants.{Back, Forward}
 use Rattle.desk_cli.specs.declared.argument.Argument.{Argument}
 use Rattle.desk_cli.specs.declared.argument.Argument.TheVariants as argument

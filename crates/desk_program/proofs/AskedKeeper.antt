@@ -4,11 +4,9 @@ use Rattle.std.specs.Prelude.{IfOk}
 use Rattle.plant_base.specs.State.{State}
 use Rattle.plant_answers.specs.Answers.{answer}
 use Rattle.plant_desk.specs.Keepers.{States, Asks}
-use Rattle.plant_messages.specs.declared.question.Answer.{Answer}
+use Rattle.plant_messages.specs.{Answer, DeskFault, Question}
 use Rattle.plant_messages.specs.declared.question.Answer.TheVariants as A
-use Rattle.plant_messages.specs.declared.question.Question.{Question}
 use Rattle.plant_messages.specs.declared.question.Question.TheVariants as Q
-use Rattle.plant_messages.specs.declared.reply.DeskFault.{DeskFault}
 use Rattle.plant_messages.specs.declared.reply.DeskFault.TheVariants.{Store, Memory, Shut}
 use Rattle.desk_program.specs.Faults.{summary_of}
 use Rattle.desk_program.specs.declared.fault.Fault.{Fault}

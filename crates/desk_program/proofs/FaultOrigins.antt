@@ -1,6 +1,6 @@
 -- Faults by where they come from.
 use Rattle.std.proofs.Common.{◌≡◌, ◌≢◌}
-use Rattle.plant_desk_store.specs.declared.adopting.AdoptFault.{AdoptFault}
+use Rattle.plant_desk_store.specs.{AdoptFault}
 use Rattle.plant_desk_store.specs.declared.adopting.AdoptFault.TheVariants as adopt
 use Rattle.desk_program.specs.Faults.{adopt_fault}
 use Rattle.desk_program.specs.declared.fault.Fault.{Fault}

@@ -5,7 +5,7 @@ use Rattle.plant_base.specs.Inputs.{Agrees}
 use Rattle.plant_base.specs.{OrderRow}
 use Rattle.plant_orders.specs.Orders.{orders_of}
 use Rattle.plant_orders.specs.FaultsOfFiles.{FaultOfFile}
-use Rattle.plant_orders.specs.declared.source.OrdersFault.{OrdersFault}
+use Rattle.plant_orders.specs.{OrdersFault}
 use Rattle.desk_program.specs.ImportOutcomes.{IsGivenOf}
 
 -- what a reader gave is of the file that it had left

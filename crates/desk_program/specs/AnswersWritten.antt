@@ -4,13 +4,11 @@ use Rattle.std.specs.Io.KnownBytes.{Appends}
 use Rattle.sqlite.specs.State as store
 use Rattle.plant_base.specs.State.{newest_schema}
 use Rattle.plant_trace.specs.Nodes.{node_text}
-use Rattle.plant_trace.specs.declared.node.Node.{Node}
+use Rattle.plant_trace.specs.{Node}
 use Rattle.plant_record.specs.Record.{record_text}
 use Rattle.plant_answers.specs.Answers.{answer}
-use Rattle.plant_messages.specs.declared.question.Question.{Question}
-use Rattle.plant_messages.specs.declared.question.Answer.{Answer}
+use Rattle.plant_messages.specs.{Answer, DeskFault, Question}
 use Rattle.plant_messages.specs.declared.question.Answer.TheVariants as A
-use Rattle.plant_messages.specs.declared.reply.DeskFault.{DeskFault}
 use Rattle.plant_desk_store.specs.DeskStates.{IsDurablyAt}
 use Rattle.plant_text_answers.specs.Answers.{text_of_answer}
 use Rattle.plant_text.specs.Session.{is_unknown}

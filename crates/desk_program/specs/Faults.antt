@@ -1,14 +1,12 @@
 -- The faults that the program ends with: where they come from, and the exit status of each.
 use Rattle.std.specs.Prelude.{◌≡◌, ℕ, List, Bool, Option, Result, Ok, Err, ⊤}
-use Rattle.plant_messages.specs.declared.question.Answer.{Answer}
+use Rattle.plant_messages.specs.{Answer, DeskFault}
 use Rattle.plant_messages.specs.declared.question.Answer.TheVariants as A
-use Rattle.plant_messages.specs.declared.reply.DeskFault.{DeskFault}
 use Rattle.plant_messages.specs.declared.reply.DeskFault.TheVariants as desk
-use Rattle.plant_desk_store.specs.declared.adopting.AdoptFault.{AdoptFault}
+use Rattle.plant_desk_store.specs.{AdoptFault}
 use Rattle.plant_desk_store.specs.declared.adopting.AdoptFault.TheVariants as adopt
-use Rattle.plant_text.specs.declared.run.RunEnd.{RunEnd}
+use Rattle.plant_text.specs.{RunEnd, TurnError}
 use Rattle.plant_text.specs.declared.run.RunEnd.TheVariants as end
-use Rattle.plant_text.specs.declared.turns.TurnError.{TurnError}
 use Rattle.plant_text.specs.declared.turns.TurnError.TheVariants as stop
 use Rattle.desk_program.specs.declared.fault.Fault.{Fault}
 use Rattle.desk_program.specs.declared.fault.Fault.TheVariants as fault

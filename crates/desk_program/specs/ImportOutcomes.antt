@@ -11,14 +11,12 @@ use Rattle.plant_desk_store.specs.DeskStates.{Represents, HasCrashStates}
 use Rattle.plant_orders.specs.Importing.{import}
 use Rattle.plant_orders.specs.Orders.{orders_of}
 use Rattle.plant_orders.specs.FaultsOfFiles.{csv_text, FaultOfFile}
-use Rattle.plant_orders.specs.declared.fault.CsvFault.{CsvFault}
-use Rattle.plant_orders.specs.declared.importing.ImportMetadata.{ImportMetadata}
-use Rattle.plant_orders.specs.declared.source.OrdersFault.{OrdersFault}
+use Rattle.plant_orders.specs.{CsvFault, ImportMetadata, OrdersFault}
 use Rattle.plant_orders.specs.declared.source.OrdersFault.TheVariants as none
 use Rattle.plant_text.specs.Session.{command}
 use Rattle.plant_text.specs.Turns.{TurnEnds, FaultWritten}
 use Rattle.plant_text.specs.Writes.{with_lf, AppendsPrefix}
-use Rattle.plant_text.specs.declared.turns.TurnError.{TurnError}
+use Rattle.plant_text.specs.{TurnError}
 use Rattle.desk_program.specs.Faults.{outcome_of_turn}
 use Rattle.desk_program.specs.Runs.{AdoptedIfHonest, WasRefused}
 use Rattle.desk_program.specs.declared.fault.Fault.{Fault}

@@ -6,3 +6,4 @@ pub mod Reports
 pub mod Runs
 pub mod Tasks
 pub mod Texts
+pub use declared.fault.Fault.{Fault}

@@ -6,7 +6,7 @@ use Rattle.desk_program.specs.Faults.{status_of, NothingBut}
 use Rattle.desk_program.specs.Texts.{ready_text, good_text, fault_text}
 use Rattle.desk_program.specs.declared.fault.Fault.{Fault}
 use Rattle.desk_program.specs.declared.fault.Fault.TheVariants as fault
-use Rattle.desk_cli.specs.declared.meaning.WordsFault.{WordsFault}
+use Rattle.desk_cli.specs.{WordsFault}
 use Rattle.desk_cli.specs.declared.meaning.WordsFault.TheVariants as unmeant
 
 -- some lines, of which one is written

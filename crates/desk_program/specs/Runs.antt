@@ -8,10 +8,10 @@ use Rattle.plant_desk.specs.Keepers.{States}
 use Rattle.plant_desk_store.specs.Adopting.{IsNewlyOpened, AdoptedFrom}
 use Rattle.plant_desk_store.specs.Calls.{HasRefused}
 use Rattle.plant_desk_store.specs.DeskStates.{Represents, HasCrashStates}
-use Rattle.plant_desk_store.specs.declared.adopting.AdoptFault.{AdoptFault}
+use Rattle.plant_desk_store.specs.{AdoptFault}
 use Rattle.plant_text.specs.Session.{Ends}
 use Rattle.plant_text.specs.CrashStates.{CrashStatesOfRun}
-use Rattle.plant_text.specs.declared.run.RunEnd.{RunEnd}
+use Rattle.plant_text.specs.{RunEnd}
 use Rattle.desk_program.specs.Faults.{adopt_fault, outcome_of}
 use Rattle.desk_program.specs.declared.fault.Fault.{Fault}
 

@@ -1,12 +1,12 @@
 -- What comes of a task over a store that was just opened.
 use Rattle.std.specs.Prelude.{ℕ, List, [], Bool, Option, Result}
 use Rattle.sqlite.specs.State as store
-use Rattle.plant_orders.specs.declared.importing.ImportMetadata.{ImportMetadata}
-use Rattle.plant_trace.specs.declared.direction.Direction.{Direction}
+use Rattle.plant_orders.specs.{ImportMetadata}
+use Rattle.plant_trace.specs.{Direction}
 use Rattle.plant_trace.specs.declared.node.Node.TheVariants as node
-use Rattle.plant_messages.specs.declared.question.Question.{Question}
+use Rattle.plant_messages.specs.{Question}
 use Rattle.plant_messages.specs.declared.question.Question.TheVariants as question
-use Rattle.desk_cli.specs.declared.meaning.Task.{Task}
+use Rattle.desk_cli.specs.{Task}
 use Rattle.desk_cli.specs.declared.meaning.Task.TheVariants as task
 use Rattle.desk_program.specs.AnswersWritten.{AskGives}
 use Rattle.desk_program.specs.ImportOutcomes.{ImportGives}

@@ -7,16 +7,14 @@ use Rattle.sqlite_trees.specs.declared.store.Store.{Ghosts}
 use Rattle.plant_base.specs.State.{State, newest_schema}
 use Rattle.plant_desk.specs.Keepers.{States, IsSameDesk}
 use Rattle.plant_desk_store.specs.DeskStates.{Represents, HasCrashStates, HasForeignTables}
-use Rattle.plant_desk_store.specs.declared.stored.Desk.{Desk}
+use Rattle.plant_desk_store.specs.{Desk}
 use Rattle.plant_text.specs.CrashStates.{RepresentsDurably, RepresentsEither}
 use Rattle.plant_text.specs.Session.{Entry, fold}
 use Rattle.plant_http_requests.specs.Jobs.{JobOf}
-use Rattle.plant_http_requests.specs.declared.job.Job.{Job}
-use Rattle.plant_http_requests.specs.declared.profile.Profile.{Profile}
+use Rattle.plant_http_requests.specs.{Job, Profile}
 use Rattle.plant_http.specs.Serving.{entry_of}
-use Rattle.plant_http.specs.declared.serve.Served.{Served}
+use Rattle.plant_http.specs.{ServeFault, Served}
 use Rattle.plant_http.specs.declared.serve.Served.TheVariants.{Answered, Nothing}
-use Rattle.plant_http.specs.declared.serve.ServeFault.{ServeFault}
 use Rattle.desk_server.specs.declared.fault.ServingFault.{ServingFault}
 use Rattle.desk_server.specs.declared.fault.ServingFault.TheVariants as fault
 

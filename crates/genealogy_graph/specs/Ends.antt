@@ -3,7 +3,7 @@ use Rattle.std.specs.Prelude.{List, ◌++◌, map, Contains}
 use Rattle.std.specs.List.{All}
 use Rattle.genealogy_graph.specs.declared.model.Picture.{Picture}
 use Rattle.genealogy_graph.specs.declared.model.PictureEdge.{PictureEdge}
-use Rattle.plant_trace.specs.declared.node.Node.{Node}
+use Rattle.plant_trace.specs.{Node}
 use Rattle.plant_trace.specs.declared.node.Node.TheVariants.{Lot, Batch}
 
 -- the lots of a picture, and its batches

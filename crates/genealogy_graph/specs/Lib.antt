@@ -2,3 +2,9 @@ pub mod Dot
 pub mod Reported
 pub mod United
 pub mod Ends
+pub use declared.model.Picture.{Picture}
+pub use declared.model.PictureEdge.{PictureEdge}
+pub use declared.model.PictureLot.{PictureLot}
+pub use declared.reported.GraphError.{GraphError}
+pub use declared.reported.ReportedEdge.{ReportedEdge}
+pub use declared.reported.UnitedFault.{UnitedFault}

@@ -2,14 +2,12 @@
 use Rattle.std.proofs.Common.{◌≡◌, ℕ, List, Option, String, IfOk, IfErr, Result, Ok, Err, inl, inr, ◌⊎◌, refl, subst, sym, Contains}
 use Rattle.genealogy_graph.specs.Ends.{HasEnds, IsBetween, nodes_in}
 use Rattle.genealogy_graph.specs.United.{picture_of}
-use Rattle.genealogy_graph.specs.declared.model.Picture.{Picture}
-use Rattle.genealogy_graph.specs.declared.model.PictureEdge.{PictureEdge}
-use Rattle.genealogy_graph.specs.declared.reported.GraphError.{GraphError}
+use Rattle.genealogy_graph.specs.{GraphError, Picture, PictureEdge}
 use Rattle.genealogy_graph.specs.declared.reported.GraphError.TheVariants as graph_error
 use Rattle.genealogy_graph.specs.declared.reported.Reported.{Reported}
 use Rattle.genealogy_graph.proofs.EndsFound.{ends_found}
 use Rattle.genealogy_svg.specs.Layouts.{IsEndOf, nodes_of}
-use Rattle.plant_trace.specs.declared.node.Node.{Node}
+use Rattle.plant_trace.specs.{Node}
 use Rattle.genealogy_picture.specs.Answers.{◌>>=◌}
 use Rattle.std.specs.declared.alloc.Global.{Global}
 use Rattle.std.specs.Prelude.{string_bytes}

@@ -8,7 +8,7 @@ use Rattle.plant_base.specs.Inputs.{Agrees}
 use Rattle.genealogy_picture.specs.Drawing.{IsRefused, draw_error_of_kind, read_count}
 use Rattle.genealogy_picture.specs.declared.ending.DrawError.{DrawError}
 use Rattle.genealogy_picture.specs.declared.words.Format.{Format}
-use Rattle.plant_trace.specs.declared.node.Node.{Node}
+use Rattle.plant_trace.specs.{Node}
 
 -- what was read into an empty room
 pub read_into_nothing : (known : Option (List ℕ)) (old new prefix : List ℕ) → old ≡ [] → prefix ≡ new → IfSome known (λ text. new ≡ old ++ text) → IfSome known (λ text. prefix ≡ text)

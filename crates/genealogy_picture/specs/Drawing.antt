@@ -7,19 +7,16 @@ use Rattle.std.specs.declared.io.Error.{Error}
 use Rattle.std.specs.declared.io.ErrorKind.{ErrorKind}
 use Rattle.std.specs.declared.io.ErrorKind.TheVariants as io
 use Rattle.std.specs.IoError.{error_kind}
-use Rattle.genealogy_graph.specs.declared.model.Picture.{Picture}
-use Rattle.genealogy_graph.specs.declared.reported.GraphError.{GraphError}
-use Rattle.genealogy_graph.specs.declared.reported.UnitedFault.{UnitedFault}
+use Rattle.genealogy_graph.specs.{GraphError, Picture, UnitedFault}
 use Rattle.genealogy_graph.specs.declared.reported.UnitedFault.TheVariants as united
 use Rattle.genealogy_graph.specs.declared.reported.GraphError.TheVariants as graph_error
 use Rattle.genealogy_graph.specs.Dot.{dot_text}
-use Rattle.genealogy_svg.specs.declared.drawing.Drawing.{Drawing}
-use Rattle.genealogy_svg.specs.declared.drawing.LayoutFault.{LayoutFault}
+use Rattle.genealogy_svg.specs.{Drawing, LayoutFault}
 use Rattle.genealogy_svg.specs.declared.drawing.LayoutFault.TheVariants as layout
 use Rattle.genealogy_svg.specs.Layouts.{IsEndOf, IsLaidOut, nodes_of}
 use Rattle.genealogy_svg.specs.Layers.{HasCircle}
 use Rattle.genealogy_svg.specs.Svg.{svg_text}
-use Rattle.plant_trace.specs.declared.node.Node.{Node}
+use Rattle.plant_trace.specs.{Node}
 use Rattle.plant_trace.specs.declared.node.Node.TheVariants.{Lot, Batch}
 use Rattle.genealogy_picture.specs.declared.words.Format.{Format}
 use Rattle.genealogy_picture.specs.declared.words.Format.TheVariants.{Dot, Svg}

@@ -1,8 +1,7 @@
 -- What is reported, one after the other.
 use Rattle.std.specs.Prelude.{ℕ, List, [], ◌∷◌, ◌++◌}
-use Rattle.genealogy_graph.specs.declared.model.PictureLot.{PictureLot}
+use Rattle.genealogy_graph.specs.{PictureLot, ReportedEdge}
 use Rattle.genealogy_graph.specs.declared.reported.Reported.{Reported}
-use Rattle.genealogy_graph.specs.declared.reported.ReportedEdge.{ReportedEdge}
 use Rattle.genealogy_picture.specs.declared.members.ReportedNode.{ReportedNode}
 use Rattle.genealogy_picture.specs.declared.members.ReportedNode.TheVariants as node
 

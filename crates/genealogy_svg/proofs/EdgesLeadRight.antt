@@ -6,11 +6,10 @@ use Rattle.std.specs.BTreeMap.{get}
 use Rattle.std.proofs.lemmas.Bool.{false≢true}
 use Rattle.std.proofs.lemmas.List.Elements.{All-nil, All-push, All-tail, All-head, All-map, Contains-get_or}
 use Rattle.grouped_rows.specs.Groups.{is_keyed}
-use Rattle.genealogy_graph.specs.declared.model.Picture.{Picture}
-use Rattle.genealogy_graph.specs.declared.model.PictureEdge.{PictureEdge}
+use Rattle.genealogy_graph.specs.{Picture, PictureEdge}
 use Rattle.plant_trace.specs.Nodes.{node_cmp, node_ties}
 use Rattle.plant_trace.specs.Ranks.{rank_of}
-use Rattle.plant_trace.specs.declared.node.Node.{Node}
+use Rattle.plant_trace.specs.{Node}
 use Rattle.plant_trace.proofs.LeadsIsReach.{none_in, first_in, rest_in, first_or_rest}
 use Rattle.plant_trace.proofs.NodeOrder.{node_eq_itself}
 use Rattle.genealogy_svg.specs.declared.drawing.Drawing.{Drawing}

@@ -5,9 +5,8 @@ use Rattle.std.specs.Prelude.{Contains, IsSome}
 use Rattle.std.specs.List.{All}
 use Rattle.std.specs.BTreeMap.{BTreeMap}
 use Rattle.std.proofs.lemmas.List.Elements.{All-contains}
-use Rattle.genealogy_graph.specs.declared.model.Picture.{Picture}
-use Rattle.genealogy_graph.specs.declared.model.PictureEdge.{PictureEdge}
-use Rattle.plant_trace.specs.declared.node.Node.{Node}
+use Rattle.genealogy_graph.specs.{Picture, PictureEdge}
+use Rattle.plant_trace.specs.{Node}
 use Rattle.genealogy_svg.specs.declared.drawing.Drawing.{Drawing}
 use Rattle.genealogy_svg.specs.declared.drawing.BoxPosition.{BoxPosition}
 use Rattle.genealogy_svg.specs.declared.drawing.LayoutFault.{LayoutFault}

@@ -3,11 +3,9 @@ use Rattle.std.proofs.Common.{◌≡◌, ℕ, List, [], ◌∷◌, ◌++◌, Opt
 use Rattle.std.specs.Prelude.{suc}
 use Rattle.std.specs.BTreeMap.{BTreeMap, get}
 use Rattle.std.proofs.lemmas.List.Elements.{Contains-append_left, Contains-append_right}
-use Rattle.genealogy_graph.specs.declared.model.Picture.{Picture}
-use Rattle.genealogy_graph.specs.declared.model.PictureEdge.{PictureEdge}
-use Rattle.genealogy_graph.specs.declared.model.PictureLot.{PictureLot}
+use Rattle.genealogy_graph.specs.{Picture, PictureEdge, PictureLot}
 use Rattle.plant_trace.specs.Nodes.{node_cmp}
-use Rattle.plant_trace.specs.declared.node.Node.{Node}
+use Rattle.plant_trace.specs.{Node}
 use Rattle.plant_trace.specs.declared.node.Node.TheVariants.{Lot, Batch}
 use Rattle.plant_trace.proofs.LeadsIsReach.{first_in, rest_in}
 use Rattle.genealogy_svg.specs.declared.drawing.BoxPosition.{BoxPosition}

@@ -1,8 +1,8 @@
 -- Ways along edges.
 use Rattle.std.proofs.Common.{◌≡◌, ℕ, zero, suc, ◌<◌, ◌+◌, List, subst, refl, arith}
-use Rattle.genealogy_graph.specs.declared.model.PictureEdge.{PictureEdge}
+use Rattle.genealogy_graph.specs.{PictureEdge}
 use Rattle.plant_trace.specs.Reach.{Reach, step, more}
-use Rattle.plant_trace.specs.declared.node.Node.{Node}
+use Rattle.plant_trace.specs.{Node}
 use Rattle.genealogy_svg.specs.Layers.{Leads}
 
 -- a way of so many edges, from the first node to the last

@@ -3,13 +3,13 @@ use Rattle.std.specs.Prelude.{◌≡◌, ℕ, ◌+◌, max, Bool, true, List, So
 use Rattle.std.specs.BTreeMap.{BTreeMap, get}
 use Rattle.std.specs.List.{All, list_any, fold}
 use Rattle.grouped_rows.specs.Groups.{rows_of}
-use Rattle.genealogy_graph.specs.declared.model.PictureEdge.{PictureEdge}
+use Rattle.genealogy_graph.specs.{PictureEdge}
 use Rattle.genealogy_svg.specs.declared.drawing.LayoutFault.{LayoutFault}
 use Rattle.genealogy_svg.specs.declared.drawing.LayoutFault.TheVariants as fault
 use Rattle.plant_trace.specs.Nodes.{node_cmp, node_eq}
 use Rattle.plant_trace.specs.Ranks.{rank_of}
 use Rattle.plant_trace.specs.Reach.{Reach}
-use Rattle.plant_trace.specs.declared.node.Node.{Node}
+use Rattle.plant_trace.specs.{Node}
 
 -- the edges that lead to a node
 abbrev pub edges_to : List PictureEdge → Node → List PictureEdge

@@ -6,7 +6,7 @@ use Rattle.genealogy_svg.specs.contracts.drawing.BoxPositionOrd.TheImpl.{ghosts 
 use Rattle.genealogy_svg.specs.declared.drawing.BoxPosition.{BoxPosition}
 use Rattle.plant_trace.specs.Nodes.{node_cmp}
 use Rattle.plant_trace.specs.Ranks.{rank_of}
-use Rattle.plant_trace.specs.declared.node.Node.{Node}
+use Rattle.plant_trace.specs.{Node}
 
 -- by layers, then from above
 abbrev pub position_cmp : BoxPosition → BoxPosition → Ordering

@@ -4,7 +4,7 @@ ghost use Rattle.std.specs.BTreeMap.{get, Updates};
 ghost use Rattle.std.specs.List.{All};
 ghost use Rattle.plant_trace.specs.Nodes.{node_cmp};
 ghost use Rattle.plant_trace.specs.Ranks.{rank_of};
-ghost use Rattle.plant_trace.specs.declared.node.Node.{Node};
+ghost use Rattle.plant_trace.specs.{Node};
 ghost use Rattle.genealogy_svg.specs.Layers.{edges_to, height, leads, AreSettled, IsLayered};
 
 use genealogy_graph::PictureEdge;

@@ -8,7 +8,7 @@ use Rattle.plant_text.specs.HeldLines.{held_after}
 use Rattle.plant_text.specs.Writes.{AppendsPrefix}
 use Rattle.plant_text.proofs.HeldLine.{each-append}
 use Rattle.plant_text.proofs.KnownBytes.{Appends-nil, Appends-append}
-use Rattle.desk_cli.specs.declared.check_fault.CheckFault.{CheckFault}
+use Rattle.desk_cli.specs.{CheckFault}
 use Rattle.desk_cli.specs.declared.check_fault.CheckFault.TheVariants as fault
 use Rattle.line_check.specs.declared.judge.Verdict.{Verdict}
 use Rattle.line_check.specs.declared.lines.Tally.{Tally}

@@ -12,7 +12,7 @@ use Rattle.plant_text.proofs.LinesAreStd.{lines_are}
 use Rattle.line_check.specs.declared.judge.Verdict.{Verdict}
 use Rattle.line_check.specs.declared.judge.Verdict.TheVariants as verdict
 use Rattle.line_check.specs.declared.lines.Tally.{Tally}
-use Rattle.desk_cli.specs.declared.check_fault.CheckFault.{CheckFault}
+use Rattle.desk_cli.specs.{CheckFault}
 use Rattle.line_check.specs.Verdicts.{verdict_of}
 use Rattle.line_check.specs.Report.{verdicts, line_text, texts, tally_with, tally_after, end_text, no_lines, report, some_bad, verdicts_after, AreWrittenAndCounted}
 use Rattle.line_check.proofs.VerdictOfLine.{verdict_empty, verdict_long}

@@ -1,9 +1,9 @@
 -- The verdict on a line, by what it says.
 use Rattle.std.proofs.Common.{◌≡◌, ℕ, ◌<◌, List, length, nat_eq, true, false, Result, Err, refl, arith}
 use Rattle.std.proofs.lemmas.Bool.Decides.{nat_tests}
-use Rattle.plant_message_schema.specs.declared.format_errors.FormatError.{FormatError}
+use Rattle.plant_message_schema.specs.{FormatError}
 use Rattle.plant_message_schema.specs.declared.format_errors.FormatError.TheVariants as format_error
-use Rattle.plant_text.specs.declared.read.Line.{Line}
+use Rattle.plant_text.specs.{Line}
 use Rattle.plant_text.specs.Lines.{longest_line, line_says}
 use Rattle.plant_text.proofs.LineSays.{says_long}
 use Rattle.line_check.specs.declared.judge.Verdict.TheVariants as verdict

@@ -5,8 +5,8 @@ use Rattle.std.specs.Io.KnownBytes.{Appends}
 use Rattle.plant_text.specs.HeldLines.{ended_after}
 use Rattle.plant_text.specs.Writes.{with_lf, AppendsPrefix}
 use Rattle.plant_command_errors.specs.Reasons.{reason_text}
-use Rattle.plant_command_errors.specs.declared.reason.Reason.{Reason}
-use Rattle.desk_cli.specs.declared.check_fault.CheckFault.{CheckFault}
+use Rattle.plant_command_errors.specs.{Reason}
+use Rattle.desk_cli.specs.{CheckFault}
 use Rattle.desk_cli.specs.declared.check_fault.CheckFault.TheVariants as fault
 use Rattle.line_check.specs.declared.judge.Verdict.{Verdict}
 use Rattle.line_check.specs.declared.judge.Verdict.TheVariants as verdict

@@ -1,13 +1,10 @@
 -- Where the words of commands and questions are in the lists of them.
 use Rattle.std.specs.Prelude.{ℕ, List, Option, option_and_then, slice_get}
 use Rattle.plant_message_schema.specs.Words.{asked_kind, command_kind}
-use Rattle.plant_message_schema.specs.declared.words.AskedKind.{AskedKind}
+use Rattle.plant_message_schema.specs.{AskedKind, CommandKind, ListKind, QuestionKind}
 use Rattle.plant_message_schema.specs.declared.words.AskedKind.TheVariants as asked
-use Rattle.plant_message_schema.specs.declared.words.CommandKind.{CommandKind}
 use Rattle.plant_message_schema.specs.declared.words.CommandKind.TheVariants as c
-use Rattle.plant_message_schema.specs.declared.words.ListKind.{ListKind}
 use Rattle.plant_message_schema.specs.declared.words.ListKind.TheVariants as list
-use Rattle.plant_message_schema.specs.declared.words.QuestionKind.{QuestionKind}
 use Rattle.plant_message_schema.specs.declared.words.QuestionKind.TheVariants as q
 
 -- the command and the question of the word at a place

@@ -1,7 +1,6 @@
 //! The words of commands and of questions, all of them.
 ghost use Rattle.std.specs.Prelude.{◌≡◌, Some, map};
-ghost use Rattle.plant_message_schema.specs.declared.words.AskedKind.{AskedKind};
-ghost use Rattle.plant_message_schema.specs.declared.words.CommandKind.{CommandKind};
+ghost use Rattle.plant_message_schema.specs.{AskedKind, CommandKind};
 ghost use Rattle.line_check.specs.Words.{asked_at, command_at, place_of_asked, place_of_command};
 
 /// The words of commands. Each command has its word here.

@@ -1,7 +1,7 @@
 -- The conflicts of orders, one order after the other.
 use Rattle.std.proofs.Common.{◌≡◌, ◌∙◌, ◌+◌, ◌<◌, ℕ, length, take, get_or, List, [], ◌∷◌, ◌++◌, ap, sym, append-nil, append_assoc}
 use Rattle.std.proofs.lemmas.List.{take_more}
-use Rattle.plant_orders.specs.declared.examining.NumberedOrder.{NumberedOrder}
+use Rattle.plant_orders.specs.{NumberedOrder}
 use Rattle.order_check.specs.Verdicts.{conflict_in, conflicts_among}
 use Rattle.order_check.specs.declared.conflicts.Conflict.{Conflict}
 

@@ -1,9 +1,9 @@
 -- How a check of an order file ends.
 use Rattle.std.specs.Prelude.{ℕ, Bool, true, false, Result, Ok, Err, if◌then◌else◌}
-use Rattle.plant_orders.specs.declared.source.OrdersFault.{OrdersFault}
+use Rattle.plant_orders.specs.{OrdersFault}
 use Rattle.plant_orders.specs.declared.source.OrdersFault.TheVariants as orders
 use Rattle.desk_cli.specs.CheckFaults.{fault_status}
-use Rattle.desk_cli.specs.declared.check_fault.CheckFault.{CheckFault}
+use Rattle.desk_cli.specs.{CheckFault}
 use Rattle.desk_cli.specs.declared.check_fault.CheckFault.TheVariants as fault
 
 -- a verdict that couldn't be written isn't returned

@@ -3,9 +3,7 @@ use Rattle.std.specs.Prelude.{ℕ, Bool, List, [], ◌∷◌, ◌++◌, length, 
 use Rattle.plant_base.specs.State.{same}
 use Rattle.plant_orders.specs.EveryFault.{faults_of, numbered_orders_of}
 use Rattle.plant_orders.specs.FaultsOfFiles.{csv_text}
-use Rattle.plant_orders.specs.declared.examining.NumberedOrder.{NumberedOrder}
-use Rattle.plant_orders.specs.declared.fault.CsvFault.{CsvFault}
-use Rattle.plant_orders.specs.declared.fault.CsvKind.{CsvKind}
+use Rattle.plant_orders.specs.{CsvFault, CsvKind, NumberedOrder}
 use Rattle.plant_orders.specs.declared.fault.CsvKind.TheVariants as kind
 use Rattle.plant_rules_production.specs.Orders.{is_same_order}
 use Rattle.plant_message_schema.specs.FormatErrors.{shape_error_text}

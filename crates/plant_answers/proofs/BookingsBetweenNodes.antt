@@ -18,7 +18,7 @@ use Rattle.plant_base.proofs.EdgeIsItsKey.{one_edge}
 use Rattle.plant_base.proofs.KeyOrders.{same_itself}
 use Rattle.plant_base.proofs.PutKeepsOrder.{map_alike}
 use Rattle.plant_trace.specs.Nodes.{node_cmp, node_eq, node_total}
-use Rattle.plant_trace.specs.declared.node.Node.{Node}
+use Rattle.plant_trace.specs.{Node}
 use Rattle.plant_trace.specs.declared.node.Node.TheVariants as node
 use Rattle.plant_trace.proofs.LeadsIsReach.{none_in}
 use Rattle.plant_trace.proofs.NodeOrder.{node_eq_exact}
@@ -30,7 +30,7 @@ use Rattle.plant_view.proofs.RowsInTurn.{all_of, filtered_passes}
 use Rattle.plant_worklists.specs.Worklists.{movements_into, other_lot}
 use Rattle.plant_answers.specs.Booked.{Fits, booked_at, booked_if, bookings_around, counted, movements_at, summed, reported_at, reported_by, total_along}
 use Rattle.plant_answers.specs.Genealogy.{amount_of, booked_along, booked_edge, edges_between, is_among, is_between, is_made}
-use Rattle.plant_messages.specs.declared.genealogy.BookedEdge.{BookedEdge}
+use Rattle.plant_messages.specs.{BookedEdge}
 use Rattle.plant_answers.proofs.SumsByEdge.{edge_exact, booked_pair, totalled}
 use Rattle.plant_answers.proofs.NarrowedMovements.{reported_of}
 use Rattle.plant_answers.proofs.PickedRows.{picked_in, picked_from}

@@ -9,8 +9,7 @@ use Rattle.plant_base.specs.State.{State}
 use Rattle.plant_base.specs.{EdgeRow}
 use Rattle.plant_base.proofs.EdgeIsItsKey.{one_edge}
 use Rattle.plant_trace.specs.Nodes.{node_eq}
-use Rattle.plant_trace.specs.declared.direction.Direction.{Direction}
-use Rattle.plant_trace.specs.declared.node.Node.{Node}
+use Rattle.plant_trace.specs.{Direction, Node}
 use Rattle.plant_trace.proofs.LeadsIsReach.{none_in}
 use Rattle.plant_trace.proofs.NodeOrder.{node_eq_exact, node_eq_itself}
 use Rattle.plant_view.specs.Genealogy.{edge_row_of, edge_rows, ends_of}
@@ -18,7 +17,7 @@ use Rattle.plant_view.proofs.Membership.{all_in, filter_in, filter_from, map_in,
 use Rattle.plant_answers.specs.Surroundings.{nodes_around}
 use Rattle.plant_answers.specs.Genealogy.{booked_edge, edges_between, is_among, is_between}
 use Rattle.plant_answers.specs.AnswerLaws.{IsBooked, booked_order}
-use Rattle.plant_messages.specs.declared.genealogy.BookedEdge.{BookedEdge}
+use Rattle.plant_messages.specs.{BookedEdge}
 use Rattle.plant_answers.proofs.GoodsAreReached.{around_lists}
 use Rattle.plant_answers.proofs.PickedRows.{picked_in, picked_from}
 use Rattle.std.proofs.lemmas.Bool.{and_parts, and_from}

@@ -9,7 +9,7 @@ use Rattle.std.proofs.lemmas.List.Concat.{flat_map-append}
 use Rattle.std.proofs.lemmas.List.{append-nil}
 use Rattle.std.proofs.lemmas.List.Folds.{list_any_more}
 use Rattle.plant_trace.specs.Nodes.{node_cmp, node_eq, node_ties}
-use Rattle.plant_trace.specs.declared.node.Node.{Node}
+use Rattle.plant_trace.specs.{Node}
 use Rattle.plant_answers.specs.Booked.{IsSetOf}
 use Rattle.plant_answers.proofs.NarrowedMovements.{reported_more}
 

@@ -11,9 +11,8 @@ use Rattle.plant_base.proofs.KeyOrders.{same_id}
 use Rattle.plant_base.proofs.PutKeepsOrder.{sorted_put}
 use Rattle.plant_trace.specs.Nodes.{node_cmp, node_total}
 use Rattle.plant_trace.specs.Reach.{Lists}
-use Rattle.plant_trace.specs.declared.direction.Direction.{Direction}
+use Rattle.plant_trace.specs.{Direction, Node}
 use Rattle.plant_trace.specs.declared.direction.Direction.TheVariants.{Forward}
-use Rattle.plant_trace.specs.declared.node.Node.{Node}
 use Rattle.plant_trace.specs.declared.node.Node.TheVariants as node
 use Rattle.plant_trace.proofs.NodeOrder.{node_exact}
 use Rattle.plant_view.specs.Genealogy.{edges_of}
@@ -22,7 +21,7 @@ use Rattle.plant_answers.specs.Surroundings.{nodes_around, stocked_if, stocked_a
 use Rattle.plant_answers.specs.AnswerLaws.{IsAround, StandsFrom, standing_order}
 use Rattle.plant_answers.specs.Traces.{trace_of}
 use Rattle.plant_answers.specs.Worklists.{if_stocked, standing_lot}
-use Rattle.plant_messages.specs.declared.question.StandingLot.{StandingLot}
+use Rattle.plant_messages.specs.{StandingLot}
 use Rattle.plant_answers.proofs.PickedRows.{picked_in, picked_from, picked_sorted}
 use Rattle.plant_answers.proofs.ReachedIsTrace.{trace_lists}
 

@@ -11,9 +11,8 @@ use Rattle.plant_base.proofs.FindIsFirst.{found_keeps, found_passes}
 use Rattle.plant_base.proofs.KeyOrders.{same_id, same_key}
 use Rattle.plant_stock.specs.Stock.{goes_to, comes_from}
 use Rattle.plant_trace.specs.Reach.{HasEdge, IsReached}
-use Rattle.plant_trace.specs.declared.direction.Direction.{Direction}
+use Rattle.plant_trace.specs.{Direction, Node}
 use Rattle.plant_trace.specs.declared.direction.Direction.TheVariants.{Forward, Back}
-use Rattle.plant_trace.specs.declared.node.Node.{Node}
 use Rattle.plant_trace.specs.declared.node.Node.TheVariants as node
 use Rattle.plant_trace.proofs.AddingKeepsAcyclic.{first_edge, last_edge}
 use Rattle.plant_view.specs.Genealogy.{edge_by, edge_of, edges_of}
@@ -24,7 +23,7 @@ use Rattle.plant_answers.specs.Surroundings.{nodes_around}
 use Rattle.plant_answers.specs.Genealogy.{lot_node, named, node_answer, node_if}
 use Rattle.plant_answers.specs.AnswerLaws.{IsAround}
 use Rattle.plant_answers.specs.Traces.{missing}
-use Rattle.plant_messages.specs.declared.genealogy.NodeAnswer.{NodeAnswer}
+use Rattle.plant_messages.specs.{NodeAnswer}
 use Rattle.plant_messages.specs.declared.genealogy.NodeAnswer.TheVariants as known
 use Rattle.plant_answers.proofs.GoodsAreReached.{around_lists}
 use Rattle.plant_answers.proofs.PickedRows.{picked_from}

@@ -5,9 +5,8 @@ use Rattle.std.specs.List.Sorted.{IsStrictlySortedBy}
 use Rattle.std.proofs.lemmas.List.Elements.{Contains-append_left, Contains-append_right, All-contains, All-from_recursion, recursion_from_All, filter_passes}
 use Rattle.plant_trace.specs.Nodes.{node_cmp, node_total}
 use Rattle.plant_trace.specs.Reach.{IsReached, Lists}
-use Rattle.plant_trace.specs.declared.direction.Direction.{Direction}
+use Rattle.plant_trace.specs.{Direction, Node}
 use Rattle.plant_trace.specs.declared.direction.Direction.TheVariants.{Forward, Back}
-use Rattle.plant_trace.specs.declared.node.Node.{Node}
 use Rattle.plant_trace.proofs.AddingKeepsAcyclic.{first_edge, last_edge}
 use Rattle.plant_trace.proofs.LeadsIsReach.{leads_where_reached}
 use Rattle.plant_trace.proofs.SortedNodes.{Lists-unique}

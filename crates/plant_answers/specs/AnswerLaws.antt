@@ -9,9 +9,8 @@ use Rattle.plant_base.specs.{Lot, Mark, Movement, Place, Recall}
 use Rattle.plant_stock.specs.Stock.{stock}
 use Rattle.plant_trace.specs.Reach.{IsReached, Lists}
 use Rattle.plant_trace.specs.Recalls.{IsRecalled}
-use Rattle.plant_trace.specs.declared.direction.Direction.{Direction}
+use Rattle.plant_trace.specs.{Direction, Node}
 use Rattle.plant_trace.specs.declared.direction.Direction.TheVariants.{Forward}
-use Rattle.plant_trace.specs.declared.node.Node.{Node}
 use Rattle.plant_trace.specs.declared.node.Node.TheVariants as node
 use Rattle.plant_view.specs.Genealogy.{edge_row_of, edges_of, ends_of}
 use Rattle.plant_view.specs.Recalls.{Reaches, node_of}
@@ -21,12 +20,9 @@ use Rattle.plant_answers.specs.Answers.{answer}
 use Rattle.plant_answers.specs.Genealogy.{amount_of, named}
 use Rattle.plant_answers.specs.Traces.{missing}
 use Rattle.plant_answers.specs.Worklists.{standing_lot}
-use Rattle.plant_messages.specs.declared.genealogy.BookedEdge.{BookedEdge}
-use Rattle.plant_messages.specs.declared.genealogy.Genealogy.{Genealogy}
+use Rattle.plant_messages.specs.{BookedEdge, Genealogy, RecallAnswer, StandingLot}
 use Rattle.plant_messages.specs.declared.question.Question.TheVariants as Q
 use Rattle.plant_messages.specs.declared.question.Answer.TheVariants as A
-use Rattle.plant_messages.specs.declared.question.StandingLot.{StandingLot}
-use Rattle.plant_messages.specs.declared.question.RecallAnswer.{RecallAnswer}
 
 -- The trace of a node that is there lists just what the least relation reaches: each such node once, ascending, and no other.
 abbrev pub TracesListReached : Type 0

@@ -12,11 +12,9 @@ use Rattle.plant_answers.specs.RecallAnswers.{answer_recall}
 use Rattle.plant_answers.specs.RecipeAnswers.{answer_definition, answer_recipe}
 use Rattle.plant_answers.specs.Traces.{missing, answer_trace}
 use Rattle.plant_answers.specs.Worklists.{answer_list, answer_recipes, answer_ledger, answer_all_holds, answer_by_due, answer_commands}
-use Rattle.plant_messages.specs.declared.question.Question.{Question}
+use Rattle.plant_messages.specs.{Answer, OrderAnswer, Question}
 use Rattle.plant_messages.specs.declared.question.Question.TheVariants as Q
-use Rattle.plant_messages.specs.declared.question.Answer.{Answer}
 use Rattle.plant_messages.specs.declared.question.Answer.TheVariants as A
-use Rattle.plant_messages.specs.declared.question.OrderAnswer.{OrderAnswer}
 
 abbrev pub order_answer : State → List ℕ → Job → OrderAnswer
 order_answer s order j = record { job = j; batch = option_map (λ b. b.id) (batch_of s order) }

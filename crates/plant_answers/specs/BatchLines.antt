@@ -7,12 +7,8 @@ use Rattle.plant_base.specs.{Batch, RecipeLine}
 use Rattle.plant_base.specs.declared.rows.RecipeLine.TheVariants.{In, Out, Parameter, Phase}
 use Rattle.plant_answers.specs.BatchViews.{consumption, measured_line, production}
 use Rattle.plant_messages.specs.Booked.{booked_of}
-use Rattle.plant_messages.specs.declared.question.Answer.{Answer}
+use Rattle.plant_messages.specs.{Answer, BatchLines, BookedLine, Booking, MeasuredLine}
 use Rattle.plant_messages.specs.declared.question.Answer.TheVariants as A
-use Rattle.plant_messages.specs.declared.question.BatchLines.{BatchLines}
-use Rattle.plant_messages.specs.declared.question.BookedLine.{BookedLine}
-use Rattle.plant_messages.specs.declared.question.Booking.{Booking}
-use Rattle.plant_messages.specs.declared.question.MeasuredLine.{MeasuredLine}
 
 -- a number, as far as 64 bits hold it
 abbrev pub in_64_bits : ℕ → ℕ

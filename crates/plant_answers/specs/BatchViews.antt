@@ -8,12 +8,9 @@ use Rattle.plant_base.specs.declared.rows.MovementKind.TheVariants.{Consumed, Pr
 use Rattle.plant_base.specs.declared.rows.RecipeLine.TheVariants.{In, Out, Parameter, Phase}
 use Rattle.plant_view.specs.Tables.{progress_at}
 use Rattle.plant_view.specs.Views.{is_scrap}
-use Rattle.plant_messages.specs.declared.question.Answer.{Answer}
+use Rattle.plant_messages.specs.{Answer, BatchView, Booking, MeasuredLine}
 use Rattle.plant_answers.specs.declared.bookings.Side.TheVariants as side
 use Rattle.plant_messages.specs.declared.question.Answer.TheVariants as A
-use Rattle.plant_messages.specs.declared.question.BatchView.{BatchView}
-use Rattle.plant_messages.specs.declared.question.Booking.{Booking}
-use Rattle.plant_messages.specs.declared.question.MeasuredLine.{MeasuredLine}
 use Rattle.plant_answers.specs.declared.bookings.Side.{Side}
 
 -- ---- lines

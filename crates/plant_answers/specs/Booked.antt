@@ -7,14 +7,14 @@ use Rattle.plant_base.specs.State.{State}
 use Rattle.plant_base.specs.{EdgeKind, EdgeRow, Movement}
 use Rattle.plant_base.specs.declared.rows.EdgeKind.TheVariants as edge
 use Rattle.plant_trace.specs.Nodes.{node_cmp, node_eq}
-use Rattle.plant_trace.specs.declared.node.Node.{Node}
+use Rattle.plant_trace.specs.{Node}
 use Rattle.plant_trace.specs.declared.node.Node.TheVariants as node
 use Rattle.plant_view.specs.Genealogy.{edge_row_of}
 use Rattle.plant_view.specs.Rows.{put_all}
 use Rattle.plant_view.specs.Views.{movements_of}
 use Rattle.plant_worklists.specs.Worklists.{movements_into}
 use Rattle.plant_answers.specs.Genealogy.{is_between, is_among}
-use Rattle.plant_messages.specs.declared.genealogy.BookedEdge.{BookedEdge}
+use Rattle.plant_messages.specs.{BookedEdge}
 
 -- the node whose movements book an edge: the batch at one of its ends, or else the lot that it leads to
 abbrev pub reported_by : EdgeKind → List ℕ → List ℕ → Node

@@ -3,7 +3,7 @@ use Rattle.std.specs.Prelude.{ℕ, Bool, List, [], ◌∷◌, Option, Some, None
 use Rattle.std.specs.List.{before_first, after_first}
 use Rattle.plant_base.specs.Digits.{digits_of}
 use Rattle.plant_base.specs.Values.{is_moment, is_text, only}
-use Rattle.plant_messages.specs.declared.listed.CommandHead.{CommandHead}
+use Rattle.plant_messages.specs.{CommandHead}
 
 abbrev pub is_lf : ℕ → Bool
 is_lf byte = byte == 10

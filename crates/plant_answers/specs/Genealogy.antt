@@ -5,20 +5,15 @@ use Rattle.plant_base.specs.Edges.{edge_eq}
 use Rattle.plant_base.specs.State.{State, definition_at, lot_at}
 use Rattle.plant_base.specs.{Definition, EdgeRow, Lot, Movement, Refusal}
 use Rattle.plant_trace.specs.Nodes.{node_eq}
-use Rattle.plant_trace.specs.declared.direction.Direction.{Direction}
-use Rattle.plant_trace.specs.declared.node.Node.{Node}
+use Rattle.plant_trace.specs.{Direction, Node}
 use Rattle.plant_trace.specs.declared.node.Node.TheVariants as node
 use Rattle.plant_view.specs.Genealogy.{edge_row_of, edge_rows, ends_of}
 use Rattle.plant_view.specs.Recalls.{is_blocked}
 use Rattle.plant_view.specs.Refusals.{is_held}
 use Rattle.plant_answers.specs.Surroundings.{nodes_around}
 use Rattle.plant_answers.specs.LotAnswers.{lot_answer}
-use Rattle.plant_messages.specs.declared.genealogy.BookedEdge.{BookedEdge}
-use Rattle.plant_messages.specs.declared.genealogy.Genealogy.{Genealogy}
-use Rattle.plant_messages.specs.declared.genealogy.LotNode.{LotNode}
-use Rattle.plant_messages.specs.declared.genealogy.NodeAnswer.{NodeAnswer}
+use Rattle.plant_messages.specs.{Answer, BookedEdge, Genealogy, LotNode, NodeAnswer}
 use Rattle.plant_messages.specs.declared.genealogy.NodeAnswer.TheVariants as known
-use Rattle.plant_messages.specs.declared.question.Answer.{Answer}
 use Rattle.plant_messages.specs.declared.question.Answer.TheVariants as A
 
 -- ---- nodes

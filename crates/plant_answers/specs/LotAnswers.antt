@@ -5,9 +5,8 @@ use Rattle.plant_base.specs.{Lot}
 use Rattle.plant_base.specs.declared.refusal.Refusal.TheVariants.{UnknownLot}
 use Rattle.plant_view.specs.Refusals.{is_held}
 use Rattle.plant_view.specs.Tables.{sublots_of}
-use Rattle.plant_messages.specs.declared.question.Answer.{Answer}
+use Rattle.plant_messages.specs.{Answer, LotAnswer}
 use Rattle.plant_messages.specs.declared.question.Answer.TheVariants as A
-use Rattle.plant_messages.specs.declared.question.LotAnswer.{LotAnswer}
 
 abbrev pub lot_answer : State → Lot → LotAnswer
 lot_answer s l = record {

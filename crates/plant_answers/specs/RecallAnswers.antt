@@ -5,13 +5,12 @@ use Rattle.plant_base.specs.State.{State}
 use Rattle.plant_base.specs.declared.refusal.Refusal.TheVariants.{UnknownRecall}
 use Rattle.plant_base.specs.{Recall}
 use Rattle.plant_trace.specs.Nodes.{node_cmp}
-use Rattle.plant_trace.specs.declared.node.Node.{Node}
+use Rattle.plant_trace.specs.{Node}
 use Rattle.plant_view.specs.Genealogy.{edges_of}
 use Rattle.plant_view.specs.Recalls.{nodes_from}
 use Rattle.plant_view.specs.Rows.{put_all}
-use Rattle.plant_messages.specs.declared.question.Answer.{Answer}
+use Rattle.plant_messages.specs.{Answer, RecallAnswer}
 use Rattle.plant_messages.specs.declared.question.Answer.TheVariants as A
-use Rattle.plant_messages.specs.declared.question.RecallAnswer.{RecallAnswer}
 
 -- what a recall of the lot reaches, ascending, each once
 unfoldable pub reached_list : List (Node × Node) → List ℕ → List Node

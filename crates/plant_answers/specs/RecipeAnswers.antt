@@ -4,10 +4,8 @@ use Rattle.plant_base.specs.State.{State, master_lines_of}
 use Rattle.plant_base.specs.declared.refusal.Refusal.TheVariants.{UnknownDefinition, UnknownRecipe}
 use Rattle.plant_base.specs.{Definition, MasterLine, Recipe}
 use Rattle.plant_answers.specs.BatchViews.{material_of, unit_among}
-use Rattle.plant_messages.specs.declared.question.Answer.{Answer}
+use Rattle.plant_messages.specs.{Answer, RecipeAnswer, RecipeLineAnswer}
 use Rattle.plant_messages.specs.declared.question.Answer.TheVariants as A
-use Rattle.plant_messages.specs.declared.question.RecipeAnswer.{RecipeAnswer}
-use Rattle.plant_messages.specs.declared.question.RecipeLineAnswer.{RecipeLineAnswer}
 
 abbrev pub answer_definition : Option Definition → Answer
 answer_definition None = A.Unknown UnknownDefinition

@@ -4,15 +4,13 @@ use Rattle.std.specs.List.{filter_map}
 use Rattle.plant_base.specs.State.{State, lot_at, put}
 use Rattle.plant_base.specs.{Lot, Refusal}
 use Rattle.plant_trace.specs.Nodes.{node_cmp}
-use Rattle.plant_trace.specs.declared.direction.Direction.{Direction}
+use Rattle.plant_trace.specs.{Direction, Node}
 use Rattle.plant_trace.specs.declared.direction.Direction.TheVariants.{Forward}
-use Rattle.plant_trace.specs.declared.node.Node.{Node}
 use Rattle.plant_trace.specs.declared.node.Node.TheVariants as node
 use Rattle.plant_answers.specs.Traces.{trace_of}
 use Rattle.plant_answers.specs.Worklists.{stocked_lot}
-use Rattle.plant_messages.specs.declared.question.Answer.{Answer}
+use Rattle.plant_messages.specs.{Answer, StandingLot}
 use Rattle.plant_messages.specs.declared.question.Answer.TheVariants as A
-use Rattle.plant_messages.specs.declared.question.StandingLot.{StandingLot}
 
 -- the start and its trace: lots before batches, each ascending
 abbrev pub nodes_around : State → Direction → Node → List Node

@@ -8,22 +8,13 @@ use Rattle.plant_base.specs.declared.rows.RecipeLine.TheVariants.{In, Out, Param
 use Rattle.plant_view.specs.Recalls.{is_blocked}
 use Rattle.plant_worklists.specs.Pages.{page_of}
 use Rattle.plant_worklists.specs.Worklists.{orders_in, orders_by_due, receipts_by_number, batches_in, lots_of, holds_on, recalls_in, classes_after, definitions_in, recipes_in, ledger_of, all_holds}
-use Rattle.plant_worklists.specs.declared.list.Worklist.{Worklist}
+use Rattle.plant_worklists.specs.{DueCursor, HoldCursor, MovementCursor, Page, RecipeCursor, Worklist}
 use Rattle.plant_worklists.specs.declared.list.Worklist.TheVariants as list
-use Rattle.plant_worklists.specs.declared.page.Page.{Page}
-use Rattle.plant_worklists.specs.declared.cursors.DueCursor.{DueCursor}
-use Rattle.plant_worklists.specs.declared.cursors.HoldCursor.{HoldCursor}
-use Rattle.plant_worklists.specs.declared.cursors.MovementCursor.{MovementCursor}
-use Rattle.plant_worklists.specs.declared.cursors.RecipeCursor.{RecipeCursor}
 use Rattle.plant_answers.specs.CommandHeads.{head_of}
 use Rattle.plant_answers.specs.LotAnswers.{lot_answer}
-use Rattle.plant_messages.specs.declared.listed.BookedCommand.{BookedCommand}
+use Rattle.plant_messages.specs.{Answer, BookedCommand, LotPage, OpenBatch, StandingLot}
 use Rattle.plant_messages.specs.declared.listed.Listed.TheVariants as listed
-use Rattle.plant_messages.specs.declared.listed.LotPage.{LotPage}
-use Rattle.plant_messages.specs.declared.listed.OpenBatch.{OpenBatch}
-use Rattle.plant_messages.specs.declared.question.Answer.{Answer}
 use Rattle.plant_messages.specs.declared.question.Answer.TheVariants as A
-use Rattle.plant_messages.specs.declared.question.StandingLot.{StandingLot}
 
 -- ---- batches
 

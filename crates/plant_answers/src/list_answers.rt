@@ -6,7 +6,7 @@ ghost use Rattle.plant_view.specs.DecisionInvariant.{DecisionInvariant};
 ghost use Rattle.plant_worklists.specs.Pages.{page_of};
 ghost use Rattle.plant_worklists.specs.Worklists.{orders_in, holds_on, recalls_in, classes_after, definitions_in, ledger_of};
 ghost use Rattle.plant_answers.specs.Worklists.{answer_list, answer_holds, answer_definitions, answer_recipes, answer_ledger, answer_all_holds, answer_by_due};
-ghost use Rattle.plant_worklists.specs.declared.cursors.MovementCursor.{MovementCursor};
+ghost use Rattle.plant_worklists.specs.{MovementCursor};
 ghost use Rattle.plant_messages.specs.declared.listed.Listed.TheVariants as listed;
 ghost use Rattle.plant_messages.specs.declared.question.Answer.TheVariants as A;
 

@@ -8,7 +8,7 @@ use Rattle.plant_stock.specs.Stock.{goes_to, comes_from, is_sublot_key, entered,
 use Rattle.plant_stock.specs.Stock as flows
 use Rattle.plant_view.proofs.TestsAndSums.{sum_map}
 use Rattle.plant_tables_columns.specs.Booked.{booked_of, code_of}
-use Rattle.plant_tables_columns.specs.declared.booked.BookedRow.{BookedRow}
+use Rattle.plant_tables_columns.specs.{BookedRow}
 use Rattle.plant_check.specs.Ends.{entered_by, left_by, entries, exits, total_booked}
 
 -- the columns of a row say where its movement goes, and where it comes from

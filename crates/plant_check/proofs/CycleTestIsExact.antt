@@ -6,7 +6,7 @@ use Rattle.std.proofs.lemmas.Bool.{false≢true}
 use Rattle.std.proofs.lemmas.List.Elements.{All-contains}
 use Rattle.std.proofs.lemmas.List.Sums.{AllPass-from_list_all}
 use Rattle.plant_trace.specs.Reach.{IsAcyclic, leads}
-use Rattle.plant_trace.specs.declared.node.Node.{Node}
+use Rattle.plant_trace.specs.{Node}
 use Rattle.plant_trace.proofs.AddingKeepsAcyclic.{first_edge}
 use Rattle.plant_trace.proofs.LeadsIsReach.{leads_where_reached}
 use Rattle.plant_check.specs.Broken.{are_acyclic}

@@ -5,7 +5,7 @@ use Rattle.std.specs.Cmp.Lexicographic.{pointwise}
 use Rattle.plant_base.specs.Edges.{edge_eq}
 use Rattle.plant_base.specs.{EdgeRow, Movement, Recall}
 use Rattle.plant_trace.specs.Reach.{leads}
-use Rattle.plant_trace.specs.declared.node.Node.{Node}
+use Rattle.plant_trace.specs.{Node}
 use Rattle.plant_view.specs.Genealogy.{edges_among}
 use Rattle.plant_view.specs.Tables.{edges_in}
 use Rattle.plant_check_plans.specs.Catalogue.{are_classified}
@@ -20,13 +20,12 @@ use Rattle.plant_check_stock.specs.Recalls.{are_recalls}
 use Rattle.plant_check_stock.specs.Receipts.{are_receipts}
 use Rattle.plant_check_stock.specs.Times.{are_times}
 use Rattle.plant_tables_read.specs.Loading.{contents_loaded}
-use Rattle.plant_tables_read.specs.declared.loaded.Loaded.{Loaded}
+use Rattle.plant_tables_read.specs.{Loaded}
 use Rattle.plant_tables_columns.specs.Booked.{movement_from}
 use Rattle.plant_tables_columns.specs.StatedRecalls.{recall_from}
 use Rattle.plant_tables_read.specs.Collecting.{Rows, rows_from}
 use Rattle.plant_tables_columns.specs.TableColumns.{only_meta}
-use Rattle.plant_tables_columns.specs.declared.booked.BookedRow.{BookedRow}
-use Rattle.plant_tables_columns.specs.declared.recalls.StatedRecall.{StatedRecall}
+use Rattle.plant_tables_columns.specs.{BookedRow, StatedRecall}
 use Rattle.plant_check.specs.Ends.{are_stocks}
 use Rattle.plant_check.specs.Lots.{are_lots}
 use Rattle.plant_check.specs.declared.rule.Rule.{Rule}

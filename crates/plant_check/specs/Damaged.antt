@@ -6,7 +6,7 @@ use Rattle.sql_tables.specs.StoredRows.{IsFree}
 use Rattle.plant_tables.specs.DeskTableDefs.{desk_table_defs}
 use Rattle.plant_tables_read.specs.Loading.{AreLoaded}
 use Rattle.plant_tables_read.specs.Version.{IsVersion, HasTablesOf}
-use Rattle.plant_tables_read.specs.declared.loaded.Loaded.{Loaded}
+use Rattle.plant_tables_read.specs.{Loaded}
 use Rattle.plant_check.specs.Broken.{first_broken}
 use Rattle.plant_check.specs.declared.rule.Rule.{Rule}
 use Rattle.plant_check.specs.declared.rule.Rule.TheVariants as rule

@@ -3,8 +3,7 @@ use Rattle.std.specs.Prelude.{ℕ, ◌+◌, Bool, ◌==◌, List, Option, Some, 
 use Rattle.std.specs.List.{list_all}
 use Rattle.plant_base.specs.{Sublot}
 use Rattle.plant_stock.specs.Stock.{is_sublot_key}
-use Rattle.plant_tables_columns.specs.declared.booked.BookedRow.{BookedRow}
-use Rattle.plant_tables_columns.specs.declared.booked.MovementKindCode.{MovementKindCode}
+use Rattle.plant_tables_columns.specs.{BookedRow, MovementKindCode}
 use Rattle.plant_tables_columns.specs.declared.booked.MovementKindCode.TheVariants as kind_code
 
 -- the sublot that the columns name other than the row's own

@@ -3,3 +3,4 @@ pub mod Damaged
 pub mod Ends
 pub mod Lots
 pub mod Numbered
+pub use declared.rule.Rule.{Rule}

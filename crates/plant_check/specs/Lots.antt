@@ -6,8 +6,7 @@ use Rattle.plant_base.specs.State.{same}
 use Rattle.plant_base.specs.{Definition, Hold, Lot, Sublot}
 use Rattle.plant_check_plans.specs.Recipes.{are_numbered}
 use Rattle.plant_view.specs.Production.{is_defined}
-use Rattle.plant_tables_columns.specs.declared.booked.BookedRow.{BookedRow}
-use Rattle.plant_tables_columns.specs.declared.booked.MovementKindCode.{MovementKindCode}
+use Rattle.plant_tables_columns.specs.{BookedRow, MovementKindCode}
 use Rattle.plant_tables_columns.specs.declared.booked.MovementKindCode.TheVariants as kind_code
 use Rattle.plant_check.specs.Ends.{entries, total_booked}
 

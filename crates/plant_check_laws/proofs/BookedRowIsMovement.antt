@@ -8,7 +8,7 @@ use Rattle.plant_base.specs.declared.rows.MovementKind.TheVariants as kind
 use Rattle.plant_invariant.specs.RowValues.{HasMovementValues, HasKindValues}
 use Rattle.plant_view.specs.Genealogy.{batch_by}
 use Rattle.plant_tables_columns.specs.Booked.{movement_from, other_lot, other_sublot, booked_of}
-use Rattle.plant_tables_columns.specs.declared.booked.BookedRow.{BookedRow}
+use Rattle.plant_tables_columns.specs.{BookedRow}
 use Rattle.plant_tables_columns.proofs.KindLaws.{ValidOrNone}
 use Rattle.plant_tables_columns.proofs.MovementColumns.{movement_back}
 use Rattle.plant_tables_columns.proofs.TableLaws.{HasBookedColumns}

@@ -24,7 +24,7 @@ use Rattle.plant_tables.specs.DeskTables.{contents_of}
 use Rattle.plant_tables_columns.specs.Booked.{movement_from, booked_of}
 use Rattle.plant_tables_columns.specs.StatedRecalls.{recall_from}
 use Rattle.plant_tables_read.specs.Collecting.{Rows, rows_from, tables_in, AreWhole, AreInOrder}
-use Rattle.plant_tables_columns.specs.declared.booked.BookedRow.{BookedRow}
+use Rattle.plant_tables_columns.specs.{BookedRow}
 use Rattle.plant_tables_read.proofs.RowsRepresentTables.{are_stored, represents_for}
 use Rattle.plant_check.specs.Broken.{movements_in, recalls_read, broken_rows, first_broken_of}
 use Rattle.plant_check.specs.Ends.{are_stocks}

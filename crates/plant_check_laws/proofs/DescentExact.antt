@@ -4,7 +4,7 @@ use Rattle.std.specs.Bool.{Decides}
 use Rattle.plant_base.specs.State.{State, newest_schema}
 use Rattle.plant_base.specs.{EdgeRow, Movement}
 use Rattle.plant_trace.specs.Reach.{IsAcyclic}
-use Rattle.plant_trace.specs.declared.node.Node.{Node}
+use Rattle.plant_trace.specs.{Node}
 use Rattle.plant_view.specs.Tables.{Tables, tables_of, edges_in}
 use Rattle.plant_tables_columns.specs.Booked.{booked_of}
 use Rattle.plant_tables_read.proofs.TablesOfRows.{same_tables}

@@ -18,7 +18,7 @@ use Rattle.plant_invariant.specs.StateInvariant.{StateInvariant}
 use Rattle.plant_tables.specs.Keyed.{HoldsTablesOf, LacksLater}
 use Rattle.plant_tables_read.specs.Loading.{AreLoaded}
 use Rattle.plant_tables_read.specs.Version.{IsKnown}
-use Rattle.plant_tables_read.specs.declared.loaded.Loaded.{Loaded}
+use Rattle.plant_tables_read.specs.{Loaded}
 use Rattle.plant_tables_read.specs.Collecting.{Rows, rows_from, rows_in}
 use Rattle.plant_tables_columns.specs.Booked.{movement_from, booked_of}
 use Rattle.plant_tables_columns.specs.StatedRecalls.{recall_from, stated_of}

@@ -20,7 +20,7 @@ use Rattle.plant_check_stock.specs.Movements.{lot_among}
 use Rattle.plant_check_stock.specs.Recalls.{is_lifted_between, is_right_recall, are_recalls}
 use Rattle.plant_check_stock.proofs.MarksByRecall.{same_list, same_itself}
 use Rattle.plant_tables_columns.specs.StatedRecalls.{recall_from, moment_of_lift, person_of_lift, note_of_lift, stated_of}
-use Rattle.plant_tables_columns.specs.declared.recalls.StatedRecall.{StatedRecall}
+use Rattle.plant_tables_columns.specs.{StatedRecall}
 use Rattle.plant_tables_columns.proofs.KindLaws.{ValidOrNone}
 use Rattle.plant_tables_columns.proofs.RecallColumns.{recall_back}
 use Rattle.plant_tables_columns.proofs.TableLaws.{HasStatedColumns}

@@ -16,12 +16,12 @@ use Rattle.plant_check_stock.specs.Receipts.{are_receipts}
 use Rattle.plant_check_stock.specs.Times.{are_times}
 use Rattle.plant_tables_columns.specs.TableColumns.{only_meta}
 use Rattle.plant_tables_read.specs.Loading.{contents_loaded}
-use Rattle.plant_tables_read.specs.declared.loaded.Loaded.{Loaded}
+use Rattle.plant_tables_read.specs.{Loaded}
 use Rattle.plant_tables_read.specs.Collecting.{Rows, rows_from}
 use Rattle.plant_check.specs.Broken.{unless, or_else, are_whole, movements_in, are_acyclic, are_kept_edges, broken_plan, broken_lot, broken_history, broken_receipt, are_fitting, recalls_read, broken_recall, first_broken_of, broken_rows, first_broken}
 use Rattle.plant_check.specs.Ends.{are_stocks}
 use Rattle.plant_check.specs.Lots.{are_lots}
-use Rattle.plant_check.specs.declared.rule.Rule.{Rule}
+use Rattle.plant_check.specs.{Rule}
 use Rattle.plant_check.specs.declared.rule.Rule.TheVariants as rule
 use Rattle.plant_check_laws.proofs.ExactTests.{passing, both}
 

@@ -8,7 +8,7 @@ use Rattle.plant_base.specs.RowValues.{HasClassValues, HasDefinitionValues, HasL
 use Rattle.plant_base.specs.{BatchRow, Header, Job, Meta, Receipt, Recipe, Sublot}
 use Rattle.plant_invariant.specs.RowValues.{HasMasterValues, HasControlValues, HasEventValues}
 use Rattle.plant_view.specs.Production.{HasBatchValues, HasValidOrder}
-use Rattle.plant_tables_read.specs.declared.loaded.Loaded.{Loaded}
+use Rattle.plant_tables_read.specs.{Loaded}
 use Rattle.plant_tables_columns.specs.DecodedRows.{all_from}
 use Rattle.plant_tables_columns.specs.TableColumns.{only_meta}
 use Rattle.plant_tables_columns.proofs.OptionalValues.{bound, some_same}

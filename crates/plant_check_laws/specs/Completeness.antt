@@ -7,7 +7,7 @@ use Rattle.plant_invariant.specs.StateInvariant.{StateInvariant}
 use Rattle.plant_tables.specs.Keyed.{HoldsTablesOf}
 use Rattle.plant_tables_read.specs.Loading.{AreLoaded}
 use Rattle.plant_tables_read.specs.Version.{IsKnown}
-use Rattle.plant_tables_read.specs.declared.loaded.Loaded.{Loaded}
+use Rattle.plant_tables_read.specs.{Loaded}
 use Rattle.plant_tables_read.specs.Collecting.{rows_from, rows_in, AreInOrder}
 use Rattle.plant_tables_columns.specs.ValidValues.{HasValidValues}
 use Rattle.plant_check.specs.Broken.{first_broken_of, first_broken}

@@ -8,7 +8,7 @@ use Rattle.sql_tables.specs.StoredRows.{HaveStoredRows}
 use Rattle.plant_tables.specs.DeskTableDefs.{table_defs_of}
 use Rattle.plant_tables.specs.Keyed.{HoldsTablesOf}
 use Rattle.plant_tables_read.specs.Loading.{AreRising, contents_loaded}
-use Rattle.plant_tables_read.specs.declared.loaded.Loaded.{Loaded}
+use Rattle.plant_tables_read.specs.{Loaded}
 use Rattle.plant_tables_read.specs.Collecting.{Rows, rows_from, tables_in, AreWhole}
 use Rattle.plant_check.specs.Broken.{first_broken, first_broken_of}
 

@@ -2,7 +2,7 @@
 use Rattle.std.proofs.Common.{◌≡◌, ◌∙◌, Bool, true, false, List, [], ◌∷◌, map, Option, Some, None, refl, ap}
 use Rattle.std.specs.Prelude.{◌&&◌, is_none}
 use Rattle.std.specs.List.{list_all}
-use Rattle.plant_check.specs.declared.rule.Rule.{Rule}
+use Rattle.plant_check.specs.{Rule}
 use Rattle.plant_check_rows.specs.First.{fault_unless, or_fault, first_reported}
 use Rattle.plant_check_rows.specs.Findings.{found_by_row, found_by_test}
 use Rattle.plant_check_rows.specs.declared.fault.RowFault.{RowFault}

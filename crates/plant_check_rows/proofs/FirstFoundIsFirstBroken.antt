@@ -1,10 +1,10 @@
 -- The first rule that is found is the first that is broken.
 use Rattle.std.proofs.Common.{◌≡◌, ◌∙◌, Bool, true, false, cond, List, [], ◌∷◌, Option, Some, None, is_some, refl, ap, sym}
 use Rattle.std.specs.Prelude.{not, filter, is_none}
-use Rattle.plant_tables_read.specs.declared.loaded.Loaded.{Loaded}
+use Rattle.plant_tables_read.specs.{Loaded}
 use Rattle.plant_tables_read.specs.Collecting.{Rows, rows_from, rows_listed}
 use Rattle.plant_check.specs.Broken.{unless, or_else, movements_in, broken_plan, broken_lot, broken_history, broken_receipt, broken_recall, broken_rows, first_broken, first_broken_of}
-use Rattle.plant_check.specs.declared.rule.Rule.{Rule}
+use Rattle.plant_check.specs.{Rule}
 use Rattle.plant_check.specs.declared.rule.Rule.TheVariants as rule
 use Rattle.plant_check_rows.specs.Findings.{obeys, finding_of, is_broken, broken_rules, tested_rules, head, first_rule, AreFindingsOf}
 use Rattle.plant_check_rows.specs.declared.finding.Findings.{Findings}

@@ -13,7 +13,7 @@ use Rattle.plant_view.specs.Genealogy.{batch_by}
 use Rattle.plant_view.specs.Production.{is_defined, is_known, is_size_of_recipe, rows_among, lines_among, control_among, job_among}
 use Rattle.plant_view.specs.Tables.{phases_among, events_among}
 use Rattle.plant_tables_columns.specs.Booked.{movement_from}
-use Rattle.plant_tables_columns.specs.declared.booked.BookedRow.{BookedRow}
+use Rattle.plant_tables_columns.specs.{BookedRow}
 use Rattle.plant_tables_read.specs.Collecting.{Rows}
 use Rattle.plant_check_plans.specs.Batches.{control_asked_for, is_control, is_row_among, is_right_batch}
 use Rattle.plant_check_plans.specs.Catalogue.{is_class_among}
@@ -25,7 +25,7 @@ use Rattle.plant_check.specs.Broken.{movements_in, recalls_read, are_right_numbe
 use Rattle.plant_check.specs.Ends.{entries, exits, total_booked, has_right_stock}
 use Rattle.plant_check.specs.Lots.{are_from_zero, sublots_among, is_lot_among, is_born, is_right_lot, is_right_sublot}
 use Rattle.plant_check_stock.specs.Receipts.{are_receipts}
-use Rattle.plant_check.specs.declared.rule.Rule.{Rule}
+use Rattle.plant_check.specs.{Rule}
 use Rattle.plant_check.specs.declared.rule.Rule.TheVariants as rule
 use Rattle.plant_check_rows.specs.First.{or_fault, first_reported}
 use Rattle.plant_check_rows.specs.Edges.{edge_fault_in}

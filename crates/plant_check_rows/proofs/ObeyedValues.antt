@@ -12,9 +12,8 @@ use Rattle.plant_base.specs.declared.rows.MarkKind.TheVariants as mark_kind
 use Rattle.plant_base.specs.declared.states.RecipeState.TheVariants as recipe_state
 use Rattle.plant_base.specs.declared.states.JobState.TheVariants as job_state
 use Rattle.plant_base.specs.declared.states.BatchState.TheVariants as batch_state
-use Rattle.plant_tables_columns.specs.declared.booked.MovementKindCode.{MovementKindCode}
+use Rattle.plant_tables_columns.specs.{MovementKindCode, RecallState}
 use Rattle.plant_tables_columns.specs.declared.booked.MovementKindCode.TheVariants as kind_code
-use Rattle.plant_tables_columns.specs.declared.recalls.RecallState.{RecallState}
 use Rattle.plant_tables_columns.specs.declared.recalls.RecallState.TheVariants as recall_state
 use Rattle.plant_tables_columns.specs.Columns.{Kind}
 use Rattle.plant_tables_columns.specs.Kinds.{ids, texts, units, dues, contents, numbers, line_numbers, flags, recipe_states, job_states, batch_states, recall_states, movement_kind_codes, edge_kinds, mark_kinds, ids_or_none, sublot_numbers_or_none, moments_or_none, texts_or_none}

@@ -3,9 +3,8 @@ use Rattle.std.specs.Prelude.{◌≡◌, ℕ, Bool, true, false, List, [], ◌�
 use Rattle.plant_base.specs.{Movement, Recall}
 use Rattle.plant_tables_columns.specs.TableColumns.{only_meta}
 use Rattle.plant_tables_read.specs.Loading.{contents_loaded}
-use Rattle.plant_tables_read.specs.declared.loaded.Loaded.{Loaded}
+use Rattle.plant_tables_read.specs.{DeskRows, Loaded}
 use Rattle.plant_tables_read.specs.Collecting.{Rows, rows_from, rows_listed}
-use Rattle.plant_tables_read.specs.declared.desk_rows.DeskRows.{DeskRows}
 use Rattle.plant_check_plans.specs.Batches.{are_batches}
 use Rattle.plant_check_plans.specs.Catalogue.{are_classified}
 use Rattle.plant_check_plans.specs.Events.{are_events}
@@ -15,7 +14,7 @@ use Rattle.plant_check_stock.specs.Receipts.{are_receipts}
 use Rattle.plant_check.specs.Broken.{movements_in, recalls_read, are_right_movements, are_right_numbers, are_right_edges, are_right_recalls, first_broken}
 use Rattle.plant_check.specs.Ends.{are_stocks}
 use Rattle.plant_check.specs.Lots.{are_lots}
-use Rattle.plant_check.specs.declared.rule.Rule.{Rule}
+use Rattle.plant_check.specs.{Rule}
 use Rattle.plant_check.specs.declared.rule.Rule.TheVariants as rule
 use Rattle.plant_check_rows.specs.First.{or_fault}
 use Rattle.plant_check_rows.specs.Edges.{edge_fault_in}

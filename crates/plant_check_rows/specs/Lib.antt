@@ -18,3 +18,9 @@ pub mod ColumnRules
 pub mod Stored
 pub mod Values
 pub mod Findings
+pub use declared.fault.Column.{Column}
+pub use declared.fault.Key.{Key}
+pub use declared.fault.RowFault.{RowFault}
+pub use declared.fault.Table.{Table}
+pub use declared.finding.Finding.{Finding}
+pub use declared.finding.Tested.{Tested}

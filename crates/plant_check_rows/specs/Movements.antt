@@ -4,7 +4,7 @@ use Rattle.plant_base.specs.{BatchRow, ControlLine, Lot, Movement, Sublot}
 use Rattle.plant_stock.specs.Stock.{goes_to, comes_from}
 use Rattle.plant_view.specs.Genealogy.{batch_by}
 use Rattle.plant_tables_columns.specs.Booked.{movement_from}
-use Rattle.plant_tables_columns.specs.declared.booked.BookedRow.{BookedRow}
+use Rattle.plant_tables_columns.specs.{BookedRow}
 use Rattle.plant_check_stock.specs.Movements.{is_there, is_batch_there, is_of_right_definition, is_of_right_merge}
 use Rattle.plant_check_rows.specs.Keys.{booked_key}
 use Rattle.plant_check_rows.specs.declared.fault.Column.{Column}

@@ -2,7 +2,7 @@
 use Rattle.std.specs.Prelude.{ℕ, List, Option, is_some}
 use Rattle.plant_base.specs.{Lot, Recall}
 use Rattle.plant_tables_columns.specs.StatedRecalls.{recall_from}
-use Rattle.plant_tables_columns.specs.declared.recalls.StatedRecall.{StatedRecall}
+use Rattle.plant_tables_columns.specs.{StatedRecall}
 use Rattle.plant_check_stock.specs.Movements.{lot_among}
 use Rattle.plant_check_stock.specs.Recalls.{is_timely}
 use Rattle.plant_check_rows.specs.Keys.{id_key}

@@ -1,7 +1,7 @@
 -- Sublots whose stock isn't what entered them less what left them.
 use Rattle.std.specs.Prelude.{ℕ, ◌+◌, ◌==◌, List, Option}
 use Rattle.plant_base.specs.{Sublot}
-use Rattle.plant_tables_columns.specs.declared.booked.BookedRow.{BookedRow}
+use Rattle.plant_tables_columns.specs.{BookedRow}
 use Rattle.plant_check.specs.Ends.{entries, exits, total_booked}
 use Rattle.plant_check_rows.specs.First.{in_column, fault_unless, first_reported}
 use Rattle.plant_check_rows.specs.Keys.{sublot_key}

@@ -3,7 +3,7 @@ use Rattle.std.specs.Prelude.{ℕ, ◌-◌, nat_lt, if◌then◌else◌, List, �
 use Rattle.std.specs.Fmt.{signed_decimal}
 use Rattle.plant_base.specs.Refusals.{name_of}
 use Rattle.plant_base.specs.Words.{batch_state_name, job_state_name}
-use Rattle.plant_tables_columns.specs.declared.booked.MovementKindCode.{MovementKindCode}
+use Rattle.plant_tables_columns.specs.{MovementKindCode}
 use Rattle.plant_tables_columns.specs.declared.booked.MovementKindCode.TheVariants as kind_code
 use Rattle.plant_check_rows.specs.Naming.{table_name, column_name}
 use Rattle.plant_check_rows.specs.declared.fault.Key.{Key}

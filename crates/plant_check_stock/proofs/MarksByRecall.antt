@@ -9,7 +9,7 @@ use Rattle.plant_base.specs.Recalls.{is_open, mark_order, mark_eq, mark_ties, ma
 use Rattle.plant_base.specs.{Mark, Recall}
 use Rattle.plant_trace.specs.Reach.{Lists}
 use Rattle.plant_trace.specs.Recalls.{IsRecalled}
-use Rattle.plant_trace.specs.declared.node.Node.{Node}
+use Rattle.plant_trace.specs.{Node}
 use Rattle.plant_trace.proofs.LeadsIsReach.{none_in, first_or_rest}
 use Rattle.plant_view.specs.Recalls.{mark_on, node_of, nodes_from, marks_of, marks, Reaches}
 use Rattle.plant_view.specs.Rows.{put_all}

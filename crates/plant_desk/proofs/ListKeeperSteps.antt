@@ -14,9 +14,8 @@ use Rattle.plant_rules.specs.Step.{step, unless_refused, taken, IsRepeated}
 use Rattle.plant_rules.specs.Wrong.{is_whole, wrong, wrong_there, kept_for, decoded}
 use Rattle.plant_desk.specs.Keepers.{writes_nothing}
 use Rattle.plant_desk.specs.Replies.{reply, reply_by, number_of}
-use Rattle.plant_messages.specs.declared.reply.Reply.{Reply}
+use Rattle.plant_messages.specs.{DeskFault, Reply}
 use Rattle.plant_messages.specs.declared.reply.Reply.TheVariants.{Accepted, Refused}
-use Rattle.plant_messages.specs.declared.reply.DeskFault.{DeskFault}
 use Rattle.plant_rules.proofs.StepPreservesInvariant.{step_preserves_invariant}
 
 -- a state that is either the one before or the next is consistent

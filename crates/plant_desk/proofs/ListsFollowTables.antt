@@ -2,7 +2,7 @@
 use Rattle.std.proofs.Common.{◌≡◌, ◌∙◌, List, [], ◌∷◌, refl, sym, ap}
 use Rattle.plant_base.specs.State.{State, newest_schema, batch_order, place_order}
 use Rattle.plant_base.proofs.PutKeepsOrder.{put_kept}
-use Rattle.plant_view.specs.declared.change.RowChange.{RowChange}
+use Rattle.plant_view.specs.{RowChange}
 use Rattle.plant_view.specs.declared.change.RowChange.TheVariants as row
 use Rattle.plant_view.specs.Tables.{state_without_kept, Tables, tables_of, changed, changed_all, batch_row_order, sublot_order, place_of_row, batch_of_row}
 use Rattle.plant_answers.proofs.PlainTables.{plain_tables}

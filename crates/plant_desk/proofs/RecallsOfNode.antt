@@ -10,7 +10,7 @@ use Rattle.plant_trace.specs.Nodes.{node_eq}
 use Rattle.plant_trace.specs.Reach.{Lists, IsReached}
 use Rattle.plant_trace.specs.Recalls.{is_recalled}
 use Rattle.plant_trace.specs.declared.direction.Direction.TheVariants.{Back}
-use Rattle.plant_trace.specs.declared.node.Node.{Node}
+use Rattle.plant_trace.specs.{Node}
 use Rattle.plant_trace.specs.declared.node.Node.TheVariants as node
 use Rattle.plant_trace.proofs.NodeOrder.{node_eq_exact, node_eq_itself}
 use Rattle.plant_trace.proofs.RecallReaches.{recalled_where_reached}

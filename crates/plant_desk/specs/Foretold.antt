@@ -3,9 +3,9 @@ use Rattle.std.specs.Prelude.{◌≡◌, Option, Some, None}
 use Rattle.plant_base.specs.State.{State}
 use Rattle.plant_base.specs.{Envelope, Refusal}
 use Rattle.plant_causes.specs.Causes.{checked}
-use Rattle.plant_causes.specs.declared.checking.Checked.{Checked}
+use Rattle.plant_causes.specs.{Checked}
 use Rattle.plant_causes.specs.declared.checking.Checked.TheVariants as check
-use Rattle.plant_messages.specs.declared.reply.Reply.{Reply}
+use Rattle.plant_messages.specs.{Reply}
 use Rattle.plant_messages.specs.declared.reply.Reply.TheVariants as answer
 use Rattle.plant_desk.specs.Replies.{reply}
 

@@ -4,14 +4,11 @@ use Rattle.plant_base.specs.State.{State}
 use Rattle.plant_base.specs.{Envelope}
 use Rattle.plant_rules.specs.Step.{step}
 use Rattle.plant_causes.specs.Causes.{checked}
-use Rattle.plant_causes.specs.declared.checking.Checked.{Checked}
+use Rattle.plant_causes.specs.{Checked}
 use Rattle.plant_desk.specs.Replies.{reply}
 use Rattle.plant_answers.specs.Answers.{answer}
-use Rattle.plant_messages.specs.declared.question.Question.{Question}
-use Rattle.plant_messages.specs.declared.question.Answer.{Answer}
-use Rattle.plant_messages.specs.declared.reply.Reply.{Reply}
+use Rattle.plant_messages.specs.{Answer, DeskFault, Question, Reply}
 use Rattle.plant_messages.specs.declared.reply.Reply.TheVariants.{Accepted, Refused}
-use Rattle.plant_messages.specs.declared.reply.DeskFault.{DeskFault}
 use Rattle.plant_messages.specs.declared.reply.DeskFault.TheVariants.{Store, Memory, Shut}
 
 -- a set of states

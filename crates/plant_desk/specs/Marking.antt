@@ -4,7 +4,7 @@ use Rattle.std.specs.List.{list_any}
 use Rattle.plant_base.specs.Recalls.{is_open}
 use Rattle.plant_base.specs.{Recall}
 use Rattle.plant_trace.specs.Nodes.{node_eq}
-use Rattle.plant_trace.specs.declared.node.Node.{Node}
+use Rattle.plant_trace.specs.{Node}
 use Rattle.plant_trace.specs.declared.node.Node.TheVariants as node
 
 abbrev pub reaches_by : List Node → Node → Recall → Bool

@@ -10,7 +10,7 @@ use Rattle.sql_tables.specs.CrashStates.{IsSettled}
 use Rattle.plant_tables.specs.DeskTableDefs.{desk_table_defs}
 use Rattle.plant_tables.specs.DeskCrashStates.{FindsTables, opening_tables}
 use Rattle.plant_tables_read.specs.Collecting.{rows_in, rows_listed}
-use Rattle.plant_tables_read.specs.declared.desk_rows.DeskRows.{DeskRows}
+use Rattle.plant_tables_read.specs.{DeskRows}
 use Rattle.plant_invariant_tables.proofs.RowsInKeyOrder.{keyed}
 use Rattle.plant_migrate.specs.Raised.{edges_from}
 use Rattle.plant_migrate.specs.Steps.{IsRaisedBy}

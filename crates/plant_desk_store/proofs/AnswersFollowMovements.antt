@@ -7,8 +7,7 @@ use Rattle.plant_base.proofs.FindIsFirst.{found_passes}
 use Rattle.plant_base.proofs.KeyOrders.{same_id}
 use Rattle.plant_base.proofs.PutKeepsOrder.{map_back}
 use Rattle.plant_stock.specs.Stock.{left_of, born_of}
-use Rattle.plant_trace.specs.declared.direction.Direction.{Direction}
-use Rattle.plant_trace.specs.declared.node.Node.{Node}
+use Rattle.plant_trace.specs.{Direction, Node}
 use Rattle.plant_view.specs.Conservation.{lot_stock}
 use Rattle.plant_view.specs.Genealogy.{edges_of}
 use Rattle.plant_view.specs.DecisionInvariant.{DecisionInvariant}
@@ -19,9 +18,8 @@ use Rattle.plant_answers.specs.Surroundings.{answer_stands}
 use Rattle.plant_answers.specs.Answers.{answer}
 use Rattle.plant_answers.specs.LotAnswers.{answer_lot}
 use Rattle.plant_answers.specs.Traces.{missing, answer_trace}
-use Rattle.plant_messages.specs.declared.question.Question.{Question}
+use Rattle.plant_messages.specs.{Answer, Question}
 use Rattle.plant_messages.specs.declared.question.Question.TheVariants as Q
-use Rattle.plant_messages.specs.declared.question.Answer.{Answer}
 use Rattle.plant_answers.proofs.GoodsAreReached.{standing_sorted, standing_only, standing_all}
 use Rattle.plant_answers.proofs.ReachedIsTrace.{trace_lists}
 use Rattle.plant_desk_store.specs.Headline.{IsTraceIn, AreStandingIn, IsLotIn, SaysOf, IsAnsweredIn}

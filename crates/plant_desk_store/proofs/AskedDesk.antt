@@ -6,11 +6,9 @@ use Rattle.sqlite.specs.State.{HasCleanDisk}
 use Rattle.plant_base.specs.State.{State, newest_schema}
 use Rattle.sql_tables.proofs.TransactionEnds.{IsStore}
 use Rattle.plant_base.specs.{Envelope}
-use Rattle.plant_causes.specs.declared.checking.Checked.{Checked}
+use Rattle.plant_causes.specs.{Checked}
 use Rattle.plant_desk.specs.Keepers.{Checks, Asks}
-use Rattle.plant_messages.specs.declared.question.Question.{Question}
-use Rattle.plant_messages.specs.declared.question.Answer.{Answer}
-use Rattle.plant_messages.specs.declared.reply.DeskFault.{DeskFault}
+use Rattle.plant_messages.specs.{Answer, DeskFault, Question}
 use Rattle.plant_messages.specs.declared.reply.DeskFault.TheVariants.{Store, Memory, Shut}
 use Rattle.plant_desk_store.specs.Parts.{OnlyReads, HasForeseen, HasAnswered}
 use Rattle.plant_desk_store.specs.DeskStates.{Represents, HasForeignTables}

@@ -5,12 +5,11 @@ use Rattle.sqlite.specs.Order.{Row}
 use Rattle.plant_base.specs.{Meta}
 use Rattle.plant_view.proofs.TestsAndSums.{and_left}
 use Rattle.plant_tables_read.specs.Loading.{contents_loaded}
-use Rattle.plant_tables_read.specs.declared.loaded.Loaded.{Loaded}
+use Rattle.plant_tables_read.specs.{DeskRows, Loaded}
 use Rattle.plant_tables_read.specs.Collecting.{Rows, rows_from, rows_listed}
 use Rattle.plant_tables_read.proofs.RowsRepresentTables.{rows_back}
 use Rattle.plant_tables_columns.specs.TableColumns.{only_meta}
 use Rattle.plant_tables_columns.proofs.RowLaws.{meta_reads}
-use Rattle.plant_tables_read.specs.declared.desk_rows.DeskRows.{DeskRows}
 use Rattle.plant_check.specs.Broken.{first_broken, first_broken_of, broken_rows, unless}
 use Rattle.plant_check.specs.declared.rule.Rule.TheVariants as rule
 use Rattle.plant_desk_store.specs.Checks.{FailsChecks, PassesChecks, FailsChecksBy, PassesChecksOf, FailsChecksOf}

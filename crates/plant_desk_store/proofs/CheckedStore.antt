@@ -12,7 +12,7 @@ use Rattle.sql_tables.specs.AtRest.{Keeps}
 use Rattle.sql_tables.specs.CrashStates.{IsSettled}
 use Rattle.sql_tables.proofs.TransactionEnds.{IsStore}
 use Rattle.sql_tables.proofs.WritesInTurn.{survives_none}
-use Rattle.sql_tables.specs.declared.fault.Fault.{Fault}
+use Rattle.sql_tables.specs.{Fault}
 use Rattle.sql_tables.specs.declared.fault.Fault.TheVariants as below
 use Rattle.sql_queries.specs.Ordered.{IsRising}
 use Rattle.plant_tables.specs.DeskTableDefs.{desk_table_defs, table_defs_of}
@@ -23,10 +23,9 @@ use Rattle.plant_view.specs.Tables.{Tables, tables_of, IsWholeIn}
 use Rattle.plant_invariant.specs.StateInvariant.{StateInvariant}
 use Rattle.plant_tables_read.specs.Loading.{AreLoaded, AreRising, contents_loaded}
 use Rattle.plant_tables_read.specs.Version.{IsVersion, IsKnown, HasTablesOf}
-use Rattle.plant_tables_read.specs.declared.loaded.Loaded.{Loaded}
+use Rattle.plant_tables_read.specs.{DeskRows, Loaded}
 use Rattle.plant_tables_read.proofs.OneVersion.{one_version}
 use Rattle.plant_tables_read.specs.Collecting.{rows_in, rows_listed}
-use Rattle.plant_tables_read.specs.declared.desk_rows.DeskRows.{DeskRows}
 use Rattle.plant_migrate.specs.FailureLeaves.{FailureLeavesAmid}
 use Rattle.plant_migrate.proofs.RaisingEnds.{raised_to_is}
 use Rattle.plant_migrate.proofs.NothingWritten.{at_still, keeps_itself}

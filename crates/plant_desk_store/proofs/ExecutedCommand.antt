@@ -7,15 +7,14 @@ use Rattle.sql_tables.proofs.TransactionEnds.{IsStore}
 use Rattle.plant_base.specs.Content.{content_of}
 use Rattle.plant_base.specs.WellFormedCommands.{stamp_of}
 use Rattle.plant_base.specs.{Envelope, Refusal}
-use Rattle.plant_view.specs.declared.change.Decision.{Decision}
+use Rattle.plant_view.specs.{Decision}
 use Rattle.plant_view.specs.declared.change.Decision.TheVariants as decision
 use Rattle.plant_rules.specs.Step.{step, step_body, noted, IsRepeated, IsDecision}
 use Rattle.plant_rules.specs.Wrong.{is_whole, wrong, kept_for}
 use Rattle.plant_rules.proofs.ReceiptDecisions.{next_number, step_new}
 use Rattle.plant_desk.specs.Replies.{reply, reply_by, number_of}
-use Rattle.plant_messages.specs.declared.reply.Reply.{Reply}
+use Rattle.plant_messages.specs.{DeskFault, Reply}
 use Rattle.plant_messages.specs.declared.reply.Reply.TheVariants.{Accepted, Refused}
-use Rattle.plant_messages.specs.declared.reply.DeskFault.{DeskFault}
 use Rattle.plant_messages.specs.declared.reply.DeskFault.TheVariants.{Store, Memory, Shut}
 use Rattle.plant_desk.proofs.ListKeeperSteps.{refused_step, repeated, answered_new}
 use Rattle.plant_desk_store.specs.Lookups.{IsRepeat}

@@ -16,8 +16,7 @@ use Rattle.plant_tables.specs.DeskCrashStates.{IsAt, FindsTables, FailureLeaves}
 use Rattle.plant_base.specs.{Envelope}
 use Rattle.plant_base.specs.State.{State}
 use Rattle.plant_desk.specs.Keepers.{shuts}
-use Rattle.plant_messages.specs.declared.reply.Reply.{Reply}
-use Rattle.plant_messages.specs.declared.reply.DeskFault.{DeskFault}
+use Rattle.plant_messages.specs.{DeskFault, Reply}
 use Rattle.plant_messages.specs.declared.reply.DeskFault.TheVariants.{Store, Memory, Shut}
 use Rattle.plant_rules.specs.Step.{step}
 use Rattle.plant_desk_store.specs.DeskStates.{KeepsForeignTables, IsDurablyAt, HasForeignTables, Executed}

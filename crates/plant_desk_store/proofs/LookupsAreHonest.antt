@@ -11,7 +11,7 @@ use Rattle.plant_invariant.specs.StateInvariant.{StateInvariant}
 use Rattle.plant_tables.specs.Keyed.{HoldsTables}
 use Rattle.plant_keyed.specs.LookupOutcomes.{IsHonest, PreservesFrame}
 use Rattle.plant_keyed.specs.Caching.{IsCacheOf, CacheStaysValid}
-use Rattle.plant_keyed.specs.declared.lookup_cache.LookupCache.{LookupCache}
+use Rattle.plant_keyed.specs.{LookupCache}
 use Rattle.plant_keyed.specs.Frames.{honest_before}
 use Rattle.plant_keyed.specs.Abstraction.{abstraction}
 use Rattle.plant_keyed.proofs.AbstractionIsState.{abstraction_is_state}

@@ -6,12 +6,12 @@ use Rattle.sqlite.specs.State as store
 use Rattle.sqlite.specs.State.{HasCleanDisk, IsUnchanged, Survives}
 use Rattle.plant_base.specs.State.{State, newest_schema}
 use Rattle.plant_view.specs.Tables.{tables_of}
-use Rattle.sql_tables.specs.declared.fault.Fault.{Fault}
+use Rattle.sql_tables.specs.{Fault}
 use Rattle.sql_tables.specs.AtRest.{Keeps}
 use Rattle.sql_tables.proofs.TransactionEnds.{IsStore}
 use Rattle.plant_tables.specs.DeskCrashStates.{IsAt}
 use Rattle.plant_tables.specs.Missing.{AddsMissing, AreAllTaken, HasCreatedIndexes}
-use Rattle.plant_messages.specs.declared.reply.DeskFault.{DeskFault}
+use Rattle.plant_messages.specs.{DeskFault}
 use Rattle.plant_desk_store.specs.Calls.{HasIndexed}
 use Rattle.plant_desk_store.specs.Faults.{desk_fault}
 use Rattle.plant_desk_store.specs.Parts.{HasMended}

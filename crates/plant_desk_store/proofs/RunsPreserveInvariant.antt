@@ -8,8 +8,7 @@ use Rattle.plant_view.proofs.StockIsConserved.{conserved}
 use Rattle.plant_invariant.specs.StateInvariant.{StateInvariant}
 use Rattle.plant_desk.specs.Keepers.{States}
 use Rattle.plant_desk.specs.Runs.{fold}
-use Rattle.plant_messages.specs.declared.reply.Reply.{Reply}
-use Rattle.plant_messages.specs.declared.reply.DeskFault.{DeskFault}
+use Rattle.plant_messages.specs.{DeskFault, Reply}
 use Rattle.plant_messages.specs.declared.reply.DeskFault.TheVariants.{Store, Memory, Shut}
 use Rattle.plant_desk_store.specs.Calls.{IsAccounted}
 use Rattle.plant_desk_store.specs.Runs.{Ran}

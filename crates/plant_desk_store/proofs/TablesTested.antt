@@ -7,7 +7,7 @@ use Rattle.sqlite.proofs.StateLemmas.{survives_then, survives_weaker}
 use Rattle.plant_base.specs.State.{State, newest_schema}
 use Rattle.sql_tables.proofs.TransactionEnds.{IsStore}
 use Rattle.plant_tables_read.specs.Version.{IsKnown}
-use Rattle.plant_tables_read.specs.declared.desk_rows.DeskRows.{DeskRows}
+use Rattle.plant_tables_read.specs.{DeskRows}
 use Rattle.plant_migrate.proofs.RaisingEnds.{raised_since}
 use Rattle.plant_desk_store.specs.Adopting.{HoldsValidState, IsNewlyOpened, IsRaised}
 use Rattle.plant_desk_store.specs.Parts.{HasChecked, HasRaised, HasTaken}

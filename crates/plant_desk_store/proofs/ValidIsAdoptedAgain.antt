@@ -29,7 +29,7 @@ use Rattle.plant_tables_read.proofs.OneVersion.{one_version, each_free, free_rep
 use Rattle.plant_check_laws.proofs.InvariantImpliesChecksPass.{read_valid}
 use Rattle.plant_desk_store.specs.Adopting.{HoldsValidState, IsRefusedBy, IsFirstBroken}
 use Rattle.plant_desk_store.specs.DeskLaws.{IsAdoptable}
-use Rattle.plant_check.specs.declared.rule.Rule.{Rule}
+use Rattle.plant_check.specs.{Rule}
 use Rattle.plant_desk_store.specs.declared.adopting.AdoptFault.{AdoptFault}
 use Rattle.plant_desk_store.specs.declared.adopting.AdoptFault.TheVariants as fault
 

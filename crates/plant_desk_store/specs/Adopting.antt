@@ -15,11 +15,11 @@ use Rattle.plant_tables.specs.DeskTableDefs.{desk_table_defs, later_table_defs}
 use Rattle.plant_tables.specs.DeskCrashStates.{MakesDesk, IsAtOf, FindsTables, opening_tables}
 use Rattle.plant_tables.specs.Keyed.{HoldsTablesOf}
 use Rattle.plant_tables_read.specs.Version.{IsVersion, IsKnown}
-use Rattle.plant_tables_read.specs.declared.loaded.Loaded.{Loaded}
+use Rattle.plant_tables_read.specs.{Loaded}
 use Rattle.plant_migrate.specs.FailureLeaves.{IsBetween}
 use Rattle.plant_migrate.specs.Steps.{FindsRisable}
 use Rattle.plant_check.specs.Broken.{first_broken}
-use Rattle.plant_check.specs.declared.rule.Rule.{Rule}
+use Rattle.plant_check.specs.{Rule}
 use Rattle.plant_desk.specs.Keepers.{States}
 use Rattle.plant_desk_store.specs.DeskStates.{IsDurablyAt, FindsStateOf}
 use Rattle.plant_desk_store.specs.declared.adopting.AdoptFault.{AdoptFault}

@@ -10,14 +10,11 @@ use Rattle.plant_trace.specs.Reach.{IsAcyclic}
 use Rattle.plant_view.specs.Conservation.{IsConserved, IsBalanced}
 use Rattle.plant_view.specs.Genealogy.{edges_of}
 use Rattle.plant_tables.specs.Missing.{AddsMissing, AreAllTaken}
-use Rattle.plant_check.specs.declared.rule.Rule.{Rule}
-use Rattle.plant_causes.specs.declared.checking.Checked.{Checked}
+use Rattle.plant_check.specs.{Rule}
+use Rattle.plant_causes.specs.{Checked}
 use Rattle.plant_desk.specs.Keepers.{Executes, Checks, Asks, shuts, writes_nothing}
 use Rattle.plant_desk.specs.Runs.{fold}
-use Rattle.plant_messages.specs.declared.question.Question.{Question}
-use Rattle.plant_messages.specs.declared.question.Answer.{Answer}
-use Rattle.plant_messages.specs.declared.reply.Reply.{Reply}
-use Rattle.plant_messages.specs.declared.reply.DeskFault.{DeskFault}
+use Rattle.plant_messages.specs.{Answer, DeskFault, Question, Reply}
 use Rattle.plant_messages.specs.declared.reply.DeskFault.TheVariants.{Shut}
 use Rattle.plant_desk_store.specs.Adopting.{IsNewlyOpened, AdoptedFrom, KeepsValidState, ValidStateSurvives, ShowsUnchanged, IsRefusedBy, IsUnraised, Adopts}
 use Rattle.plant_desk_store.specs.Lookups.{IsRepeat}

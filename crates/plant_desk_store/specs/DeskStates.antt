@@ -16,8 +16,7 @@ use Rattle.plant_tables.specs.DeskCrashStates.{IsAt}
 use Rattle.plant_tables.specs.Keyed.{HoldsTablesOf}
 use Rattle.plant_desk.specs.Keepers.{States}
 use Rattle.plant_desk.specs.Replies.{reply}
-use Rattle.plant_messages.specs.declared.reply.Reply.{Reply}
-use Rattle.plant_messages.specs.declared.reply.DeskFault.{DeskFault}
+use Rattle.plant_messages.specs.{DeskFault, Reply}
 use Rattle.plant_messages.specs.declared.reply.DeskFault.TheVariants.{Store, Memory, Shut}
 
 -- The state is valid, and the store, where it is open, shows its tables.

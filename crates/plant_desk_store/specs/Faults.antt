@@ -1,15 +1,14 @@
 -- What calls below the desk came to, as the desk and an adoption report it.
 use Rattle.std.specs.Prelude.{ℕ, ℤ, pos, negsuc, nat_lt, if◌then◌else◌, Option, Some, None, Result, Ok, Err}
-use Rattle.sql_tables.specs.declared.fault.Fault.{Fault}
+use Rattle.sql_tables.specs.{Fault}
 use Rattle.sql_tables.specs.declared.fault.Fault.TheVariants as below
 use Rattle.plant_base.specs.State.{newest_schema}
-use Rattle.plant_view.specs.declared.fault.ViewFault.{ViewFault}
+use Rattle.plant_view.specs.{ViewFault}
 use Rattle.plant_view.specs.declared.fault.ViewFault.TheVariants as view
 use Rattle.plant_check.specs.declared.rule.Rule.TheVariants as rule
-use Rattle.plant_tables_read.specs.declared.finding.FoundTables.{FoundTables}
+use Rattle.plant_tables_read.specs.{FoundTables, Loaded}
 use Rattle.plant_tables_read.specs.declared.finding.FoundTables.TheVariants as tables
-use Rattle.plant_tables_read.specs.declared.loaded.Loaded.{Loaded}
-use Rattle.plant_messages.specs.declared.reply.DeskFault.{DeskFault}
+use Rattle.plant_messages.specs.{DeskFault}
 use Rattle.plant_messages.specs.declared.reply.DeskFault.TheVariants as desk
 use Rattle.plant_desk_store.specs.declared.adopting.AdoptFault.{AdoptFault}
 use Rattle.plant_desk_store.specs.declared.adopting.AdoptFault.TheVariants as adopting

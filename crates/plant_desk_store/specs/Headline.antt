@@ -11,8 +11,7 @@ use Rattle.plant_base.specs.State.{State, opening, newest_schema, same, lot_at}
 use Rattle.plant_base.specs.{Envelope, Sublot}
 use Rattle.plant_stock.specs.Stock.{entered, left, born_of, left_of}
 use Rattle.plant_trace.specs.Reach.{IsReached, Lists}
-use Rattle.plant_trace.specs.declared.direction.Direction.{Direction}
-use Rattle.plant_trace.specs.declared.node.Node.{Node}
+use Rattle.plant_trace.specs.{Direction, Node}
 use Rattle.plant_view.specs.Genealogy.{edges_of}
 use Rattle.plant_view.specs.Tables.{tables_of, IsWholeIn, place_of_row}
 use Rattle.plant_invariant.specs.StateInvariant.{StateInvariant}
@@ -20,16 +19,13 @@ use Rattle.sql_tables.specs.StoredRows.{AreFree}
 use Rattle.plant_tables.specs.DeskTableDefs.{desk_table_defs}
 use Rattle.plant_tables.specs.Keyed.{HoldsTablesOf, HoldsTables}
 use Rattle.plant_causes.specs.Causes.{checked}
-use Rattle.plant_causes.specs.declared.checking.Checked.{Checked}
+use Rattle.plant_causes.specs.{Checked}
 use Rattle.plant_answers.specs.AnswerLaws.{StandsFrom, standing_order}
 use Rattle.plant_answers.specs.Answers.{answer}
 use Rattle.plant_answers.specs.Traces.{missing}
-use Rattle.plant_messages.specs.declared.question.Question.{Question}
+use Rattle.plant_messages.specs.{Answer, LotAnswer, Question, StandingLot}
 use Rattle.plant_messages.specs.declared.question.Question.TheVariants as Q
-use Rattle.plant_messages.specs.declared.question.Answer.{Answer}
 use Rattle.plant_messages.specs.declared.question.Answer.TheVariants as A
-use Rattle.plant_messages.specs.declared.question.LotAnswer.{LotAnswer}
-use Rattle.plant_messages.specs.declared.question.StandingLot.{StandingLot}
 use Rattle.plant_desk_store.specs.Calls.{IsAccounted, HasRefused, HasForetold, HasAsked}
 use Rattle.plant_desk_store.specs.Executions.{Attempt, PossibleOutcome, IsOpened, StorePhase, opened, desk, refused, Execution}
 use Rattle.plant_desk_store.specs.declared.adopting.AdoptFault.{AdoptFault}

@@ -11,3 +11,5 @@ pub mod Runs
 pub mod Resent
 pub mod DeskStates
 pub mod Checks
+pub use declared.adopting.AdoptFault.{AdoptFault}
+pub use declared.stored.Desk.{Desk}

@@ -9,7 +9,7 @@ use Rattle.plant_base.specs.Values.{greatest_seq}
 use Rattle.plant_base.specs.{Envelope}
 use Rattle.plant_view.specs.OneBatch.{PutsOneBatch}
 use Rattle.plant_view.specs.Tables.{tables_of, changed_all}
-use Rattle.plant_view.specs.declared.change.RowChange.{RowChange}
+use Rattle.plant_view.specs.{RowChange}
 use Rattle.plant_invariant.specs.StateInvariant.{StateInvariant}
 use Rattle.sql_tables.specs.AtRest.{Keeps}
 use Rattle.sql_tables.specs.StoredRows.{AreFree}
@@ -19,19 +19,16 @@ use Rattle.plant_tables.specs.Keyed.{AreFresh}
 use Rattle.plant_tables.specs.Missing.{AddsMissing, AreAllTaken}
 use Rattle.plant_tables_read.specs.Version.{IsKnown, IsVersion}
 use Rattle.plant_tables_read.specs.Collecting.{rows_in, rows_listed}
-use Rattle.plant_tables_read.specs.declared.desk_rows.DeskRows.{DeskRows}
+use Rattle.plant_tables_read.specs.{DeskRows}
 use Rattle.plant_migrate.specs.Raised.{edges_from}
 use Rattle.plant_migrate.specs.Steps.{IsRaisedBy}
-use Rattle.plant_check.specs.declared.rule.Rule.{Rule}
+use Rattle.plant_check.specs.{Rule}
 use Rattle.plant_answers.specs.Answers.{answer}
 use Rattle.plant_causes.specs.Causes.{checked}
-use Rattle.plant_causes.specs.declared.checking.Checked.{Checked}
+use Rattle.plant_causes.specs.{Checked}
 use Rattle.plant_desk.specs.Keepers.{writes_nothing}
-use Rattle.plant_messages.specs.declared.question.Question.{Question}
-use Rattle.plant_messages.specs.declared.question.Answer.{Answer}
-use Rattle.plant_messages.specs.declared.reply.Reply.{Reply}
+use Rattle.plant_messages.specs.{Answer, DeskFault, Question, Reply}
 use Rattle.plant_messages.specs.declared.reply.Reply.TheVariants.{Accepted}
-use Rattle.plant_messages.specs.declared.reply.DeskFault.{DeskFault}
 use Rattle.plant_messages.specs.declared.reply.DeskFault.TheVariants.{Store, Shut}
 use Rattle.plant_desk_store.specs.Adopting.{IsNewlyOpened, HoldsValidState, IsRisingAt, IsRaised, ShowsUnchanged, NamesFirst, AreMade}
 use Rattle.plant_desk_store.specs.Lookups.{IsDecidedAt, IsRepeat}

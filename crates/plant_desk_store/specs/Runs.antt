@@ -5,8 +5,7 @@ use Rattle.plant_base.specs.{Envelope}
 use Rattle.plant_rules.specs.Step.{step}
 use Rattle.plant_desk.specs.Keepers.{States}
 use Rattle.plant_desk.specs.Runs.{fold, replies}
-use Rattle.plant_messages.specs.declared.reply.Reply.{Reply}
-use Rattle.plant_messages.specs.declared.reply.DeskFault.{DeskFault}
+use Rattle.plant_messages.specs.{DeskFault, Reply}
 use Rattle.plant_messages.specs.declared.reply.DeskFault.TheVariants.{Store, Memory, Shut}
 
 -- how a run ended, after so many commands led to t: at a fault of the store the next command may have been made

@@ -11,11 +11,9 @@ use Rattle.plant_http_requests.specs.PieceReading.{Agrees, SpentAll}
 use Rattle.plant_http_requests.specs.declared.reading.HeadEnd.{HeadEnd}
 use Rattle.plant_http_requests.specs.declared.reading.HeadEnd.TheVariants as head
 use Rattle.plant_http_requests.specs.Jobs.{AsksFor, EndJob}
-use Rattle.plant_http_requests.specs.declared.job.Job.{Job}
-use Rattle.plant_http_requests.specs.declared.profile.Profile.{Profile}
+use Rattle.plant_http_requests.specs.{InputFault, Job, Profile}
 use Rattle.plant_http.specs.Serving.{Serves, ServesShut, Answers, AnswersJobShut, end_of}
 use Rattle.plant_text.specs.CrashStates.{RepresentsDurably}
-use Rattle.plant_http_requests.specs.declared.reading.InputFault.{InputFault}
 use Rattle.plant_http_requests.specs.declared.reading.InputFault.TheVariants as input
 use Rattle.plant_http.specs.declared.serve.Served.{Served}
 use Rattle.plant_http.specs.declared.serve.Served.TheVariants.{Answered, Nothing}

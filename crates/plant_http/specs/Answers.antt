@@ -6,30 +6,24 @@ use Rattle.plant_base.specs.State.{State}
 use Rattle.plant_base.specs.Refusals.{number_of}
 use Rattle.plant_base.specs.declared.refusal.Refusal.TheVariants.{BadForm}
 use Rattle.plant_orders.specs.Orders.{kind_name}
-use Rattle.plant_orders.specs.declared.fault.CsvFault.{CsvFault}
+use Rattle.plant_orders.specs.{CsvFault}
 use Rattle.plant_answers.specs.Answers.{answer}
 use Rattle.plant_desk.specs.Replies.{reply}
-use Rattle.plant_messages.specs.declared.question.Answer.{Answer as DeskAnswer}
+use Rattle.plant_messages.specs.{Answer as DeskAnswer, BatchView, DeskFault, Reply}
 use Rattle.plant_messages.specs.declared.question.Answer.TheVariants as A
-use Rattle.plant_messages.specs.declared.reply.Reply.{Reply}
 use Rattle.plant_messages.specs.declared.reply.Reply.TheVariants.{Accepted, Refused}
-use Rattle.plant_messages.specs.declared.reply.DeskFault.{DeskFault}
 use Rattle.plant_messages.specs.declared.reply.DeskFault.TheVariants as fault
-use Rattle.plant_messages.specs.declared.question.BatchView.{BatchView}
 use Rattle.plant_record.specs.Record.{record_text}
 use Rattle.plant_text_answers.specs.Answers.{text_of_answer}
 use Rattle.plant_text_answers.specs.Replies.{reply_text, fault_text}
 use Rattle.plant_text_checks.specs.Answers.{check_text}
 use Rattle.plant_text_checks.specs.Checks.{check_answer}
-use Rattle.plant_text_checks.specs.declared.answers.CheckAnswer.{CheckAnswer}
+use Rattle.plant_text_checks.specs.{CheckAnswer}
 use Rattle.plant_text.specs.Checks.{check_when_shut}
-use Rattle.plant_http_requests.specs.declared.job.Job.{Job}
+use Rattle.plant_http_requests.specs.{Allow, BodyFormat, Job, Status}
 use Rattle.plant_http_requests.specs.declared.job.Job.TheVariants as J
-use Rattle.plant_http_requests.specs.declared.job.BodyFormat.{BodyFormat}
 use Rattle.plant_http_requests.specs.declared.job.BodyFormat.TheVariants.{Json, Record}
-use Rattle.plant_http_requests.specs.declared.status.Status.{Status}
 use Rattle.plant_http_requests.specs.declared.status.Status.TheVariants as st
-use Rattle.plant_http_requests.specs.declared.status.Allow.{Allow}
 use Rattle.plant_http_requests.specs.declared.status.Allow.TheVariants.{Unsaid, Get, Post}
 use Rattle.plant_http.specs.declared.media.MediaType.{MediaType}
 use Rattle.plant_http.specs.declared.media.MediaType.TheVariants as media

@@ -5,7 +5,7 @@ use Rattle.plant_base.specs.Options.{◌>>=◌}
 use Rattle.plant_base.specs.Digits.{digits_of}
 use Rattle.plant_base.specs.Values.{is_id, is_moment, is_text, only}
 use Rattle.plant_base.specs.{Stamp}
-use Rattle.plant_orders.specs.declared.importing.ImportMetadata.{ImportMetadata}
+use Rattle.plant_orders.specs.{ImportMetadata}
 
 -- names and values, in their order
 abbrev pub Fields : Type 0

@@ -6,20 +6,18 @@ use Rattle.httparse.specs.Spans.{name_and_value}
 use Rattle.plant_base.specs.{OrderRow}
 use Rattle.plant_orders.specs.Importing.{import}
 use Rattle.plant_orders.specs.Orders.{orders_of}
-use Rattle.plant_orders.specs.declared.fault.CsvFault.{CsvFault}
-use Rattle.plant_orders.specs.declared.fault.CsvKind.{CsvKind}
+use Rattle.plant_orders.specs.{CsvFault, CsvKind, ImportMetadata}
 use Rattle.plant_orders.specs.declared.fault.CsvKind.TheVariants as csv
-use Rattle.plant_orders.specs.declared.importing.ImportMetadata.{ImportMetadata}
 use Rattle.plant_message_schema.specs.declared.members.Member.TheVariants as m
-use Rattle.plant_message_schema.specs.declared.format_errors.FormatError.{FormatError}
+use Rattle.plant_message_schema.specs.{FormatError}
 use Rattle.plant_message_schema.specs.declared.format_errors.FormatError.TheVariants as format_error
 use Rattle.plant_message_schema.specs.declared.format_errors.ShapeError.TheVariants as shape_error
-use Rattle.plant_text_commands.specs.declared.checks.ToCheck.{ToCheck}
+use Rattle.plant_text_commands.specs.{ToCheck}
 use Rattle.plant_text_commands.specs.declared.checks.ToCheck.TheVariants as to_check
 use Rattle.plant_text.specs.Lines.{line_of, line_says}
-use Rattle.plant_text.specs.declared.read.Line.{Line}
-use Rattle.plant_text.specs.declared.read.Line.TheVariants as L
+use Rattle.plant_text.specs.{Line}
 use Rattle.plant_text.specs.declared.LineFault.{LineFault}
+use Rattle.plant_text.specs.declared.read.Line.TheVariants as L
 use Rattle.plant_text.specs.declared.LineFault.TheVariants as line
 use Rattle.plant_http_requests.specs.HeadEnd.{end_of_head}
 use Rattle.plant_http_requests.specs.declared.reading.HeadEnd.{HeadEnd}

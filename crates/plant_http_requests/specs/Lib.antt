@@ -7,3 +7,9 @@ pub mod Heads
 pub mod Steps
 pub mod Jobs
 pub mod Law
+pub use declared.job.BodyFormat.{BodyFormat}
+pub use declared.job.Job.{Job}
+pub use declared.profile.Profile.{Profile}
+pub use declared.reading.InputFault.{InputFault}
+pub use declared.status.Allow.{Allow}
+pub use declared.status.Status.{Status}

@@ -20,7 +20,7 @@ use Rattle.plant_base.proofs.KeyOrders.{same_id, same_itself}
 use Rattle.plant_view.specs.Production.{batch_among}
 use Rattle.plant_view.specs.DecisionInvariant.{DecisionInvariant}
 use Rattle.plant_view.specs.Tables.{Tables, tables_of, changed, changed_all, batch_row, batch_row_order}
-use Rattle.plant_view.specs.declared.change.RowChange.{RowChange}
+use Rattle.plant_view.specs.{RowChange}
 use Rattle.plant_view.specs.declared.change.RowChange.TheVariants as change
 use Rattle.plant_view.proofs.RowsInTurn.{all_mapped}
 use Rattle.plant_rules.specs.Step.{step}

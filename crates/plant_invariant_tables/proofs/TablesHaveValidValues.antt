@@ -19,7 +19,7 @@ use Rattle.plant_recipe.specs.WellFormed.{is_well_formed, greatest_lines}
 use Rattle.plant_recipe.proofs.RecipeLines.{keeps_procedure}
 use Rattle.plant_view.specs.Production.{headers_of, header_among, orders_of, rows_among, lines_among, master_line, control_line, control_among, IsWholeRecipe, HasValidOrder, IsConsistentBatch, is_batch_among}
 use Rattle.plant_trace.specs.Reach.{leads}
-use Rattle.plant_trace.specs.declared.node.Node.{Node}
+use Rattle.plant_trace.specs.{Node}
 use Rattle.plant_trace.specs.declared.node.Node.TheVariants as node
 use Rattle.plant_view.specs.Genealogy.{edge_row_by, edge_row_of, edge_rows, ends_by, ends_of, edge_of, edges_of}
 use Rattle.plant_view.specs.Recalls.{mark_on, nodes_from, marks_of, marks}

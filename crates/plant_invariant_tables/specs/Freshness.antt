@@ -5,7 +5,7 @@ use Rattle.plant_base.specs.WellFormedCommands.{HasValues}
 use Rattle.plant_base.specs.{Envelope}
 use Rattle.plant_view.specs.OneBatch.{puts_one_batch}
 use Rattle.plant_view.specs.Tables.{tables_of, changed_all}
-use Rattle.plant_view.specs.declared.change.RowChange.{RowChange}
+use Rattle.plant_view.specs.{RowChange}
 use Rattle.plant_rules.specs.Step.{step}
 use Rattle.plant_invariant.specs.StateInvariant.{StateInvariant}
 use Rattle.plant_tables.specs.Keyed.{AreKeyed, AreFresh}

@@ -15,9 +15,8 @@ use Rattle.plant_trace.proofs.SortedNodes.{Lists-same}
 use Rattle.plant_trace.specs.Nodes.{node_cmp, node_total}
 use Rattle.plant_trace.specs.Reach.{IsNext, Lists}
 use Rattle.plant_trace.specs.Turned.{turned}
-use Rattle.plant_trace.specs.declared.direction.Direction.{Direction}
+use Rattle.plant_trace.specs.{Direction, Node}
 use Rattle.plant_trace.specs.declared.direction.Direction.TheVariants.{Forward, Back}
-use Rattle.plant_trace.specs.declared.node.Node.{Node}
 use Rattle.plant_worklists.proofs.RowsOfLot.{below_lt, below_le}
 use Rattle.plant_keyed.specs.Edges.{Ascend, AreTurned, HasEdgesAt}
 use Rattle.plant_keyed.proofs.EdgesAtNode.{mapped_of, row_pair, pair_row}

@@ -15,9 +15,8 @@ use Rattle.plant_tables_columns.proofs.OptionalValues.{some_same}
 use Rattle.plant_trace.proofs.SortedNodes.{Lists-same}
 use Rattle.plant_trace.specs.Reach.{IsNext, Lists}
 use Rattle.plant_trace.specs.Turned.{turned}
-use Rattle.plant_trace.specs.declared.direction.Direction.{Direction}
+use Rattle.plant_trace.specs.{Direction, Node}
 use Rattle.plant_trace.specs.declared.direction.Direction.TheVariants.{Forward, Back}
-use Rattle.plant_trace.specs.declared.node.Node.{Node}
 use Rattle.plant_view.specs.Genealogy.{edge_row_of, edge_rows, edges_among, ends_by, ends_of}
 use Rattle.plant_view.proofs.RowsInTurn.{all_put_all}
 use Rattle.plant_keyed.specs.Edges.{near_id, begins_at, id_of, AreKindsAt, HasEdgesAt}

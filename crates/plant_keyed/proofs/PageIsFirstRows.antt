@@ -33,7 +33,7 @@ use Rattle.plant_keyed.specs.Paging.{IsPaged}
 use Rattle.plant_keyed.proofs.InOrderAgain.{IsOnce, again_in_order, kept_in_order, ordered}
 use Rattle.plant_worklists.proofs.FoundRows.{of_mapped, take_mapped}
 use Rattle.plant_worklists.specs.Pages.{page_size, page_of}
-use Rattle.plant_worklists.specs.declared.page.Page.{Page}
+use Rattle.plant_worklists.specs.{Page}
 
 stored_total : (places : List ℕ) → IsTotalOrder (stored_order places)
 stored_total [] = record { antisymm = λ a b. refl; trans = λ a b c less more. less; congr = λ a b c same. refl }

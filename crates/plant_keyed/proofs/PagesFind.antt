@@ -25,7 +25,7 @@ use Rattle.plant_tables.specs.DeskTableDefs.{class_table, definition_table, job_
 use Rattle.plant_tables.specs.Keyed.{HoldsTables}
 use Rattle.plant_tables_columns.specs.Kinds.{number, flag}
 use Rattle.plant_tables_columns.specs.Naming.{recall_state_name}
-use Rattle.plant_tables_columns.specs.declared.recalls.RecallState.{RecallState}
+use Rattle.plant_tables_columns.specs.{RecallState}
 use Rattle.plant_tables_columns.specs.declared.recalls.RecallState.TheVariants as state
 use Rattle.plant_tables_columns.specs.ValidValues.{HasJobValues, HasBatchRowValues, HasReceiptRowValues, HasSublotValues, HasValidValues}
 use Rattle.plant_tables_columns.specs.TableColumns.{row_of_class, row_of_definition, row_of_job, row_of_batch, row_of_lot, row_of_hold, row_of_receipt, row_of_recall, row_of_sublot, class_from, definition_from, job_from, batch_from, lot_from, hold_from, receipt_from, recall_read, sublot_from}
@@ -36,7 +36,7 @@ use Rattle.sql_queries.specs.Paging.{is_beyond}
 use Rattle.sql_queries.specs.Selects.{first_of}
 use Rattle.plant_worklists.specs.Pages.{page_size, page_of}
 use Rattle.plant_worklists.specs.Worklists.{text_after, is_after, is_order_in, orders_in, agree, is_batch_in, batches_in, is_lot_of, lots_of, is_hold_on, holds_on, is_recall_in, recalls_in, classes_after, is_definition_in, definitions_in, lots_after, sublots_after, holds_after, number_after, number_order, is_number_after, receipts_by_number}
-use Rattle.plant_worklists.specs.declared.page.Page.{Page}
+use Rattle.plant_worklists.specs.{Page}
 use Rattle.plant_keyed.specs.Paging.{IsPaged}
 use Rattle.plant_keyed.proofs.InOrderAgain.{AreApart as ArePlacesApart, apart_once}
 use Rattle.plant_keyed.proofs.PageIsFirstRows.{page_again, page_in_order}

@@ -37,10 +37,7 @@ use Rattle.plant_tables_columns.proofs.RowLaws.{recipe_reads, job_reads}
 use Rattle.plant_invariant_tables.proofs.TablesHaveValidValues.{in_order, valid_values, newest_known}
 use Rattle.plant_worklists.specs.Pages.{page_size, page_of}
 use Rattle.plant_worklists.specs.Worklists.{recipe_after, recipes_in, movement_after, is_movement_after, lot_made, is_in_ledger, ledger_of, due_after, due_order, orders_by_due}
-use Rattle.plant_worklists.specs.declared.page.Page.{Page}
-use Rattle.plant_worklists.specs.declared.cursors.DueCursor.{DueCursor}
-use Rattle.plant_worklists.specs.declared.cursors.MovementCursor.{MovementCursor}
-use Rattle.plant_worklists.specs.declared.cursors.RecipeCursor.{RecipeCursor}
+use Rattle.plant_worklists.specs.{DueCursor, MovementCursor, Page, RecipeCursor}
 use Rattle.plant_worklists.proofs.MergedLists.{merged_filters}
 use Rattle.plant_keyed.specs.Paging.{IsOfBoth, IsPagedBeyond}
 use Rattle.plant_worklists.specs.Sorting.{in_order as as_sorted}

@@ -6,9 +6,8 @@ use Rattle.plant_base.specs.State.{same}
 use Rattle.plant_base.specs.{EdgeKind, EdgeRow}
 use Rattle.plant_trace.specs.Nodes.{node_cmp}
 use Rattle.plant_trace.specs.Turned.{turned}
-use Rattle.plant_trace.specs.declared.direction.Direction.{Direction}
+use Rattle.plant_trace.specs.{Direction, Node}
 use Rattle.plant_trace.specs.declared.direction.Direction.TheVariants.{Forward, Back}
-use Rattle.plant_trace.specs.declared.node.Node.{Node}
 use Rattle.plant_trace.specs.declared.node.Node.TheVariants as node
 use Rattle.plant_view.specs.Genealogy.{ends_of}
 

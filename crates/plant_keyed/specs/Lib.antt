@@ -6,3 +6,4 @@ pub mod AbstractionLaws
 pub mod Paging
 pub mod Abstraction
 pub mod Frames
+pub use declared.lookup_cache.LookupCache.{LookupCache}

@@ -10,7 +10,7 @@ use Rattle.sql_queries.specs.Paging.{IsPage}
 use Rattle.plant_tables_columns.specs.DecodedRows.{all_from}
 use Rattle.plant_tables_columns.specs.Kinds.{number}
 use Rattle.plant_worklists.specs.Pages.{page_size, page_of}
-use Rattle.plant_worklists.specs.declared.page.Page.{Page}
+use Rattle.plant_worklists.specs.{Page}
 
 -- These rows of the desk were read of a page of the table's rows, in the order of the columns with these indexes.
 pub record IsPaged (db : Database) (table_def : TableDef) (by : List ℕ) {R : Type 0} (row_from : Row → Option R) (places : List ℕ) (next : ℕ) (values : Row) (page : Page R) : Type 0 where

@@ -4,3 +4,13 @@ pub mod Members
 pub mod FormatErrors
 pub mod Tables
 pub mod Words
+pub use declared.fields.Field.{Field}
+pub use declared.format_errors.Fault.{Fault}
+pub use declared.format_errors.FormatError.{FormatError}
+pub use declared.format_errors.ShapeError.{ShapeError}
+pub use declared.members.Member.{Member}
+pub use declared.words.AskedKind.{AskedKind}
+pub use declared.words.CommandKind.{CommandKind}
+pub use declared.words.ListKind.{ListKind}
+pub use declared.words.QuestionKind.{QuestionKind}
+pub use declared.words.Row.{Row}

@@ -1,10 +1,7 @@
 -- What the typed values of members are.
 use Rattle.std.specs.Prelude.{⊤, ℕ, List, [], ◌∷◌, Bool, true, false, Option, Some, None}
 use Rattle.plant_base.specs.{JobState, RecipeState, Word}
-use Rattle.plant_worklists.specs.declared.cursors.DueCursor.{DueCursor}
-use Rattle.plant_worklists.specs.declared.cursors.HoldCursor.{HoldCursor}
-use Rattle.plant_worklists.specs.declared.cursors.MovementCursor.{MovementCursor}
-use Rattle.plant_worklists.specs.declared.cursors.RecipeCursor.{RecipeCursor}
+use Rattle.plant_worklists.specs.{DueCursor, HoldCursor, MovementCursor, RecipeCursor}
 use Rattle.plant_message_schema.specs.declared.members.Member.{Member}
 use Rattle.plant_message_schema.specs.declared.members.Rule.{Rule}
 use Rattle.plant_message_schema.specs.declared.members.Rule.TheVariants as rule

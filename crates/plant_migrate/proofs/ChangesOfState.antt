@@ -11,12 +11,12 @@ use Rattle.plant_view.specs.Genealogy.{edge_row_of, edges_among}
 use Rattle.plant_view.specs.Recalls.{marks}
 use Rattle.plant_view.specs.Rows.{put_all}
 use Rattle.plant_view.specs.Tables.{Tables, changed, changed_all, tables_of, IsWholeIn, position_of}
-use Rattle.plant_view.specs.declared.change.RowChange.{RowChange}
+use Rattle.plant_view.specs.{RowChange}
 use Rattle.plant_view.specs.declared.change.RowChange.TheVariants as change
 use Rattle.plant_tables.specs.Schemas.{IsOlder}
 use Rattle.plant_tables.proofs.RaisedSchema.{by_older}
 use Rattle.plant_tables_columns.specs.Booked.{booked_of}
-use Rattle.plant_tables_columns.specs.declared.booked.BookedRow.{BookedRow}
+use Rattle.plant_tables_columns.specs.{BookedRow}
 use Rattle.plant_tables_columns.proofs.MovementColumns.{movement_again}
 use Rattle.plant_migrate.specs.Raised.{edge_change, edges_from, added_rows, raised_once, raised_by}
 

@@ -8,7 +8,7 @@ use Rattle.sqlite.proofs.StateLemmas.{survives_then}
 use Rattle.plant_base.specs.State.{newest_schema}
 use Rattle.plant_base.specs.{Position}
 use Rattle.plant_view.specs.Tables.{Tables}
-use Rattle.plant_view.specs.declared.change.RowChange.{RowChange}
+use Rattle.plant_view.specs.{RowChange}
 use Rattle.sql_tables.specs.StoredRows.{AreFree, KeepsOtherTables}
 use Rattle.sql_tables.specs.CrashStates.{IsSettled}
 use Rattle.sql_tables.proofs.WritesInTurn.{others_then}

@@ -8,14 +8,14 @@ use Rattle.plant_base.specs.Edges.{edge_order}
 use Rattle.plant_base.specs.State.{put}
 use Rattle.plant_base.specs.{EdgeRow, Meta, Position}
 use Rattle.plant_view.specs.Tables.{Tables, changed, changed_all}
-use Rattle.plant_view.specs.declared.change.RowChange.{RowChange}
+use Rattle.plant_view.specs.{RowChange}
 use Rattle.plant_view.specs.declared.change.RowChange.TheVariants as change
 use Rattle.sql_tables.specs.StoredRows.{AreFree}
 use Rattle.plant_tables.specs.DeskTableDefs.{later_table_defs}
 use Rattle.plant_tables.specs.Keyed.{HoldsTablesOf, AreFresh, IsOfSchema, AreOfSchema}
 use Rattle.plant_tables.specs.Schemas.{AreRisable, raising}
 use Rattle.plant_tables.proofs.RowChangeIsTableChange.{keyed_after_all}
-use Rattle.plant_tables_columns.specs.declared.booked.BookedRow.{BookedRow}
+use Rattle.plant_tables_columns.specs.{BookedRow}
 use Rattle.plant_migrate.specs.Raised.{edge_booked, edge_change, edges_from, AreEdges, added_rows, raised_once, raised_by}
 use Rattle.plant_migrate.specs.Steps.{IsRisable}
 

@@ -9,7 +9,7 @@ use Rattle.sqlite.specs.State as store
 use Rattle.plant_base.specs.State.{State, newest_schema}
 use Rattle.plant_base.specs.{Position}
 use Rattle.plant_view.specs.Tables.{tables_of, IsWholeIn, position_of}
-use Rattle.plant_view.specs.declared.change.RowChange.{RowChange}
+use Rattle.plant_view.specs.{RowChange}
 use Rattle.sql_tables.specs.StoredRows.{AreFree, KeepsOtherTables}
 use Rattle.sql_tables.specs.CrashStates.{IsSettled}
 use Rattle.plant_tables.specs.DeskTableDefs.{desk_table_defs, later_table_defs}
@@ -17,7 +17,7 @@ use Rattle.plant_tables.specs.Keyed.{HoldsTablesOf, AreKeyed}
 use Rattle.plant_tables.specs.DeskCrashStates.{IsAtOf, FindsOf}
 use Rattle.plant_tables.proofs.RaisedSchema.{lacks_later}
 use Rattle.plant_tables_read.specs.Collecting.{Rows, rows_in, rows_listed}
-use Rattle.plant_tables_read.specs.declared.desk_rows.DeskRows.{DeskRows}
+use Rattle.plant_tables_read.specs.{DeskRows}
 use Rattle.plant_migrate.specs.Raised.{edges_from, raised_by}
 use Rattle.plant_migrate.specs.Steps.{IsRisable, FailureLeavesWithin, FindsRisable, IsRaisedBy}
 use Rattle.plant_migrate.specs.FailureLeaves.{FailureLeavesAmid, raised_to}

@@ -1,6 +1,6 @@
 -- The fault of a raising reports that of its store.
 use Rattle.std.proofs.Common.{◌≡◌, ◌≢◌, refl}
-use Rattle.sql_tables.specs.declared.fault.Fault.{Fault}
+use Rattle.sql_tables.specs.{Fault}
 use Rattle.sql_tables.specs.declared.fault.Fault.TheVariants as fault
 use Rattle.plant_migrate.specs.Calls.{raise_fault}
 use Rattle.plant_migrate.specs.declared.raising.RaiseFault.{RaiseFault}

@@ -17,9 +17,8 @@ use Rattle.plant_tables.proofs.RaisedSchema.{lacks_later}
 use Rattle.plant_tables_columns.specs.TableColumns.{only_meta, row_of_meta}
 use Rattle.plant_tables_columns.proofs.RowLaws.{meta_reads}
 use Rattle.plant_tables_read.specs.Loading.{AreLoaded, Loads}
-use Rattle.plant_tables_read.specs.declared.loaded.Loaded.{Loaded}
+use Rattle.plant_tables_read.specs.{DeskRows, Loaded}
 use Rattle.plant_tables_read.specs.Collecting.{rows_from, rows_in, rows_listed}
-use Rattle.plant_tables_read.specs.declared.desk_rows.DeskRows.{DeskRows}
 use Rattle.plant_tables_read.proofs.RowsReadBack.{read_again}
 use Rattle.plant_tables_read.proofs.AllRowsDecoded.{loaded_rows}
 use Rattle.plant_migrate.specs.Raised.{edges_from}

@@ -6,16 +6,16 @@ use Rattle.sqlite.specs.State.{HasCleanDisk, Survives}
 use Rattle.plant_base.specs.State.{State, newest_schema}
 use Rattle.plant_base.specs.{Position}
 use Rattle.plant_view.specs.Tables.{Tables, tables_of, IsWholeIn}
-use Rattle.plant_view.specs.declared.change.RowChange.{RowChange}
+use Rattle.plant_view.specs.{RowChange}
 use Rattle.sql_tables.specs.StoredRows.{KeepsOtherTables}
 use Rattle.sql_tables.specs.CrashStates.{IsSettled}
-use Rattle.sql_tables.specs.declared.fault.Fault.{Fault}
+use Rattle.sql_tables.specs.{Fault}
 use Rattle.sql_tables.specs.declared.fault.Fault.TheVariants as fault
 use Rattle.plant_tables.specs.DeskTableDefs.{desk_table_defs}
 use Rattle.plant_tables.specs.DeskCrashStates.{IsAtOf}
 use Rattle.plant_tables.specs.Keyed.{AreKeyed}
 use Rattle.plant_tables_read.specs.Collecting.{rows_in, rows_listed}
-use Rattle.plant_tables_read.specs.declared.desk_rows.DeskRows.{DeskRows}
+use Rattle.plant_tables_read.specs.{DeskRows}
 use Rattle.plant_tables_read.specs.Version.{IsVersion}
 use Rattle.plant_migrate.specs.Raised.{raised_by}
 use Rattle.plant_migrate.specs.FailureLeaves.{IsReadable, FailureLeavesAmid, HasKnownVersion, raised_to}

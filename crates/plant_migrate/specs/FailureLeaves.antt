@@ -12,11 +12,11 @@ use Rattle.plant_tables.specs.DeskTableDefs.{desk_table_defs, meta_table}
 use Rattle.plant_tables.specs.DeskCrashStates.{IsAtOf, FindsOf}
 use Rattle.plant_tables_columns.specs.ValidValues.{HasValidValues}
 use Rattle.plant_tables_columns.specs.TableColumns.{only_meta}
-use Rattle.plant_tables_columns.specs.declared.booked.BookedRow.{BookedRow}
+use Rattle.plant_tables_columns.specs.{BookedRow}
 use Rattle.plant_tables_read.specs.Collecting.{AreInOrder, Rows, rows_from}
 use Rattle.plant_tables_read.specs.Loading.{AreLoaded, Loads}
 use Rattle.plant_tables_read.specs.Version.{IsVersion, IsKnown}
-use Rattle.plant_tables_read.specs.declared.loaded.Loaded.{Loaded}
+use Rattle.plant_tables_read.specs.{Loaded}
 use Rattle.plant_migrate.specs.Raised.{edges_from}
 use Rattle.plant_migrate.specs.Steps.{IsRaisedBy}
 

@@ -4,11 +4,11 @@ use Rattle.std.specs.List.{AllByRecursion, filter_map}
 use Rattle.plant_base.specs.{EdgeRow, Position}
 use Rattle.plant_view.specs.Genealogy.{edge_row_of}
 use Rattle.plant_view.specs.Tables.{Tables, changed_all}
-use Rattle.plant_view.specs.declared.change.RowChange.{RowChange}
+use Rattle.plant_view.specs.{RowChange}
 use Rattle.plant_view.specs.declared.change.RowChange.TheVariants as change
 use Rattle.plant_tables.specs.Schemas.{raising}
 use Rattle.plant_tables_columns.specs.Booked.{movement_from}
-use Rattle.plant_tables_columns.specs.declared.booked.BookedRow.{BookedRow}
+use Rattle.plant_tables_columns.specs.{BookedRow}
 
 -- the edge that a booked movement makes, where it makes one
 abbrev pub edge_booked : BookedRow → Option EdgeRow

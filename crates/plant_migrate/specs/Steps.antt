@@ -5,7 +5,7 @@ use Rattle.sqlite.specs.Effect.{Database}
 use Rattle.sqlite.specs.State as store
 use Rattle.plant_base.specs.{Position}
 use Rattle.plant_view.specs.Tables.{Tables}
-use Rattle.plant_view.specs.declared.change.RowChange.{RowChange}
+use Rattle.plant_view.specs.{RowChange}
 use Rattle.sql_tables.specs.StoredRows.{AreFree, KeepsOtherTables}
 use Rattle.sql_tables.specs.CrashStates.{IsSettled}
 use Rattle.plant_tables.specs.DeskTableDefs.{desk_table_defs, later_table_defs}

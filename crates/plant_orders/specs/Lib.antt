@@ -4,3 +4,8 @@ pub mod Orders
 pub mod ReaderPosition
 pub mod FaultsOfFiles
 pub mod EveryFault
+pub use declared.examining.NumberedOrder.{NumberedOrder}
+pub use declared.fault.CsvFault.{CsvFault}
+pub use declared.fault.CsvKind.{CsvKind}
+pub use declared.importing.ImportMetadata.{ImportMetadata}
+pub use declared.source.OrdersFault.{OrdersFault}

@@ -8,9 +8,7 @@ use Rattle.plant_base.specs.declared.states.Event.TheVariants as event
 use Rattle.plant_recipe.specs.declared.progress.Progress.{Progress}
 use Rattle.plant_messages.specs.Booked.{booked_of}
 use Rattle.plant_messages.specs.Phases.{phases_in}
-use Rattle.plant_messages.specs.declared.question.BatchView.{BatchView}
-use Rattle.plant_messages.specs.declared.question.Booking.{Booking}
-use Rattle.plant_messages.specs.declared.question.MeasuredLine.{MeasuredLine}
+use Rattle.plant_messages.specs.{BatchView, Booking, MeasuredLine}
 
 -- ---- lines and their items
 

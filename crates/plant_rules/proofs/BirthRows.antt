@@ -16,7 +16,7 @@ use Rattle.plant_trace.specs.declared.node.Node.TheVariants as node
 use Rattle.plant_view.specs.Genealogy.{edges_of}
 use Rattle.plant_view.specs.Recalls.{mark_on, marks, marks_on, recalls_on}
 use Rattle.plant_view.specs.Rows.{put_all}
-use Rattle.plant_view.specs.declared.change.RowChange.{RowChange}
+use Rattle.plant_view.specs.{RowChange}
 use Rattle.plant_rules.specs.Consumption.{lot_marks, produced_rows, produce}
 use Rattle.plant_view.proofs.EdgeRowOrder.{edges_pushed}
 use Rattle.plant_view.proofs.MarksAfterMovement.{marks_plain, marks_made, marks_changed}

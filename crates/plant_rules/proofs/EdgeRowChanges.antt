@@ -3,7 +3,7 @@ use Rattle.std.proofs.Common.{◌≡◌, List, [], ◌∷◌, ◌++◌, Option, 
 use Rattle.plant_base.specs.{EdgeRow, Movement}
 use Rattle.plant_view.specs.Genealogy.{edge_row_of}
 use Rattle.plant_view.specs.Tables.{Tables, changed, changed_all}
-use Rattle.plant_view.specs.declared.change.RowChange.{RowChange}
+use Rattle.plant_view.specs.{RowChange}
 use Rattle.plant_view.proofs.EdgeRowOrder.{with_edge}
 use Rattle.plant_rules.specs.Booking.{edge_changes, edge_change}
 

@@ -4,7 +4,7 @@ use Rattle.plant_base.specs.State.{State, newest_schema, same, recall_at}
 use Rattle.plant_base.specs.{LiftRecall, Recall, RecallLot, Stamp}
 use Rattle.plant_trace.specs.Reach.{Lists}
 use Rattle.plant_trace.specs.Recalls.{IsRecalled}
-use Rattle.plant_trace.specs.declared.node.Node.{Node}
+use Rattle.plant_trace.specs.{Node}
 use Rattle.plant_view.specs.Genealogy.{edges_of}
 use Rattle.plant_view.specs.Recalls.{mark_on, marks}
 use Rattle.plant_view.specs.DecisionInvariant.{DecisionInvariant}

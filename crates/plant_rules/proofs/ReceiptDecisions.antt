@@ -13,7 +13,7 @@ use Rattle.plant_view.specs.Refusals.{refuse}
 use Rattle.plant_view.specs.Tables.{tables_of, changed, changed_all, Decides}
 use Rattle.plant_view.proofs.CommandsPreserveInvariant.{passed}
 use Rattle.plant_view.specs.declared.change.RowChange.TheVariants as row
-use Rattle.plant_view.specs.declared.change.Decision.{Decision}
+use Rattle.plant_view.specs.{Decision}
 use Rattle.plant_view.specs.declared.change.Decision.TheVariants.{Change, Refused, Repeat}
 use Rattle.plant_rules.specs.Wrong.{is_whole, wrong, wrong_body, wrong_there, decoded, kept_among, kept_for}
 use Rattle.plant_rules.specs.Step.{step, step_body, unless_refused, noted, taken, IsRepeated, IsDecision, IsNoted, again_of}

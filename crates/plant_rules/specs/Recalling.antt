@@ -5,10 +5,10 @@ use Rattle.plant_base.specs.State.{State, newest_schema, put, recall_order, lot_
 use Rattle.plant_base.specs.{LiftRecall, Lot, Recall, RecallLot, Refusal, Stamp}
 use Rattle.plant_base.specs.declared.refusal.Refusal.TheVariants.{Exists, UnknownLot, UnknownRecall, RecallLifted, TooMany}
 use Rattle.plant_base.specs.Values.{greatest_seq}
-use Rattle.plant_trace.specs.declared.node.Node.{Node}
+use Rattle.plant_trace.specs.{Node}
 use Rattle.plant_view.specs.Recalls.{mark_on}
 use Rattle.plant_view.specs.Refusals.{refuse, at_limit}
-use Rattle.plant_view.specs.declared.change.RowChange.{RowChange}
+use Rattle.plant_view.specs.{RowChange}
 use Rattle.plant_view.specs.declared.change.RowChange.TheVariants as row
 
 -- ---- a recall

@@ -5,7 +5,7 @@ use Rattle.std.specs.List.{list_any}
 use Rattle.plant_base.specs.State.{State, newest_schema, job_order, recipe_at, job_at}
 use Rattle.plant_base.specs.declared.refusal.Refusal.TheVariants.{UnknownRecipe, OrderConflict, SizeOutOfRange, TooMany}
 use Rattle.plant_base.specs.{ImportOrders, OrderRow, Stamp}
-use Rattle.plant_view.specs.declared.change.Decision.{Decision}
+use Rattle.plant_view.specs.{Decision}
 use Rattle.plant_view.specs.declared.change.Decision.TheVariants.{Change, Refused, Repeat}
 use Rattle.plant_view.specs.declared.change.RowChange.TheVariants as row
 use Rattle.plant_rules_production.specs.declared.orders.FoundOrder.{FoundOrder}

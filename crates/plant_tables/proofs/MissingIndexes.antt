@@ -11,8 +11,7 @@ use Rattle.sqlite.specs.State.{State}
 use Rattle.sqlite_rules.specs.Lists.{Has}
 use Rattle.plant_base.specs.State.{newest_schema}
 use Rattle.plant_view.specs.Tables.{Tables}
-use Rattle.sql_tables.specs.declared.fault.Fault.{Fault}
-use Rattle.sql_tables.specs.declared.table_def.CreateIndexStatement.{CreateIndexStatement}
+use Rattle.sql_tables.specs.{CreateIndexStatement, Fault}
 use Rattle.sql_tables.specs.TableDefs.{TableDef}
 use Rattle.sql_tables.specs.Indexes.{IndexDef, AreOf, AreCreateIndexStatements, MakesIndexes}
 use Rattle.sql_tables.specs.CrashStates.{IsSettled, IsUndone}

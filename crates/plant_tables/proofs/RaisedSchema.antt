@@ -9,7 +9,7 @@ use Rattle.sqlite_tied.specs.Compute.{everything}
 use Rattle.plant_base.specs.State as desk
 use Rattle.plant_base.specs.{Position}
 use Rattle.plant_view.specs.Tables.{Tables, tables_of, changed, changed_all}
-use Rattle.plant_view.specs.declared.change.RowChange.{RowChange}
+use Rattle.plant_view.specs.{RowChange}
 use Rattle.plant_view.specs.declared.change.RowChange.TheVariants as change
 use Rattle.sql_tables.specs.TableDefs.{TableDef}
 use Rattle.sql_tables.specs.StoredRows.{Contents, HasStoredRows, KeepsOtherTables, AreFree, is_among}

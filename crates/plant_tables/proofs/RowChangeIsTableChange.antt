@@ -26,7 +26,7 @@ use Rattle.plant_view.proofs.RowsInTurn.{all_of}
 pub use Rattle.plant_view.proofs.RowsInTurn.{all_filtered as all_filter}
 use Rattle.plant_view.specs.Recalls.{without_marks}
 use Rattle.plant_view.specs.Tables.{Tables, batch_row_order, sublot_order, changed, changed_all, without_hold}
-use Rattle.plant_view.specs.declared.change.RowChange.{RowChange}
+use Rattle.plant_view.specs.{RowChange}
 use Rattle.plant_view.specs.declared.change.RowChange.TheVariants as change
 use Rattle.sql_tables.specs.TableDefs.{TableDef}
 use Rattle.sql_tables.specs.Rows.{meets, has_values, delete_by_key}

@@ -6,8 +6,7 @@ use Rattle.std.proofs.lemmas.Result.{on_ok_weaker}
 use Rattle.std.specs.Borrow.{Bor}
 use Rattle.sqlite.specs.Order.{Row}
 use Rattle.sqlite.specs.State.{State}
-use Rattle.sql_tables.specs.declared.fault.Fault.{Fault}
-use Rattle.sql_tables.specs.declared.table_def.CreateIndexStatement.{CreateIndexStatement}
+use Rattle.sql_tables.specs.{CreateIndexStatement, Fault}
 use Rattle.sql_tables.specs.TableDefs.{TableDef}
 use Rattle.sql_tables.specs.Rows.{fits_columns}
 use Rattle.sql_tables.specs.Texts.{IsPutStatement, IsDeleteStatement}
@@ -15,7 +14,7 @@ use Rattle.sql_tables.specs.Moves.{Moves, Upserts, DeletesRows, AreCreateStateme
 use Rattle.sql_tables.specs.Indexes.{AreCreateIndexStatements, MakesIndexes, AddsIndexes}
 use Rattle.sql_tables.specs.StoredRows.{Contents}
 use Rattle.plant_base.specs.State.{newest_schema}
-use Rattle.plant_view.specs.declared.change.RowChange.{RowChange}
+use Rattle.plant_view.specs.{RowChange}
 use Rattle.plant_view.specs.declared.change.RowChange.TheVariants as change
 use Rattle.plant_tables.specs.DeskTables.{rows_changed, all_rows_changed}
 use Rattle.plant_tables.specs.Keyed.{IsOfSchema, AreOfSchema}

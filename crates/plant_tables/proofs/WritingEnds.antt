@@ -6,7 +6,7 @@ use Rattle.sqlite.specs.Effect.{Database}
 use Rattle.sqlite.specs.State.{State}
 use Rattle.plant_base.specs.State.{newest_schema}
 use Rattle.plant_view.specs.Tables.{Tables, changed_all}
-use Rattle.plant_view.specs.declared.change.RowChange.{RowChange}
+use Rattle.plant_view.specs.{RowChange}
 use Rattle.sql_tables.specs.StoredRows.{KeepsOtherTables}
 use Rattle.sql_tables.specs.CrashStates.{IsSettled, IsUndone}
 use Rattle.sql_tables.specs.Moves.{Moves}

@@ -9,7 +9,7 @@ use Rattle.plant_base.specs.Recalls.{mark_order}
 use Rattle.plant_base.specs.State.{newest_schema, same, class_order, definition_order, recipe_order, master_line_order, job_order, control_line_order, lot_order, hold_order, receipt_order, recall_order}
 -- ---- end of the orders
 use Rattle.plant_view.specs.Tables.{Tables, batch_row_order, sublot_order, changed, changed_all}
-use Rattle.plant_view.specs.declared.change.RowChange.{RowChange}
+use Rattle.plant_view.specs.{RowChange}
 use Rattle.plant_view.specs.declared.change.RowChange.TheVariants as change
 use Rattle.sql_tables.specs.StoredRows.{HaveStoredRows, KeepsOtherTables}
 use Rattle.plant_tables.specs.DeskTableDefs.{table_defs_of}

@@ -1,7 +1,7 @@
 -- Texts that put a row by its key, and texts that only add one.
 use Rattle.std.specs.Prelude.{ℕ, Bool, false, List, []}
 use Rattle.plant_base.specs.State.{same}
-use Rattle.plant_view.specs.declared.change.RowChange.{RowChange}
+use Rattle.plant_view.specs.{RowChange}
 use Rattle.plant_view.specs.declared.change.RowChange.TheVariants as change
 use Rattle.sql_tables.specs.TableDefs.{TableDef}
 use Rattle.sql_tables.specs.Texts.{IsInsertStatement, IsUpsertStatement}

@@ -4,7 +4,7 @@ use Rattle.sqlite.specs.Effect.{Database}
 use Rattle.plant_base.specs.State.{newest_schema}
 use Rattle.plant_base.specs.{Position}
 use Rattle.plant_view.specs.Tables.{Tables, changed_all}
-use Rattle.plant_view.specs.declared.change.RowChange.{RowChange}
+use Rattle.plant_view.specs.{RowChange}
 use Rattle.plant_view.specs.declared.change.RowChange.TheVariants as change
 use Rattle.sql_tables.specs.StoredRows.{KeepsOtherTables, AreFree}
 use Rattle.plant_tables.specs.DeskTableDefs.{desk_table_defs, later_table_defs}

@@ -7,3 +7,7 @@ pub mod Kinds
 pub mod TableColumns
 pub mod DecodedRows
 pub mod ValidValues
+pub use declared.booked.BookedRow.{BookedRow}
+pub use declared.booked.MovementKindCode.{MovementKindCode}
+pub use declared.recalls.RecallState.{RecallState}
+pub use declared.recalls.StatedRecall.{StatedRecall}

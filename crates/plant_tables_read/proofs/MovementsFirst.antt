@@ -3,7 +3,7 @@ use Rattle.std.proofs.Common.{◌≡◌, ℕ, zero, suc, List, [], ◌∷◌, Op
 use Rattle.plant_base.specs.Options.{◌>>=◌}
 use Rattle.plant_tables_columns.specs.DecodedRows.{all_from}
 use Rattle.plant_tables_columns.specs.TableColumns.{only_meta, class_from, definition_from, recipe_from, master_line_from, job_from, batch_from, control_line_from, batch_event_from, lot_from, sublot_from, booked_from}
-use Rattle.plant_tables_columns.specs.declared.booked.BookedRow.{BookedRow}
+use Rattle.plant_tables_columns.specs.{BookedRow}
 use Rattle.plant_tables_read.specs.Loading.{HasOthers, contents_loaded}
 use Rattle.plant_tables_read.specs.declared.loaded.Loaded.{Loaded}
 use Rattle.plant_tables_read.specs.Collecting.{rows_beside, rows_from}

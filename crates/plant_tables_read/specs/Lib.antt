@@ -4,3 +4,6 @@ pub mod Version
 pub mod LoadingCalls
 pub mod Collecting
 pub mod ReadingLaws
+pub use declared.desk_rows.DeskRows.{DeskRows}
+pub use declared.finding.FoundTables.{FoundTables}
+pub use declared.loaded.Loaded.{Loaded}

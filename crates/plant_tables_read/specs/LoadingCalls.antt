@@ -2,7 +2,7 @@
 use Rattle.std.specs.Prelude.{◌≡◌, ◌↔◌, ℕ, ℤ, Result, Option, IfOk, IfErr, IfSome}
 use Rattle.sqlite.specs.State.{State, HasCleanDisk, IsUnchanged}
 use Rattle.sql_tables.specs.StoredRows.{HasTable, HaveStoredRows}
-use Rattle.sql_tables.specs.declared.fault.Fault.{Fault}
+use Rattle.sql_tables.specs.{Fault}
 use Rattle.sql_tables.specs.declared.fault.Fault.TheVariants.{Memory}
 use Rattle.sql_queries.specs.Ordered.{IsRising}
 use Rattle.plant_tables.specs.DeskTableDefs.{table_defs_of, meta_table}

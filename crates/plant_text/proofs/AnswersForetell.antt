@@ -6,10 +6,10 @@ use Rattle.plant_base.specs.State.{State}
 use Rattle.plant_base.specs.{Envelope}
 use Rattle.plant_rules.specs.Wrong.{is_whole, wrong}
 use Rattle.plant_causes.specs.Causes.{checked}
-use Rattle.plant_causes.specs.declared.checking.Checked.{Checked}
+use Rattle.plant_causes.specs.{Checked}
 use Rattle.plant_causes.specs.declared.checking.Checked.TheVariants.{Accepted, Refused}
 use Rattle.plant_command_errors.specs.CommandErrors.{command_error_of}
-use Rattle.plant_command_errors.specs.declared.command_errors.CommandError.{CommandError}
+use Rattle.plant_command_errors.specs.{CommandError}
 use Rattle.plant_command_errors.proofs.NoErrorIfWhole.{reported_unless_whole}
 use Rattle.plant_desk.specs.Foretold.{refusal_told, refusal_foretold}
 use Rattle.plant_desk.specs.Replies.{reply}

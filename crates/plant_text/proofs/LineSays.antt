@@ -8,28 +8,19 @@ use Rattle.std.specs.Result.{result_ok}
 use Rattle.serde_json.specs.Data.{Data}
 use Rattle.serde_json.specs.Find.{get}
 use Rattle.serde_json.specs.Read.{read}
-use Rattle.plant_worklists.specs.declared.list.Worklist.{Worklist}
+use Rattle.plant_worklists.specs.{DueCursor, HoldCursor, MovementCursor, RecipeCursor, Worklist}
 use Rattle.plant_worklists.specs.declared.list.Worklist.TheVariants as list
-use Rattle.plant_worklists.specs.declared.cursors.DueCursor.{DueCursor}
-use Rattle.plant_worklists.specs.declared.cursors.HoldCursor.{HoldCursor}
-use Rattle.plant_worklists.specs.declared.cursors.MovementCursor.{MovementCursor}
-use Rattle.plant_worklists.specs.declared.cursors.RecipeCursor.{RecipeCursor}
 use Rattle.plant_base.specs.{JobState, RecipeState}
-use Rattle.plant_messages.specs.declared.question.Question.{Question}
+use Rattle.plant_messages.specs.{Question}
 use Rattle.plant_messages.specs.declared.question.Question.TheVariants as Q
-use Rattle.plant_message_schema.specs.declared.members.Member.{Member}
+use Rattle.plant_message_schema.specs.{AskedKind, Fault, FormatError, ListKind, Member, QuestionKind}
 use Rattle.plant_message_schema.specs.declared.members.Member.TheVariants as m
 use Rattle.plant_message_schema.specs.declared.members.Rule.TheVariants as rule
-use Rattle.plant_message_schema.specs.declared.words.AskedKind.{AskedKind}
 use Rattle.plant_message_schema.specs.declared.words.AskedKind.TheVariants as asked
-use Rattle.plant_message_schema.specs.declared.words.ListKind.{ListKind}
 use Rattle.plant_message_schema.specs.declared.words.ListKind.TheVariants as k
-use Rattle.plant_message_schema.specs.declared.words.QuestionKind.{QuestionKind}
 use Rattle.plant_message_schema.specs.declared.words.QuestionKind.TheVariants as q
 use Rattle.plant_message_schema.specs.declared.format_errors.ShapeError.TheVariants as shape_error
-use Rattle.plant_message_schema.specs.declared.format_errors.FormatError.{FormatError}
 use Rattle.plant_message_schema.specs.declared.format_errors.FormatError.TheVariants as format_error
-use Rattle.plant_message_schema.specs.declared.format_errors.Fault.{Fault}
 use Rattle.plant_message_schema.specs.declared.format_errors.Fault.TheVariants as fault
 use Rattle.plant_message_schema.specs.FormatErrors.{◌>>=◌, Reports, IsReported, object, or_malformed, is_reported, format_error_is_reported}
 use Rattle.plant_message_schema.specs.Fields.{fields_of, exactly}

@@ -7,8 +7,7 @@ use Rattle.plant_text.proofs.LineSays.{line_long}
 use Rattle.plant_base.specs.State.{State}
 use Rattle.plant_desk.specs.Keepers.{States, Executes, Asks, shuts}
 use Rattle.plant_base.specs.{Envelope}
-use Rattle.plant_messages.specs.declared.question.Question.{Question}
-use Rattle.plant_messages.specs.declared.reply.DeskFault.{DeskFault}
+use Rattle.plant_messages.specs.{Answer, DeskFault, Question}
 use Rattle.plant_messages.specs.declared.reply.DeskFault.TheVariants.{Store, Memory, Shut}
 use Rattle.plant_text.specs.Lines.{longest_line, line_of}
 use Rattle.plant_text_answers.specs.Replies.{fault_text}
@@ -21,9 +20,8 @@ use Rattle.plant_text.specs.Writes.{with_lf, AppendsPrefix}
 use Rattle.plant_text.specs.Turns.{TurnEnds, FaultWritten, AnswerWritten, BadWritten}
 use Rattle.plant_text_answers.specs.Answers.{text_of_answer}
 use Rattle.plant_text_checks.specs.Answers.{check_text}
-use Rattle.plant_text_checks.specs.declared.answers.CheckAnswer.{CheckAnswer}
-use Rattle.plant_text_commands.specs.declared.checks.ToCheck.{ToCheck}
-use Rattle.plant_messages.specs.declared.question.Answer.{Answer}
+use Rattle.plant_text_checks.specs.{CheckAnswer}
+use Rattle.plant_text_commands.specs.{ToCheck}
 use Rattle.std.specs.Prelude.{IfErr, IfOk, IsErrAnd}
 
 pub stops_by_fault : (k : ℕ) (s : State) (e : Entry) (old new : Option (List ℕ)) (represents : States) (shut : Bool) (crash_states : States → Type 0) (f : DeskFault) (stop : TurnError)

@@ -6,3 +6,6 @@ pub mod Questions
 pub mod Session
 pub mod Turns
 pub mod Writes
+pub use declared.read.Line.{Line}
+pub use declared.run.RunEnd.{RunEnd}
+pub use declared.turns.TurnError.{TurnError}

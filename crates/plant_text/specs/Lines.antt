@@ -6,10 +6,9 @@ use Rattle.serde_json.specs.Data.{Data}
 use Rattle.serde_json.specs.Find.{get, as_object, as_str}
 use Rattle.serde_json.specs.Read.{read}
 use Rattle.plant_message_schema.specs.declared.format_errors.ShapeError.TheVariants as shape_error
-use Rattle.plant_message_schema.specs.declared.format_errors.FormatError.{FormatError}
+use Rattle.plant_message_schema.specs.{AskedKind, FormatError}
 use Rattle.plant_message_schema.specs.declared.format_errors.FormatError.TheVariants as format_error
 use Rattle.plant_message_schema.specs.declared.members.Member.TheVariants as m
-use Rattle.plant_message_schema.specs.declared.words.AskedKind.{AskedKind}
 use Rattle.plant_message_schema.specs.declared.words.AskedKind.TheVariants as asked
 use Rattle.plant_message_schema.specs.Words.{asked_kind}
 use Rattle.plant_message_schema.specs.Fields.{fields_of}

@@ -2,28 +2,19 @@
 use Rattle.std.specs.Prelude.{ℕ, List, [], ◌∷◌, if◌then◌else◌, codes, Option, Some, None, option_map, is_some, Result, Ok, Err}
 use Rattle.serde_json.specs.Data.{Data}
 use Rattle.serde_json.specs.Find.{get}
-use Rattle.plant_trace.specs.declared.direction.Direction.{Direction}
+use Rattle.plant_trace.specs.{Direction, Node}
 use Rattle.plant_trace.specs.declared.direction.Direction.TheVariants.{Forward, Back}
-use Rattle.plant_trace.specs.declared.node.Node.{Node}
 use Rattle.plant_trace.specs.declared.node.Node.TheVariants.{Lot, Batch}
-use Rattle.plant_worklists.specs.declared.list.Worklist.{Worklist}
+use Rattle.plant_worklists.specs.{DueCursor, HoldCursor, MovementCursor, RecipeCursor, Worklist}
 use Rattle.plant_worklists.specs.declared.list.Worklist.TheVariants as list
-use Rattle.plant_worklists.specs.declared.cursors.DueCursor.{DueCursor}
-use Rattle.plant_worklists.specs.declared.cursors.HoldCursor.{HoldCursor}
-use Rattle.plant_worklists.specs.declared.cursors.MovementCursor.{MovementCursor}
-use Rattle.plant_worklists.specs.declared.cursors.RecipeCursor.{RecipeCursor}
-use Rattle.plant_messages.specs.declared.question.Question.{Question}
+use Rattle.plant_messages.specs.{Question}
 use Rattle.plant_messages.specs.declared.question.Question.TheVariants as Q
-use Rattle.plant_message_schema.specs.declared.members.Member.{Member}
+use Rattle.plant_message_schema.specs.{Field, FormatError, ListKind, Member, QuestionKind}
 use Rattle.plant_message_schema.specs.declared.members.Member.TheVariants as m
-use Rattle.plant_message_schema.specs.declared.words.ListKind.{ListKind}
 use Rattle.plant_message_schema.specs.declared.words.ListKind.TheVariants as k
-use Rattle.plant_message_schema.specs.declared.words.QuestionKind.{QuestionKind}
 use Rattle.plant_message_schema.specs.declared.words.QuestionKind.TheVariants as q
-use Rattle.plant_message_schema.specs.declared.fields.Field.{Field}
 use Rattle.plant_message_schema.specs.declared.fields.Field.TheVariants as field
 use Rattle.plant_message_schema.specs.declared.format_errors.ShapeError.TheVariants as shape_error
-use Rattle.plant_message_schema.specs.declared.format_errors.FormatError.{FormatError}
 use Rattle.plant_message_schema.specs.declared.format_errors.FormatError.TheVariants as format_error
 use Rattle.plant_message_schema.specs.FormatErrors.{◌>>=◌, object, or_malformed}
 use Rattle.plant_message_schema.specs.Fields.{exactly}

@@ -9,19 +9,16 @@ use Rattle.plant_rules.specs.Step.{step}
 use Rattle.plant_desk.specs.Replies.{reply}
 use Rattle.plant_answers.specs.Answers.{answer}
 use Rattle.plant_desk.specs.Keepers.{States}
-use Rattle.plant_messages.specs.declared.question.Question.{Question}
-use Rattle.plant_messages.specs.declared.question.Answer.{Answer}
+use Rattle.plant_messages.specs.{Answer, DeskFault, Question, Reply}
 use Rattle.plant_messages.specs.declared.question.Answer.TheVariants as A
-use Rattle.plant_messages.specs.declared.reply.Reply.{Reply}
 use Rattle.plant_messages.specs.declared.reply.Reply.TheVariants.{Accepted, Refused}
-use Rattle.plant_messages.specs.declared.reply.DeskFault.{DeskFault}
 use Rattle.plant_messages.specs.declared.reply.DeskFault.TheVariants.{Store, Memory, Shut}
 use Rattle.plant_text.specs.Lines.{line_of}
 use Rattle.plant_text_answers.specs.Replies.{reply_text, fault_text}
 use Rattle.plant_text_answers.specs.Answers.{text_of_answer}
 use Rattle.plant_text_checks.specs.Answers.{check_text}
 use Rattle.plant_text_checks.specs.Checks.{check_answer}
-use Rattle.plant_text_commands.specs.declared.checks.ToCheck.{ToCheck}
+use Rattle.plant_text_commands.specs.{ToCheck}
 use Rattle.plant_text.specs.Checks.{IsCommand}
 use Rattle.plant_text.specs.Writes.{with_lf, AppendsPrefix}
 use Rattle.plant_text.specs.declared.read.Line.{Line}

@@ -6,26 +6,12 @@ use Rattle.serde_json.specs.View.{items_of, view}
 use Rattle.serde_json.specs.Written.{has_float, items_have_float, compact_text}
 use Rattle.plant_base.specs.{Lifting, Movement, Recall, RecipeLine}
 use Rattle.plant_view.specs.Genealogy.{batch_by, ends_of}
-use Rattle.plant_messages.specs.declared.genealogy.BookedEdge.{BookedEdge}
-use Rattle.plant_messages.specs.declared.genealogy.Genealogy.{Genealogy}
-use Rattle.plant_messages.specs.declared.genealogy.NodeAnswer.{NodeAnswer}
+use Rattle.plant_messages.specs.{BatchLines, BatchView, BookedEdge, BookedLine, Booking, CommandHead, Genealogy, Listed, LotAnswer, NodeAnswer, OpenBatch, OrderAnswer, RecallAnswer, RecipeAnswer, StandingLot}
 use Rattle.plant_messages.specs.declared.genealogy.NodeAnswer.TheVariants as known
-use Rattle.plant_messages.specs.declared.listed.CommandHead.{CommandHead}
-use Rattle.plant_messages.specs.declared.listed.Listed.{Listed}
 use Rattle.plant_messages.specs.declared.listed.Listed.TheVariants as listed
-use Rattle.plant_messages.specs.declared.listed.OpenBatch.{OpenBatch}
-use Rattle.plant_messages.specs.declared.question.LotAnswer.{LotAnswer}
-use Rattle.plant_messages.specs.declared.question.StandingLot.{StandingLot}
-use Rattle.plant_messages.specs.declared.question.OrderAnswer.{OrderAnswer}
-use Rattle.plant_messages.specs.declared.question.BatchView.{BatchView}
-use Rattle.plant_messages.specs.declared.question.Booking.{Booking}
-use Rattle.plant_messages.specs.declared.question.RecallAnswer.{RecallAnswer}
-use Rattle.plant_messages.specs.declared.question.BatchLines.{BatchLines}
-use Rattle.plant_messages.specs.declared.question.BookedLine.{BookedLine}
-use Rattle.plant_messages.specs.declared.question.RecipeAnswer.{RecipeAnswer}
 use Rattle.plant_base.specs.declared.rows.RecipeLine.TheVariants as line
 use Rattle.plant_text_answers.specs.BatchAnswers.{booking_data, batch_data}
-use Rattle.plant_trace.specs.declared.node.Node.{Node}
+use Rattle.plant_trace.specs.{Node}
 use Rattle.plant_trace.specs.declared.node.Node.TheVariants.{Lot, Batch}
 use Rattle.plant_text_answers.specs.RecallAnswers.{recall_data}
 use Rattle.plant_text_answers.specs.EdgeAnswers.{node_item, edge_item, genealogy_data}

@@ -7,14 +7,9 @@ use Rattle.plant_base.specs.{Class, Definition, Hold, Job, Lifting, Movement, Mo
 use Rattle.plant_base.specs.declared.rows.MovementKind.TheVariants as kind
 use Rattle.plant_view.specs.Genealogy.{batch_by}
 use Rattle.plant_worklists.specs.Worklists.{other_lot}
-use Rattle.plant_worklists.specs.declared.page.Page.{Page}
-use Rattle.plant_messages.specs.declared.listed.BookedCommand.{BookedCommand}
-use Rattle.plant_messages.specs.declared.listed.CommandHead.{CommandHead}
-use Rattle.plant_messages.specs.declared.listed.Listed.{Listed}
+use Rattle.plant_worklists.specs.{Page}
+use Rattle.plant_messages.specs.{BookedCommand, CommandHead, Listed, LotPage, OpenBatch, StandingLot}
 use Rattle.plant_messages.specs.declared.listed.Listed.TheVariants as listed
-use Rattle.plant_messages.specs.declared.listed.LotPage.{LotPage}
-use Rattle.plant_messages.specs.declared.listed.OpenBatch.{OpenBatch}
-use Rattle.plant_messages.specs.declared.question.StandingLot.{StandingLot}
 use Rattle.plant_text_answers.specs.Natural.{natural}
 use Rattle.plant_text_answers.specs.Parts.{id_or_null, number_or_null, sublots_data}
 

@@ -4,10 +4,7 @@ use Rattle.serde_json.specs.Data.{Data, string, object, member, no_members}
 use Rattle.plant_base.specs.Words.{recipe_state_name}
 use Rattle.plant_base.specs.{Definition, RecipeLine}
 use Rattle.plant_base.specs.declared.rows.RecipeLine.TheVariants as line
-use Rattle.plant_messages.specs.declared.question.BatchLines.{BatchLines}
-use Rattle.plant_messages.specs.declared.question.BookedLine.{BookedLine}
-use Rattle.plant_messages.specs.declared.question.RecipeAnswer.{RecipeAnswer}
-use Rattle.plant_messages.specs.declared.question.RecipeLineAnswer.{RecipeLineAnswer}
+use Rattle.plant_messages.specs.{BatchLines, BookedLine, RecipeAnswer, RecipeLineAnswer}
 use Rattle.plant_text_answers.specs.ListAnswers.{rows_data}
 use Rattle.plant_text_answers.specs.Natural.{natural}
 use Rattle.plant_text_answers.specs.Parts.{unit_or_null}

@@ -3,9 +3,8 @@ use Rattle.std.specs.Prelude.{ℕ, List, ◌++◌, codes, decimal}
 use Rattle.plant_base.specs.Refusals.{number_of, name_of}
 use Rattle.plant_base.specs.{Refusal}
 use Rattle.plant_messages.specs.Faults.{fault_number}
-use Rattle.plant_messages.specs.declared.reply.Reply.{Reply}
+use Rattle.plant_messages.specs.{DeskFault, Reply}
 use Rattle.plant_messages.specs.declared.reply.Reply.TheVariants.{Accepted, Refused}
-use Rattle.plant_messages.specs.declared.reply.DeskFault.{DeskFault}
 
 abbrev pub accepted_text : ℕ → List ℕ
 accepted_text seq = codes "{\"ok\":" ++ decimal seq ++ codes "}"

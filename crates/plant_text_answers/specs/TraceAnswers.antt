@@ -2,7 +2,7 @@
 use Rattle.std.specs.Prelude.{List, map, codes}
 use Rattle.serde_json.specs.Data.{Data, Items, string, array, object, member, no_members}
 use Rattle.serde_json.specs.View.{items_of}
-use Rattle.plant_trace.specs.declared.node.Node.{Node}
+use Rattle.plant_trace.specs.{Node}
 use Rattle.plant_trace.specs.declared.node.Node.TheVariants.{Lot, Batch}
 
 abbrev pub node_data : Node → Data

@@ -6,7 +6,7 @@ use Rattle.plant_base.specs.Refusals.{number_of, name_of}
 use Rattle.plant_base.specs.{Refusal}
 use Rattle.plant_base.specs.declared.refusal.Refusal.TheVariants.{BadForm}
 use Rattle.plant_command_errors.specs.Reasons.{reason_text}
-use Rattle.plant_command_errors.specs.declared.reason.Reason.{Reason}
+use Rattle.plant_command_errors.specs.{Reason}
 use Rattle.plant_text_answers.specs.Natural.{natural}
 use Rattle.plant_text_checks.specs.declared.answers.CheckAnswer.{CheckAnswer}
 use Rattle.plant_text_checks.specs.declared.answers.CheckAnswer.TheVariants as answer

@@ -2,12 +2,12 @@
 use Rattle.std.specs.Prelude.{Option, Some, None}
 use Rattle.plant_base.specs.State.{State}
 use Rattle.plant_causes.specs.Causes.{checked}
-use Rattle.plant_causes.specs.declared.checking.Checked.{Checked}
+use Rattle.plant_causes.specs.{Checked}
 use Rattle.plant_causes.specs.declared.checking.Checked.TheVariants.{Accepted, Refused}
 use Rattle.plant_command_errors.specs.CommandErrors.{command_error_of}
-use Rattle.plant_command_errors.specs.declared.command_errors.CommandError.{CommandError}
+use Rattle.plant_command_errors.specs.{CommandError}
 use Rattle.plant_command_errors.specs.declared.reason.Reason.TheVariants as reason
-use Rattle.plant_text_commands.specs.declared.checks.ToCheck.{ToCheck}
+use Rattle.plant_text_commands.specs.{ToCheck}
 use Rattle.plant_text_commands.specs.declared.checks.ToCheck.TheVariants as to_check
 use Rattle.plant_text_checks.specs.declared.answers.CheckAnswer.{CheckAnswer}
 use Rattle.plant_text_checks.specs.declared.answers.CheckAnswer.TheVariants as answer

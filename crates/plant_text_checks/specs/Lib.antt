@@ -1,2 +1,3 @@
 pub mod Answers
 pub mod Checks
+pub use declared.answers.CheckAnswer.{CheckAnswer}

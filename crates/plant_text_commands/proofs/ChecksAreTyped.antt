@@ -5,8 +5,7 @@ use Rattle.serde_json.specs.Data.{Data}
 use Rattle.serde_json.specs.Find.{get}
 use Rattle.plant_base.specs.{Envelope}
 use Rattle.plant_message_schema.specs.declared.members.Member.TheVariants as m
-use Rattle.plant_message_schema.specs.declared.format_errors.FormatError.{FormatError}
-use Rattle.plant_message_schema.specs.declared.format_errors.Fault.{Fault}
+use Rattle.plant_message_schema.specs.{Fault, FormatError}
 use Rattle.plant_message_schema.specs.declared.format_errors.Fault.TheVariants as fault
 use Rattle.plant_message_schema.specs.Members.{name_of}
 use Rattle.plant_message_schema.specs.Tables.{check_members}

@@ -5,19 +5,13 @@ use Rattle.std.specs.Str.{bytes_eq}
 use Rattle.serde_json.specs.Data.{Data, Items, no_items, item}
 use Rattle.serde_json.specs.Find.{get, as_str, as_array, as_object}
 use Rattle.plant_base.specs.{Command, Envelope}
-use Rattle.plant_message_schema.specs.declared.members.Member.{Member}
+use Rattle.plant_message_schema.specs.{CommandKind, Fault, Field, FormatError, Member, Row, ShapeError}
 use Rattle.plant_message_schema.specs.declared.members.Member.TheVariants as m
 use Rattle.plant_message_schema.specs.declared.members.Rule.TheVariants as rule
-use Rattle.plant_message_schema.specs.declared.words.CommandKind.{CommandKind}
 use Rattle.plant_message_schema.specs.declared.words.CommandKind.TheVariants as c
-use Rattle.plant_message_schema.specs.declared.words.Row.{Row}
 use Rattle.plant_message_schema.specs.declared.words.Row.TheVariants as row
-use Rattle.plant_message_schema.specs.declared.fields.Field.{Field}
 use Rattle.plant_message_schema.specs.declared.fields.Field.TheVariants as field
-use Rattle.plant_message_schema.specs.declared.format_errors.ShapeError.{ShapeError}
 use Rattle.plant_message_schema.specs.declared.format_errors.ShapeError.TheVariants as shape_error
-use Rattle.plant_message_schema.specs.declared.format_errors.FormatError.{FormatError}
-use Rattle.plant_message_schema.specs.declared.format_errors.Fault.{Fault}
 use Rattle.plant_message_schema.specs.declared.format_errors.Fault.TheVariants as fault
 use Rattle.plant_message_schema.specs.Members.{name_of}
 use Rattle.plant_message_schema.specs.Words.{line_kind}

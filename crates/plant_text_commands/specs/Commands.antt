@@ -4,12 +4,10 @@ use Rattle.std.specs.Option.{option_or}
 use Rattle.serde_json.specs.Data.{Data}
 use Rattle.serde_json.specs.Find.{get, as_str}
 use Rattle.plant_base.specs.{Command, Envelope}
-use Rattle.plant_message_schema.specs.declared.words.CommandKind.{CommandKind}
+use Rattle.plant_message_schema.specs.{CommandKind, Field, FormatError}
 use Rattle.plant_message_schema.specs.declared.words.CommandKind.TheVariants as c
-use Rattle.plant_message_schema.specs.declared.fields.Field.{Field}
 use Rattle.plant_message_schema.specs.declared.fields.Field.TheVariants as field
 use Rattle.plant_message_schema.specs.declared.format_errors.ShapeError.TheVariants as shape_error
-use Rattle.plant_message_schema.specs.declared.format_errors.FormatError.{FormatError}
 use Rattle.plant_message_schema.specs.declared.format_errors.FormatError.TheVariants as format_error
 use Rattle.plant_message_schema.specs.Words.{command_kind}
 use Rattle.plant_message_schema.specs.Tables.{shared_members, own_of}

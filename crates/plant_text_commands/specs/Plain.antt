@@ -2,9 +2,8 @@
 use Rattle.std.specs.Prelude.{List, [], ◌∷◌, Option, Some, None}
 use Rattle.plant_base.specs.{Command}
 use Rattle.plant_base.specs.declared.command.Command.TheVariants as body
-use Rattle.plant_message_schema.specs.declared.words.CommandKind.{CommandKind}
+use Rattle.plant_message_schema.specs.{CommandKind, Field}
 use Rattle.plant_message_schema.specs.declared.words.CommandKind.TheVariants as c
-use Rattle.plant_message_schema.specs.declared.fields.Field.{Field}
 use Rattle.plant_message_schema.specs.declared.fields.Field.TheVariants as field
 
 -- a command on goods and their classes that the values make; none where they are others, or the kind is

@@ -18,9 +18,7 @@ use std::alloc::Global;
 pub(crate) trait Item: Sized + Drop {
     ghost use Rattle.std.specs.Prelude.{Option, List};
     ghost use Rattle.serde_json.specs.Data.{Data};
-    ghost use Rattle.plant_message_schema.specs.declared.members.Member.{Member};
-    ghost use Rattle.plant_message_schema.specs.declared.words.Row.{Row};
-    ghost use Rattle.plant_message_schema.specs.declared.fields.Field.{Field};
+    ghost use Rattle.plant_message_schema.specs.{Field, Member, Row};
 
     /// The member that has the list.
     ghost list: { Member };

@@ -11,3 +11,7 @@ pub mod NodeIndexes
 pub mod Mentions
 pub mod Recalls
 pub mod ReadOnly
+pub use declared.direction.Direction.{Direction}
+pub use declared.fault.TraceFault.{TraceFault}
+pub use declared.indexed.Indexed.{Indexed}
+pub use declared.node.Node.{Node}

@@ -12,7 +12,7 @@ use Rattle.plant_base.proofs.KeyOrders.{id_still}
 use Rattle.plant_stock.specs.Stock.{comes_from}
 use Rattle.plant_trace.specs.Reach.{Reach, HasEdge, IsAcyclic, leads}
 use Rattle.plant_trace.specs.Growth.{KeepsAcyclic, IsEnd}
-use Rattle.plant_trace.specs.declared.node.Node.{Node}
+use Rattle.plant_trace.specs.{Node}
 use Rattle.plant_trace.specs.declared.node.Node.TheVariants as node
 use Rattle.plant_trace.proofs.AddingKeepsAcyclic.{into_keeps, new_keeps}
 use Rattle.plant_trace.proofs.LeadsIsReach.{none_in, first_or_rest, leads_where_reached}

@@ -17,7 +17,7 @@ use Rattle.plant_base.proofs.KeyOrders.{same_id, same_itself}
 use Rattle.plant_trace.specs.Growth.{IsEnd}
 use Rattle.plant_trace.specs.Reach.{Lists, leads}
 use Rattle.plant_trace.specs.Recalls.{IsRecalled, is_recalled, ReachesNone}
-use Rattle.plant_trace.specs.declared.node.Node.{Node}
+use Rattle.plant_trace.specs.{Node}
 use Rattle.plant_trace.specs.declared.node.Node.TheVariants as node
 use Rattle.plant_trace.proofs.AddingKeepsAcyclic.{last_edge}
 use Rattle.plant_trace.proofs.LeadsIsReach.{none_in, first_in, rest_in, first_or_rest, leads_where_reached}

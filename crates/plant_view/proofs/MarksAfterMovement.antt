@@ -9,7 +9,7 @@ use Rattle.plant_base.specs.Recalls.{is_open, mark_order}
 use Rattle.plant_base.specs.State.{State, lot_at}
 use Rattle.plant_base.specs.{Mark, Movement, Recall}
 use Rattle.plant_trace.specs.Recalls.{IsRecalled, is_recalled, ReachesNone}
-use Rattle.plant_trace.specs.declared.node.Node.{Node}
+use Rattle.plant_trace.specs.{Node}
 use Rattle.plant_trace.specs.declared.node.Node.TheVariants as node
 use Rattle.plant_trace.proofs.RecallReaches.{recalled_where_reached}
 use Rattle.plant_view.specs.Genealogy.{edge_of, edges_among, edges_of}

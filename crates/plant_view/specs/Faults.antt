@@ -1,5 +1,5 @@
 -- The fault of a view that a trace's is.
-use Rattle.plant_trace.specs.declared.fault.TraceFault.{TraceFault}
+use Rattle.plant_trace.specs.{TraceFault}
 use Rattle.plant_trace.specs.declared.fault.TraceFault.TheVariants as trace
 use Rattle.plant_view.specs.declared.fault.ViewFault.{ViewFault}
 use Rattle.plant_view.specs.declared.fault.ViewFault.TheVariants as view

@@ -6,7 +6,7 @@ use Rattle.plant_base.specs.State.{same, put, recall_order}
 use Rattle.plant_trace.specs.Growth.{IsEnd}
 use Rattle.plant_trace.specs.Reach.{Lists}
 use Rattle.plant_trace.specs.Recalls.{IsRecalled, ReachesNone}
-use Rattle.plant_trace.specs.declared.node.Node.{Node}
+use Rattle.plant_trace.specs.{Node}
 use Rattle.plant_base.specs.Recalls.{mark_order, is_open}
 use Rattle.plant_view.specs.Recalls.{node_at, is_on, marks, mark_on, node_of, recalls_on, Reaches}
 use Rattle.plant_view.specs.Rows.{put_all}

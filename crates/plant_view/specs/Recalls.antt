@@ -7,7 +7,7 @@ use Rattle.plant_base.specs.{Mark, MarkKind, Movement, Recall}
 use Rattle.plant_base.specs.declared.rows.MarkKind.TheVariants as kind
 use Rattle.plant_trace.specs.Reach.{leads}
 use Rattle.plant_trace.specs.Recalls.{IsRecalled, is_recalled}
-use Rattle.plant_trace.specs.declared.node.Node.{Node}
+use Rattle.plant_trace.specs.{Node}
 use Rattle.plant_trace.specs.declared.node.Node.TheVariants as node
 use Rattle.plant_view.specs.Genealogy.{edges_among, edges_of}
 use Rattle.plant_view.specs.Rows.{put_all}

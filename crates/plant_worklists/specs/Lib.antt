@@ -5,3 +5,9 @@ pub mod Cursors
 pub mod FetchPolicy
 pub mod Sorting
 pub mod Worklists
+pub use declared.cursors.DueCursor.{DueCursor}
+pub use declared.cursors.HoldCursor.{HoldCursor}
+pub use declared.cursors.MovementCursor.{MovementCursor}
+pub use declared.cursors.RecipeCursor.{RecipeCursor}
+pub use declared.list.Worklist.{Worklist}
+pub use declared.page.Page.{Page}

@@ -10,3 +10,4 @@ pub mod Reading
 pub mod Rises
 pub mod Selects
 pub mod Written
+pub use declared.page.Page.{Page}

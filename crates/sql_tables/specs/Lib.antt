@@ -8,3 +8,5 @@ pub mod Texts
 pub mod Moves
 pub mod Indexes
 pub mod CrashStates
+pub use declared.fault.Fault.{Fault}
+pub use declared.table_def.CreateIndexStatement.{CreateIndexStatement}

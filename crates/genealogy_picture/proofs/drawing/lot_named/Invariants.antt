@@ -1,7 +1,7 @@
 use Rattle.std.proofs.Common.{◌≡◌, false, take}
 use Rattle.std.specs.List.{list_any}
 use Rattle.std.specs.Str.{bytes_eq}
-use Rattle.genealogy_graph.specs.declared.model.PictureLot.{PictureLot}
+use Rattle.genealogy_graph.specs.{PictureLot}
 use Rattle.genealogy_picture.proofs.drawing.lot_named.Given as goal
 
 abbrev pub invariant-loop-lot : goal.invariant-loop-lot

@@ -1,4 +1,4 @@
-use Rattle.plant_trace.specs.declared.node.Node.{Node}
+use Rattle.plant_trace.specs.{Node}
 use Rattle.genealogy_svg.specs.Layers.{AreSettled, IsLayered}
 use Rattle.genealogy_svg.proofs.search.layer_node.Given as goal
 

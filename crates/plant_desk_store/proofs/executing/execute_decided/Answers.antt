@@ -4,7 +4,7 @@ use Rattle.sqlite.specs.Held.{state}
 use Rattle.plant_base.specs.State.{State, newest_schema}
 use Rattle.plant_view.specs.OneBatch.{puts_one_batch}
 use Rattle.plant_view.specs.Tables.{tables_of, changed_all}
-use Rattle.plant_view.specs.declared.change.RowChange.{RowChange}
+use Rattle.plant_view.specs.{RowChange}
 use Rattle.plant_rules.specs.Step.{step}
 use Rattle.plant_messages.specs.declared.reply.DeskFault.TheVariants.{Store}
 use Rattle.plant_messages.specs.declared.reply.Reply.TheVariants.{Accepted}

@@ -1,5 +1,5 @@
 use Rattle.std.proofs.Common.{subst}
-use Rattle.plant_trace.specs.declared.direction.Direction.{Direction}
+use Rattle.plant_trace.specs.{Direction}
 use Rattle.plant_view.specs.Genealogy.{edges_of}
 use Rattle.plant_keyed.specs.Edges.{AreTurned}
 use Rattle.plant_keyed.proofs.CachedEdges.{next_turned}

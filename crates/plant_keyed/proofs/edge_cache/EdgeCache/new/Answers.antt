@@ -1,6 +1,6 @@
 use Rattle.std.proofs.Common.{List, subst, IsPermutation, rules}
 use Rattle.std.proofs.lemmas.List.Sorted.{answers_always}
-use Rattle.plant_trace.specs.declared.node.Node.{Node}
+use Rattle.plant_trace.specs.{Node}
 use Rattle.plant_keyed.proofs.CachedEdges.{turned_are}
 use Rattle.plant_keyed.proofs.edge_cache.EdgeCache.new.Goals as goal
 

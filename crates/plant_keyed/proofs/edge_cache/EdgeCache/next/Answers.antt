@@ -1,7 +1,7 @@
 use Rattle.std.proofs.Common.{Vec, Global}
 use Rattle.std.proofs.lemmas.Result.{IfOk-weaker}
 use Rattle.plant_trace.specs.declared.direction.Direction.TheVariants.{Forward}
-use Rattle.plant_trace.specs.declared.node.Node.{Node}
+use Rattle.plant_trace.specs.{Node}
 use Rattle.plant_keyed.proofs.EdgesAtNode.{next_by}
 use Rattle.plant_keyed.proofs.edge_cache.EdgeCache.next.Goals as goal
 

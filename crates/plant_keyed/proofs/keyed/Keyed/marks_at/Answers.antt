@@ -1,6 +1,6 @@
 use Rattle.std.proofs.Common.{◌≡◌, refl, subst, [], ◌∷◌}
 use Rattle.sqlite.specs.Held.{state}
-use Rattle.plant_trace.specs.declared.node.Node.{Node}
+use Rattle.plant_trace.specs.{Node}
 use Rattle.plant_view.specs.Recalls.{marks_on}
 use Rattle.plant_keyed.specs.Edges.{id_of}
 use Rattle.plant_keyed.specs.Abstraction.{abstraction}

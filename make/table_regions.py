@@ -1,6 +1,7 @@
 """What each region of make/tables.py repeats of the tables: a template of a line or of a few, or a function where a template doesn't do."""
 from __future__ import annotations
 
+import re
 import string
 
 from regions import Region, camel, chain, nested, packed
@@ -631,18 +632,13 @@ def rule(column, code):
     name = column.kind.rule
     if name.isupper():
         return name if code else name.lower()
-    return f"ValueRule::{name}" if code else f"rule.{name}"
+    return f"ValueRule::{name}" if code else "rule." + re.sub(r"[(), ]+", " ", name).rstrip()
 
 
 def rules_in_code(table):
     """The rules of a table's columns."""
     rules = bracketed([f"(Column::{variant(column)}, {rule(column, True)})" for column in table.columns])
-    return filled(f"""\
-fn ${{name}}_rules() -> &'static [(Column, ValueRule)]
-    ensures {{ result.now ≡ rules_of Table.$Name }}
-{{
-    &{rules}
-}}""", table)
+    return filled(f"Table::$Name => &{rules},".replace("\n    ", "\n"), table)
 
 
 def variant(column):
@@ -654,24 +650,27 @@ def in_check(desk):
     """The regions of plant_check_rows and desk_check."""
     rows = desk.tables[1:]
     rules, fault = "plant_check_rows/src/column_rules.rt", "plant_check_rows/src/fault.rt"
+    all_tables = f"all_tables = {chain('table.' + filled('$Name', it) for it in rows)}"
     return [
         Region(fault, "the tables", many(rows, "$Name,")),
         Region(fault, "their names", many(rows, "Table::$Name => \"$name\",")),
         Region("plant_check_rows/specs/Naming.antt", "the names of tables", many(rows, "table_name table.$Name = codes \"$name\"")),
-        Region(rules, "the rules of each table", "\n\n".join(map(rules_in_code, rows))),
-        Region(rules, "all tables", many(rows, "Table::$Name => ${name}_rules(),")),
+        Region(rules, "the rules of each table", "\n".join(map(rules_in_code, rows))),
         Region("plant_check_rows/specs/ColumnRules.antt", "the rules of each table", "\n".join(
             filled(f"rules_of table.$Name = {chain(f'(column.{variant(column)}, {rule(column, False)})' for column in it.columns)}", it)
             for it in rows)),
-        Region("plant_check_rows/specs/Values.antt", "no row with a bad value is read", many(
-            rows, "pub $name : IsUnreadIfBad table.$Name ${stored}_from")),
-        Region("plant_check_rows/proofs/ObeyedColumns.antt", "rows that have a field for each column", "\n\n".join(
-            filled(f"""\
-${{name}}_unread : IsUnreadIfBad table.$Name ${{one}}_from
-unfolding ${{one}}_from
-${{name}}_unread = unread ${{one}}_columns (rules_of table.$Name) (same_for _ _ ({' ⊞ '.join(f'single {column.kind.obeyed}' for column in it.columns)}))""", it)
+        Region("plant_check_rows/src/values.rt", "all tables", f"""\
+const TABLES: [Table; {len(rows)}] = [
+{many(rows, '    Table::$Name,')}
+];"""),
+        Region("plant_check_rows/src/values.rt", "whether a row of each table can be decoded", many(
+            [it for it in rows if it.name != "receipt"], "Table::$Name => $stored_row::decode(row).is_some(),")),
+        Region("plant_check_rows/specs/Values.antt", "all tables", all_tables),
+        Region("plant_check_rows/specs/Values.antt", "whether a row of each table can be decoded", many(
+            rows, "is_read table.$Name row = is_some (${stored}_from row)")),
+        Region("plant_check_rows/proofs/ObeyedColumns.antt", "rows that have a field for each column", "\n".join(
+            filled(f"all_unread table.$Name = unread ${{one}}_columns (rules_of table.$Name) (same_for _ _ ({' ⊞ '.join(f'single {column.kind.obeyed}' for column in it.columns)}))", it)
             for it in rows if it.plain)),
-        Region("plant_check_rows/proofs/ObeyedColumns.antt", "all tables", many(rows, "$name = ${name}_unread;")),
         Region("desk_check/src/bound.rt", "all tables", f"""\
 fn all_tables() -> [Table; {len(rows)}]
     ensures {{ result ≡ spec.all_tables }}
@@ -680,7 +679,7 @@ fn all_tables() -> [Table; {len(rows)}]
 {many(rows, '        Table::$Name,')}
     ]
 }}"""),
-        Region("desk_check/specs/Bound.antt", "all tables", f"all_tables = {chain('table.' + filled('$Name', it) for it in rows)}"),
+        Region("desk_check/specs/Bound.antt", "all tables", all_tables),
     ]
 
 

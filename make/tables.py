@@ -22,7 +22,7 @@ from regions import camel
 class Kind:
     """What a column holds. Of a table whose rows are stored and read by generated code it also says how."""
 
-    # The type in the file, and the rule in the check of rows: the name of a constant, or that of a variant.
+    # The type in the file, and the rule in the check of rows: the name of a constant, or a variant.
     sql: str
     rule: str
     # The kind in specs, and its law.
@@ -72,11 +72,11 @@ KINDS = {
     "attempt": Kind(INTEGER, "ATTEMPT"),
     "next": Kind(INTEGER, "NEXT"),
     "phase": Kind(INTEGER, "PHASE"),
-    "flag": Kind(INTEGER, "FLAG"),
-    "line_kind": Kind(INTEGER, "LINE_KIND"),
-    "movement_kind": Kind(INTEGER, "MOVEMENT_KIND"),
-    "edge_kind": Kind(INTEGER, "EDGE_KIND", code="edge_kind_number"),
-    "mark_kind": Kind(INTEGER, "MARK_KIND", code="mark_kind_number"),
+    "flag": Kind(INTEGER, "Number(0, 1)"),
+    "line_kind": Kind(INTEGER, "Number(1, 4)"),
+    "movement_kind": Kind(INTEGER, "Number(1, 7)"),
+    "edge_kind": Kind(INTEGER, "Number(1, 3)", code="edge_kind_number"),
+    "mark_kind": Kind(INTEGER, "Number(1, 2)", code="mark_kind_number"),
     "number": Kind(INTEGER, ""),
 }
 

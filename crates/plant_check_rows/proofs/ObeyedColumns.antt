@@ -1,5 +1,6 @@
 -- No row is read of which a value breaks the rule of its column.
 use Rattle.std.proofs.Common.{◌≡◌, refl, sym, ◌∙◌, subst, ℕ, suc, ◌+◌, List, [], ◌∷◌, ◌++◌, length, take, drop, Bool, true, false, ◌&&◌, ◌==◌, Option, Some, None, nat_le, arith}
+use Rattle.std.specs.Prelude.{if◌then◌else◌, is_some}
 use Rattle.std.proofs.lemmas.Bool.{and_parts}
 use Rattle.std.proofs.lemmas.List.{length-append}
 use Rattle.sqlite.specs.Order.{Row, column}
@@ -19,11 +20,12 @@ use Rattle.plant_tables_columns.proofs.LineLaws.{line_lawful}
 use Rattle.plant_tables_columns.proofs.OptionalValues.{bound, mapped, where_true}
 use Rattle.plant_tables_columns.proofs.TableLaws.{event_lawful}
 use Rattle.plant_check_rows.specs.ColumnRules.{rules_of}
-use Rattle.plant_check_rows.specs.ValueRules.{obeys, is_event_word}
-use Rattle.plant_check_rows.specs.Values.{bad_value, unless_obeyed, first_bad_value, IsUnreadIfBad, AreUnreadIfBad}
+use Rattle.plant_check_rows.specs.ValueRules.{obeys, allows_text}
+use Rattle.plant_check_rows.specs.Values.{bad_value, first_bad_value, AreUnreadIfBad}
 use Rattle.plant_check_rows.specs.declared.fault.Column.{Column}
 use Rattle.plant_check_rows.specs.declared.fault.Table.TheVariants as table
 use Rattle.plant_check_rows.specs.declared.value_rule.ValueRule.{ValueRule}
+use Rattle.plant_check_rows.specs.declared.value_rule.ValueRule.TheVariants as rule
 use Rattle.plant_check_rows.specs.declared.values.BadValue.{BadValue}
 use Rattle.plant_check_rows.proofs.ObeyedValues.{IsObeyed, id_obeyed, text_obeyed, unit_obeyed, due_obeyed, content_obeyed, id_or_null_obeyed, text_or_null_obeyed, number_obeyed, line_number_obeyed, amount_is_quantity, up_to, sublot_or_null_obeyed, moment_or_null_obeyed, flag_obeyed, recipe_state_obeyed, job_state_obeyed, batch_state_obeyed, recall_state_obeyed, movement_kind_obeyed, edge_kind_obeyed, mark_kind_obeyed, id_is_text}
 
@@ -42,8 +44,8 @@ joined [] ss at row h k = let same : at + 0 ≡ at = omega arith in subst (λ n.
 joined (r ∷ rs) ss at row h k =
     let next : at + suc (length rs) ≡ (at + 1) + length rs = omega arith in
     let rest = subst (λ n. first_bad_value ss n row ≡ None) next k in
-    elim (obeys r.1 (column row at)) as (λ b. unless_obeyed b (bad_value r (column row at)) (first_bad_value rs (at + 1) row) ≡ None
-    → unless_obeyed b (bad_value r (column row at)) (first_bad_value (rs ++ ss) (at + 1) row) ≡ None) [
+    elim (obeys r.1 (column row at)) as (λ b. (if b then first_bad_value rs (at + 1) row else Some (bad_value r row at)) ≡ None
+    → (if b then first_bad_value (rs ++ ss) (at + 1) row else Some (bad_value r row at)) ≡ None) [
       | true ↦ λ e. joined rs ss (at + 1) row e rest
       | false ↦ λ e. absurd (cc)
     ] h
@@ -103,7 +105,7 @@ line_obeyed = record {
 abbrev event_rules : Rules
 event_rules = take 2 (drop 2 (rules_of table.BatchEvent))
 
-word_obeys : (w : Word) → is_event_word (word_name w) ≡ true
+word_obeys : (w : Word) → allows_text rule.EventWord (word_name w) ≡ true
 word_obeys word.Start = refl
 word_obeys _ = refl
 
@@ -120,112 +122,44 @@ event_obeyed = record {
 
 -- ---- tables
 
-unread : {A : Type 0} (c : Columns A) (rules : Rules) → AreObeyed c rules → (row : Row) (bad : BadValue) → first_bad_value rules 0 row ≡ Some bad → read_row c row ≡ None
+header_obeyed : AreObeyed header_columns (take 7 (rules_of table.Recipe))
+header_obeyed = same_for _ _ (single id_obeyed ⊞ single (number_obeyed 1 greatest_version) ⊞ single id_obeyed ⊞ single (number_obeyed 1 greatest_amount) ⊞ single (number_obeyed 1 greatest_amount) ⊞ single (number_obeyed 1 greatest_amount) ⊞ single text_obeyed)
+
+order_obeyed : AreObeyed order_columns (take 6 (rules_of table.Job))
+order_obeyed = same_for _ _ (single id_obeyed ⊞ single id_obeyed ⊞ single (number_obeyed 1 greatest_version) ⊞ single (number_obeyed 1 greatest_amount) ⊞ single due_obeyed ⊞ single (number_obeyed 1 greatest_priority))
+
+released_obeyed : AreObeyed released_columns (take 5 (rules_of table.Batch))
+released_obeyed = same_for _ _ (single id_obeyed ⊞ single id_obeyed ⊞ single (number_obeyed 0 greatest_moment) ⊞ single text_obeyed ⊞ single text_obeyed)
+
+unread : {A : Type 0} (c : Columns A) (rules : Rules) → AreObeyed c rules → (row : Row) (bad : BadValue) → first_bad_value rules 0 row ≡ Some bad → is_some (read_row c row) ≡ false
 unread {A} c rules laws row bad h = go (read_row c row) refl
   where
-    go : (o : Option A) → read_row c row ≡ o → o ≡ None
+    go : (o : Option A) → read_row c row ≡ o → is_some o ≡ false
     go None e = refl
     go (Some a) e =
         let p = where_true (length row == length c.declared) (c.read row 0) a e in
         absurd (let both = sym h ∙ laws.obeyed row 0 a p.1 in cc)
 
+pub all_unread : AreUnreadIfBad
+unfolding class_from definition_from recipe_from master_line_from job_from batch_from control_line_from batch_event_from lot_from sublot_from booked_from hold_from edge_from receipt_from stated_from mark_from
 -- ---- generated by make/tables.py: rows that have a field for each column
-class_unread : IsUnreadIfBad table.Class class_from
-unfolding class_from
-class_unread = unread class_columns (rules_of table.Class) (same_for _ _ (single id_obeyed ⊞ single text_obeyed))
-
-definition_unread : IsUnreadIfBad table.Definition definition_from
-unfolding definition_from
-definition_unread = unread definition_columns (rules_of table.Definition) (same_for _ _ (single id_obeyed ⊞ single id_obeyed ⊞ single text_obeyed ⊞ single unit_obeyed))
-
+all_unread table.Class = unread class_columns (rules_of table.Class) (same_for _ _ (single id_obeyed ⊞ single text_obeyed))
+all_unread table.Definition = unread definition_columns (rules_of table.Definition) (same_for _ _ (single id_obeyed ⊞ single id_obeyed ⊞ single text_obeyed ⊞ single unit_obeyed))
 -- ---- end of rows that have a field for each column
-
-header_obeyed : AreObeyed header_columns (take 7 (rules_of table.Recipe))
-header_obeyed = same_for _ _ (single id_obeyed ⊞ single (number_obeyed 1 greatest_version) ⊞ single id_obeyed ⊞ single (number_obeyed 1 greatest_amount) ⊞ single (number_obeyed 1 greatest_amount) ⊞ single (number_obeyed 1 greatest_amount) ⊞ single text_obeyed)
-
-recipe_unread : IsUnreadIfBad table.Recipe recipe_from
-unfolding recipe_from
-recipe_unread = unread recipe_columns (rules_of table.Recipe) (same_for _ _ (header_obeyed ⊞ single recipe_state_obeyed))
-
-recipe_line_unread : IsUnreadIfBad table.RecipeLine master_line_from
-unfolding master_line_from
-recipe_line_unread = unread master_line_columns (rules_of table.RecipeLine) (same_for _ _ (single id_obeyed ⊞ single (number_obeyed 1 greatest_version) ⊞ single line_number_obeyed ⊞ line_obeyed))
-
-order_obeyed : AreObeyed order_columns (take 6 (rules_of table.Job))
-order_obeyed = same_for _ _ (single id_obeyed ⊞ single id_obeyed ⊞ single (number_obeyed 1 greatest_version) ⊞ single (number_obeyed 1 greatest_amount) ⊞ single due_obeyed ⊞ single (number_obeyed 1 greatest_priority))
-
-job_unread : IsUnreadIfBad table.Job job_from
-unfolding job_from
-job_unread = unread job_columns (rules_of table.Job) (same_for _ _ (order_obeyed ⊞ single job_state_obeyed))
-
-released_obeyed : AreObeyed released_columns (take 5 (rules_of table.Batch))
-released_obeyed = same_for _ _ (single id_obeyed ⊞ single id_obeyed ⊞ single (number_obeyed 0 greatest_moment) ⊞ single text_obeyed ⊞ single text_obeyed)
-
-batch_unread : IsUnreadIfBad table.Batch batch_from
-unfolding batch_from
-batch_unread = unread batch_columns (rules_of table.Batch) (same_for _ _ (released_obeyed ⊞ single batch_state_obeyed ⊞ single (number_obeyed 1 greatest_attempt) ⊞ single (number_obeyed 1 greatest_phase) ⊞ single flag_obeyed))
-
-control_line_unread : IsUnreadIfBad table.ControlLine control_line_from
-unfolding control_line_from
-control_line_unread = unread control_line_columns (rules_of table.ControlLine) (same_for _ _ (single id_obeyed ⊞ single line_number_obeyed ⊞ line_obeyed))
-
-batch_event_unread : IsUnreadIfBad table.BatchEvent batch_event_from
-unfolding batch_event_from
-batch_event_unread = unread batch_event_columns (rules_of table.BatchEvent) (same_for _ _ (single (number_obeyed 0 greatest_seq) ⊞ single id_obeyed ⊞ event_obeyed ⊞ single (number_obeyed 0 greatest_moment) ⊞ single text_obeyed ⊞ single text_obeyed))
-
-lot_unread : IsUnreadIfBad table.Lot lot_from
-unfolding lot_from
-lot_unread = unread lot_columns (rules_of table.Lot) (same_for _ _ (single id_obeyed ⊞ single id_obeyed))
-
-sublot_unread : IsUnreadIfBad table.Sublot sublot_from
-unfolding sublot_from
-sublot_unread = unread sublot_columns (rules_of table.Sublot) (same_for _ _ (single id_obeyed ⊞ single (number_obeyed 0 greatest_sublot) ⊞ single text_obeyed ⊞ single (number_obeyed 0 greatest_amount)))
-
-movement_unread : IsUnreadIfBad table.Movement booked_from
-unfolding booked_from
-movement_unread = unread booked_columns (rules_of table.Movement)
+all_unread table.Recipe = unread recipe_columns (rules_of table.Recipe) (same_for _ _ (header_obeyed ⊞ single recipe_state_obeyed))
+all_unread table.RecipeLine = unread master_line_columns (rules_of table.RecipeLine) (same_for _ _ (single id_obeyed ⊞ single (number_obeyed 1 greatest_version) ⊞ single line_number_obeyed ⊞ line_obeyed))
+all_unread table.Job = unread job_columns (rules_of table.Job) (same_for _ _ (order_obeyed ⊞ single job_state_obeyed))
+all_unread table.Batch = unread batch_columns (rules_of table.Batch) (same_for _ _ (released_obeyed ⊞ single batch_state_obeyed ⊞ single (number_obeyed 1 greatest_attempt) ⊞ single (number_obeyed 1 greatest_phase) ⊞ single flag_obeyed))
+all_unread table.ControlLine = unread control_line_columns (rules_of table.ControlLine) (same_for _ _ (single id_obeyed ⊞ single line_number_obeyed ⊞ line_obeyed))
+all_unread table.BatchEvent = unread batch_event_columns (rules_of table.BatchEvent) (same_for _ _ (single (number_obeyed 0 greatest_seq) ⊞ single id_obeyed ⊞ event_obeyed ⊞ single (number_obeyed 0 greatest_moment) ⊞ single text_obeyed ⊞ single text_obeyed))
+all_unread table.Lot = unread lot_columns (rules_of table.Lot) (same_for _ _ (single id_obeyed ⊞ single id_obeyed))
+all_unread table.Sublot = unread sublot_columns (rules_of table.Sublot) (same_for _ _ (single id_obeyed ⊞ single (number_obeyed 0 greatest_sublot) ⊞ single text_obeyed ⊞ single (number_obeyed 0 greatest_amount)))
+all_unread table.Movement = unread booked_columns (rules_of table.Movement)
     (same_for _ _ (single (number_obeyed 0 greatest_seq) ⊞ single line_number_obeyed ⊞ single movement_kind_obeyed ⊞ single id_obeyed ⊞ single (number_obeyed 0 greatest_sublot) ⊞ single id_or_null_obeyed ⊞ single sublot_or_null_obeyed ⊞ single id_or_null_obeyed
     ⊞ single (number_obeyed 1 greatest_amount) ⊞ single (number_obeyed 0 greatest_moment) ⊞ single text_obeyed ⊞ single text_obeyed))
-
-hold_unread : IsUnreadIfBad table.Hold hold_from
-unfolding hold_from
-hold_unread = unread hold_columns (rules_of table.Hold) (same_for _ _ (single id_obeyed ⊞ single id_obeyed ⊞ single (number_obeyed 0 greatest_moment) ⊞ single text_obeyed ⊞ single text_obeyed))
-
-edge_unread : IsUnreadIfBad table.Edge edge_from
-unfolding edge_from
-edge_unread = unread edge_columns (rules_of table.Edge) (same_for _ _ (single edge_kind_obeyed ⊞ single id_obeyed ⊞ single id_obeyed))
-
-receipt_unread : IsUnreadIfBad table.Receipt receipt_from
-unfolding receipt_from
-receipt_unread = unread receipt_columns (rules_of table.Receipt) (same_for _ _ (single id_obeyed ⊞ single (number_obeyed 0 greatest_seq) ⊞ single content_obeyed))
-
-recall_unread : IsUnreadIfBad table.Recall stated_from
-unfolding stated_from
-recall_unread = unread stated_columns (rules_of table.Recall)
+all_unread table.Hold = unread hold_columns (rules_of table.Hold) (same_for _ _ (single id_obeyed ⊞ single id_obeyed ⊞ single (number_obeyed 0 greatest_moment) ⊞ single text_obeyed ⊞ single text_obeyed))
+all_unread table.Edge = unread edge_columns (rules_of table.Edge) (same_for _ _ (single edge_kind_obeyed ⊞ single id_obeyed ⊞ single id_obeyed))
+all_unread table.Receipt = unread receipt_columns (rules_of table.Receipt) (same_for _ _ (single id_obeyed ⊞ single (number_obeyed 0 greatest_seq) ⊞ single content_obeyed))
+all_unread table.Recall = unread stated_columns (rules_of table.Recall)
     (same_for _ _ (single id_obeyed ⊞ single id_obeyed ⊞ single recall_state_obeyed ⊞ single (number_obeyed 0 greatest_moment) ⊞ single text_obeyed ⊞ single text_obeyed ⊞ single moment_or_null_obeyed ⊞ single text_or_null_obeyed ⊞ single text_or_null_obeyed))
-
-mark_unread : IsUnreadIfBad table.Mark mark_from
-unfolding mark_from
-mark_unread = unread mark_columns (rules_of table.Mark) (same_for _ _ (single id_obeyed ⊞ single mark_kind_obeyed ⊞ single id_obeyed))
-
-pub all_unread : AreUnreadIfBad
-all_unread = record {
-  -- ---- generated by make/tables.py: all tables
-  class = class_unread;
-  definition = definition_unread;
-  recipe = recipe_unread;
-  recipe_line = recipe_line_unread;
-  job = job_unread;
-  batch = batch_unread;
-  control_line = control_line_unread;
-  batch_event = batch_event_unread;
-  lot = lot_unread;
-  sublot = sublot_unread;
-  movement = movement_unread;
-  hold = hold_unread;
-  edge = edge_unread;
-  receipt = receipt_unread;
-  recall = recall_unread;
-  mark = mark_unread;
-  -- ---- end of all tables
-}
+all_unread table.Mark = unread mark_columns (rules_of table.Mark) (same_for _ _ (single id_obeyed ⊞ single mark_kind_obeyed ⊞ single id_obeyed))

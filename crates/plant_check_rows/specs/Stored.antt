@@ -24,74 +24,34 @@ found_in (value.Real x) = found.Real
 found_in (value.Text bytes) = found_text bytes
 found_in (value.Blob bytes) = found.Blob
 
--- ---- keys of ids and numbers, in the first columns
+-- ---- keys
 
-abbrev pub id_key : Row → Option Key
-id_key row = do
-  id ← id_from (column row 0)
-  Some (key.Id id)
+-- an id in the column of this index
+abbrev pub id_at : Row → ℕ → Option (List ℕ)
+id_at row at = id_from (column row at)
 
-abbrev pub number_key : Row → Option Key
-number_key row = do
-  n ← number_from 0 greatest_number (column row 0)
-  Some (key.Number n)
+-- a number there that isn't below 0
+abbrev pub number_at : Row → ℕ → Option ℕ
+number_at row at = number_from 0 greatest_number (column row at)
 
-abbrev pub ids_key : Row → Option Key
-ids_key row = do
-  a ← id_from (column row 0)
-  b ← id_from (column row 1)
-  Some (key.Ids a b)
-
-abbrev pub numbers_key : Row → Option Key
-numbers_key row = do
-  m ← number_from 0 greatest_number (column row 0)
-  n ← number_from 0 greatest_number (column row 1)
-  Some (key.Numbers m n)
-
-abbrev pub id_number_key : Row → Option Key
-id_number_key row = do
-  id ← id_from (column row 0)
-  n ← number_from 0 greatest_number (column row 1)
-  Some (key.IdNumber id n)
-
-abbrev pub id_numbers_key : Row → Option Key
-id_numbers_key row = do
-  id ← id_from (column row 0)
-  m ← number_from 0 greatest_number (column row 1)
-  n ← number_from 0 greatest_number (column row 2)
-  Some (key.IdNumbers id m n)
-
-abbrev pub number_ids_key : Row → Option Key
-number_ids_key row = do
-  n ← number_from 0 greatest_number (column row 0)
-  a ← id_from (column row 1)
-  b ← id_from (column row 2)
-  Some (key.NumberIds n a b)
-
-abbrev pub id_number_id_key : Row → Option Key
-id_number_id_key row = do
-  a ← id_from (column row 0)
-  n ← number_from 0 greatest_number (column row 1)
-  b ← id_from (column row 2)
-  Some (key.IdNumberId a n b)
-
+-- the values of the key, which are in the first columns
 abbrev pub key_in : Table → Row → Option Key
-key_in table.Class row = id_key row
-key_in table.Definition row = id_key row
-key_in table.Recipe row = id_number_key row
-key_in table.RecipeLine row = id_numbers_key row
-key_in table.Job row = id_key row
-key_in table.Batch row = id_key row
-key_in table.ControlLine row = id_number_key row
-key_in table.BatchEvent row = number_key row
-key_in table.Lot row = id_key row
-key_in table.Sublot row = id_number_key row
-key_in table.Movement row = numbers_key row
-key_in table.Hold row = ids_key row
-key_in table.Edge row = number_ids_key row
-key_in table.Receipt row = id_key row
-key_in table.Recall row = id_key row
-key_in table.Mark row = id_number_id_key row
+key_in table.Class row = do Some (key.Id (← id_at row 0))
+key_in table.Definition row = do Some (key.Id (← id_at row 0))
+key_in table.Recipe row = do Some (key.IdNumber (← id_at row 0) (← number_at row 1))
+key_in table.RecipeLine row = do Some (key.IdNumbers (← id_at row 0) (← number_at row 1) (← number_at row 2))
+key_in table.Job row = do Some (key.Id (← id_at row 0))
+key_in table.Batch row = do Some (key.Id (← id_at row 0))
+key_in table.ControlLine row = do Some (key.IdNumber (← id_at row 0) (← number_at row 1))
+key_in table.BatchEvent row = do Some (key.Number (← number_at row 0))
+key_in table.Lot row = do Some (key.Id (← id_at row 0))
+key_in table.Sublot row = do Some (key.IdNumber (← id_at row 0) (← number_at row 1))
+key_in table.Movement row = do Some (key.Numbers (← number_at row 0) (← number_at row 1))
+key_in table.Hold row = do Some (key.Ids (← id_at row 0) (← id_at row 1))
+key_in table.Edge row = do Some (key.NumberIds (← number_at row 0) (← id_at row 1) (← id_at row 2))
+key_in table.Receipt row = do Some (key.Id (← id_at row 0))
+key_in table.Recall row = do Some (key.Id (← id_at row 0))
+key_in table.Mark row = do Some (key.IdNumberId (← id_at row 0) (← number_at row 1) (← id_at row 2))
 
 -- the key of a row, or where it can't be read, its position in the order of the key, which is given
 abbrev pub key_or_place : Table → ℕ → Row → Key

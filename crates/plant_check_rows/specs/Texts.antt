@@ -82,29 +82,23 @@ stock_text entered left = if nat_lt entered left
     then codes "no less to have left than entered: " ++ decimal entered ++ codes " entered and " ++ decimal left ++ codes " left"
     else decimal (entered - left) ++ codes ", for " ++ decimal entered ++ codes " entered and " ++ decimal left ++ codes " left"
 
--- what a rule asks for, where that is always the same
-abbrev pub plain_rule : ValueRule → List ℕ
-plain_rule rule.Id = codes "an id"
-plain_rule rule.IdOrNull = codes "an id or NULL"
-plain_rule rule.IdOrEmpty = codes "an id or the empty text"
-plain_rule rule.Text = codes "a text of at most 60 bytes from the space to ~"
-plain_rule rule.TextOrNull = codes "a text of at most 60 bytes from the space to ~, or NULL"
-plain_rule rule.AnyText = codes "a text"
-plain_rule rule.Unit = codes "a unit of 1 to 8 letters and digits"
-plain_rule rule.Due = codes "a date as 2026-11-30, of the years 2000 to 2099"
-plain_rule rule.Whole = codes "a whole number"
-plain_rule rule.RecipeState = codes "draft, approved or withdrawn"
-plain_rule rule.JobState = codes "open, cancelled, released or finished"
-plain_rule rule.BatchState = codes "idle, running, complete, pausing, paused, holding, held, restarting, stopping, stopped, aborting or aborted"
-plain_rule rule.RecallState = codes "open or lifted"
-plain_rule rule.EventWord = codes "start, stop, hold, restart, abort, reset, pause, resume, done, phase or close"
-plain_rule (rule.Number low high) = codes ""
-plain_rule (rule.NumberOrNull low high) = codes ""
-
 abbrev pub rule_text : ValueRule → List ℕ
+rule_text rule.Id = codes "an id"
+rule_text rule.IdOrNull = codes "an id or NULL"
+rule_text rule.IdOrEmpty = codes "an id or the empty text"
+rule_text rule.Text = codes "a text of at most 60 bytes from the space to ~"
+rule_text rule.TextOrNull = codes "a text of at most 60 bytes from the space to ~, or NULL"
+rule_text rule.AnyText = codes "a text"
+rule_text rule.Unit = codes "a unit of 1 to 8 letters and digits"
+rule_text rule.Due = codes "a date as 2026-11-30, of the years 2000 to 2099"
 rule_text (rule.Number low high) = codes "a whole number from " ++ decimal low ++ codes " to " ++ decimal high
 rule_text (rule.NumberOrNull low high) = codes "a whole number from " ++ decimal low ++ codes " to " ++ decimal high ++ codes ", or NULL"
-rule_text r = plain_rule r
+rule_text rule.Whole = codes "a whole number"
+rule_text rule.RecipeState = codes "draft, approved or withdrawn"
+rule_text rule.JobState = codes "open, cancelled, released or finished"
+rule_text rule.BatchState = codes "idle, running, complete, pausing, paused, holding, held, restarting, stopping, stopped, aborting or aborted"
+rule_text rule.RecallState = codes "open or lifted"
+rule_text rule.EventWord = codes "start, stop, hold, restart, abort, reset, pause, resume, done, phase or close"
 
 abbrev pub wanted_text : Wanted → List ℕ
 wanted_text (wanted.Key t) = codes "the key of a row of table " ++ table_name t ++ codes ", one that fits"

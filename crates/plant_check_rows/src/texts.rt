@@ -1,7 +1,7 @@
 //! The texts of rows that break rules.
 ghost use Rattle.std.specs.Prelude.{◌≡◌, Some};
 ghost use Rattle.plant_check_rows.specs.Texts.{fault_text, found_text, key_text, plain_wanted};
-ghost use Rattle.plant_check_rows.specs.Texts.{kind_code_name, plain_rule, rule_text, stock_text, wanted_text};
+ghost use Rattle.plant_check_rows.specs.Texts.{kind_code_name, rule_text, stock_text, wanted_text};
 
 use crate::fault::{Found, Key, RowFault, Wanted};
 use crate::value_rule::ValueRule;
@@ -14,47 +14,18 @@ impl fmt::Display for Key {
     fn fmt<W: fmt::Write>(&self, f: &mut fmt::Formatter<W>) -> fmt::Result {
         match self {
             Key::Id(id) => f.write_str(id.as_str()),
-            Key::Number(number) => {
-                let number = *number;
-                write!(f, "{number}")
-            }
-            Key::Ids(first, second) => {
-                let first = first.as_str();
-                let second = second.as_str();
-                write!(f, "{first} {second}")
-            }
-            Key::Numbers(first, second) => {
-                let first = *first;
-                let second = *second;
-                write!(f, "{first} {second}")
-            }
-            Key::IdNumber(id, number) => {
-                let id = id.as_str();
-                let number = *number;
-                write!(f, "{id} {number}")
-            }
-            Key::IdNumbers(id, first, second) => {
-                let id = id.as_str();
-                let first = *first;
-                let second = *second;
-                write!(f, "{id} {first} {second}")
-            }
+            Key::Number(number) => write!(f, "{number}"),
+            Key::Ids(first, second) => write!(f, "{} {}", first.as_str(), second.as_str()),
+            Key::Numbers(first, second) => write!(f, "{first} {second}"),
+            Key::IdNumber(id, number) => write!(f, "{} {number}", id.as_str()),
+            Key::IdNumbers(id, first, second) => write!(f, "{} {first} {second}", id.as_str()),
             Key::NumberIds(number, first, second) => {
-                let number = *number;
-                let first = first.as_str();
-                let second = second.as_str();
-                write!(f, "{number} {first} {second}")
+                write!(f, "{number} {} {}", first.as_str(), second.as_str())
             }
             Key::IdNumberId(first, number, second) => {
-                let first = first.as_str();
-                let number = *number;
-                let second = second.as_str();
-                write!(f, "{first} {number} {second}")
+                write!(f, "{} {number} {}", first.as_str(), second.as_str())
             }
-            Key::Place(place) => {
-                let place = *place;
-                write!(f, "number {place} by its key")
-            }
+            Key::Place(place) => write!(f, "number {place} by its key"),
         }
     }
 }
@@ -80,21 +51,12 @@ impl fmt::Display for Found {
     fn fmt<W: fmt::Write>(&self, f: &mut fmt::Formatter<W>) -> fmt::Result {
         match self {
             Found::Id(id) => f.write_str(id.as_str()),
-            Found::Number(number) => {
-                let number = *number;
-                write!(f, "{number}")
-            }
+            Found::Number(number) => write!(f, "{number}"),
             Found::Order(state) => f.write_str(state.name()),
             Found::State(state) => f.write_str(state.name()),
             Found::Sort(kind_code) => f.write_str(kind_code_name(*kind_code)),
-            Found::Integer(number) => {
-                let number = *number;
-                write!(f, "{number}")
-            }
-            Found::Text(text) => {
-                let text = text.as_str();
-                write!(f, "'{text}'")
-            }
+            Found::Integer(number) => write!(f, "{number}"),
+            Found::Text(text) => write!(f, "'{}'", text.as_str()),
             Found::LongText => f.write_str("a text of more than 60 bytes"),
             Found::OtherText => f.write_str("a text with a byte that isn't from the space to ~"),
             Found::Real => f.write_str("a real number"),
@@ -107,8 +69,8 @@ impl fmt::Display for Found {
 }
 
 /// What is wanted, where that is always the same.
-fn plain_wanted(wanted: &Wanted) -> &'static str
-    ensures { result.now ≡ plain_wanted wanted.now }
+fn plain_wanted(wanted: Wanted) -> &'static str
+    ensures { result.now ≡ plain_wanted wanted }
 {
     match wanted {
         Wanted::NoRow => "no such row",
@@ -150,8 +112,7 @@ impl fmt::Display for StockText {
     ghost output = { λ reported. Some (stock_text reported.entered reported.left) };
 
     fn fmt<W: fmt::Write>(&self, f: &mut fmt::Formatter<W>) -> fmt::Result {
-        let entered = self.entered;
-        let left = self.left;
+        let StockText { entered, left } = self;
         if entered < left {
             return write!(
                 f,
@@ -163,49 +124,35 @@ impl fmt::Display for StockText {
     }
 }
 
-/// What a rule asks for, where that is always the same.
-fn plain_rule(rule: ValueRule) -> &'static str
-    ensures { result.now ≡ plain_rule rule }
-{
-    match rule {
-        ValueRule::Id => "an id",
-        ValueRule::IdOrNull => "an id or NULL",
-        ValueRule::IdOrEmpty => "an id or the empty text",
-        ValueRule::Text => "a text of at most 60 bytes from the space to ~",
-        ValueRule::TextOrNull => "a text of at most 60 bytes from the space to ~, or NULL",
-        ValueRule::AnyText => "a text",
-        ValueRule::Unit => "a unit of 1 to 8 letters and digits",
-        ValueRule::Due => "a date as 2026-11-30, of the years 2000 to 2099",
-        ValueRule::Whole => "a whole number",
-        ValueRule::RecipeState => "draft, approved or withdrawn",
-        ValueRule::JobState => "open, cancelled, released or finished",
-        ValueRule::BatchState => {
-            "idle, running, complete, pausing, paused, holding, held, restarting, stopping, stopped, aborting or aborted"
-        }
-        ValueRule::RecallState => "open or lifted",
-        ValueRule::EventWord => {
-            "start, stop, hold, restart, abort, reset, pause, resume, done, phase or close"
-        }
-        ValueRule::Number(_, _) | ValueRule::NumberOrNull(_, _) => "",
-    }
-}
-
 impl fmt::Display for ValueRule {
     ghost output = { λ rule. Some (rule_text rule) };
 
     fn fmt<W: fmt::Write>(&self, f: &mut fmt::Formatter<W>) -> fmt::Result {
         match self {
-            ValueRule::Number(low, high) => {
-                let low = *low;
-                let high = *high;
-                write!(f, "a whole number from {low} to {high}")
+            ValueRule::Id => f.write_str("an id"),
+            ValueRule::IdOrNull => f.write_str("an id or NULL"),
+            ValueRule::IdOrEmpty => f.write_str("an id or the empty text"),
+            ValueRule::Text => f.write_str("a text of at most 60 bytes from the space to ~"),
+            ValueRule::TextOrNull => {
+                f.write_str("a text of at most 60 bytes from the space to ~, or NULL")
             }
+            ValueRule::AnyText => f.write_str("a text"),
+            ValueRule::Unit => f.write_str("a unit of 1 to 8 letters and digits"),
+            ValueRule::Due => f.write_str("a date as 2026-11-30, of the years 2000 to 2099"),
+            ValueRule::Number(low, high) => write!(f, "a whole number from {low} to {high}"),
             ValueRule::NumberOrNull(low, high) => {
-                let low = *low;
-                let high = *high;
                 write!(f, "a whole number from {low} to {high}, or NULL")
             }
-            plain => f.write_str(plain_rule(*plain)),
+            ValueRule::Whole => f.write_str("a whole number"),
+            ValueRule::RecipeState => f.write_str("draft, approved or withdrawn"),
+            ValueRule::JobState => f.write_str("open, cancelled, released or finished"),
+            ValueRule::BatchState => f.write_str(
+                "idle, running, complete, pausing, paused, holding, held, restarting, stopping, stopped, aborting or aborted",
+            ),
+            ValueRule::RecallState => f.write_str("open or lifted"),
+            ValueRule::EventWord => f.write_str(
+                "start, stop, hold, restart, abort, reset, pause, resume, done, phase or close",
+            ),
         }
     }
 }
@@ -214,58 +161,36 @@ impl fmt::Display for Wanted {
     ghost output = { λ wanted. Some (wanted_text wanted) };
 
     fn fmt<W: fmt::Write>(&self, f: &mut fmt::Formatter<W>) -> fmt::Result {
-        match self {
+        match *self {
             Wanted::Key(table) => {
                 let name = table.name();
                 write!(f, "the key of a row of table {name}, one that fits")
             }
             Wanted::Stock { entered, left } => {
-                let stock = StockText {
-                    entered: *entered,
-                    left: *left,
-                };
+                let stock = StockText { entered, left };
                 write!(f, "{stock}")
             }
             Wanted::State(state) => f.write_str(state.name()),
-            Wanted::Number(number) => {
-                let number = *number;
-                write!(f, "{number}")
-            }
+            Wanted::Number(number) => write!(f, "{number}"),
             Wanted::Allowed(refusal) => {
                 let name = refusal.name();
                 write!(f, "events that are allowed: one is refused as {name}")
             }
             Wanted::Size { least, greatest } => {
-                let least = least.get();
-                let greatest = greatest.get();
-                write!(f, "a size from {least} to {greatest}")
+                write!(f, "a size from {} to {}", least.get(), greatest.get())
             }
             Wanted::NumberedFrom(table, first) => {
-                let name = table.name();
-                let first = *first;
-                write!(f, "rows of table {name} numbered from {first} on")
+                write!(f, "rows of table {} numbered from {first} on", table.name())
             }
-            Wanted::Given(greatest) => {
-                let greatest = *greatest;
-                write!(f, "the number of a command, 1 to {greatest}")
-            }
-            Wanted::NotAfter(at) => {
-                let at = *at;
-                write!(f, "no moment after {at}, which is the desk's")
-            }
+            Wanted::Given(greatest) => write!(f, "the number of a command, 1 to {greatest}"),
+            Wanted::NotAfter(at) => write!(f, "no moment after {at}, which is the desk's"),
             Wanted::NotBefore(at) => {
-                let at = *at;
                 write!(f, "no moment before {at}, which stands with a lower number")
             }
             Wanted::EdgeOf { seq, line } => {
-                let seq = *seq;
-                let line = *line;
                 write!(f, "the edge that movement {seq} {line} makes")
             }
-            Wanted::Value(rule) => {
-                let rule = *rule;
-                write!(f, "{rule}")
-            }
+            Wanted::Value(rule) => write!(f, "{rule}"),
             plain => f.write_str(plain_wanted(plain)),
         }
     }
@@ -275,22 +200,11 @@ impl fmt::Display for RowFault {
     ghost output = { λ fault. Some (fault_text fault) };
 
     fn fmt<W: fmt::Write>(&self, f: &mut fmt::Formatter<W>) -> fmt::Result {
-        let table = self.table.name();
-        let key = self.key;
-        let found = self.found;
-        let wanted = self.wanted;
-        match self.column {
-            Some(column) => {
-                let name = column.name();
-                write!(
-                    f,
-                    "table {table}, row {key}, column {name}: {found} stands there, wanted is {wanted}"
-                )
-            }
-            None => write!(
-                f,
-                "table {table}, row {key}: {found} stands there, wanted is {wanted}"
-            ),
+        write!(f, "table {}, row {}", self.table.name(), self.key)?;
+        if let Some(column) = self.column {
+            write!(f, ", column {}", column.name())?;
         }
+        let (found, wanted) = (self.found, self.wanted);
+        write!(f, ": {found} stands there, wanted is {wanted}")
     }
 }

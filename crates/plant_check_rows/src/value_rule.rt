@@ -1,16 +1,11 @@
 //! The rules of stored values.
-ghost use Rattle.std.specs.Prelude.{◌≡◌, option_map};
-ghost use Rattle.plant_base.specs.Dates.{is_due};
-ghost use Rattle.plant_base.specs.Values.{is_id, is_text, is_unit};
-ghost use Rattle.plant_base.specs.Words.{recipe_state_name, job_state_name, batch_state_name, word_name};
-ghost use Rattle.plant_tables_columns.specs.Naming.{all_recipe_states, all_job_states, all_batch_states};
-ghost use Rattle.plant_tables_columns.specs.Naming.{all_recall_states, all_words, recall_state_name};
-ghost use Rattle.plant_tables_columns.specs.Reading.{holds_integer, holds_text, integer_in, is_null, is_no_text, text_in};
+ghost use Rattle.std.specs.Prelude.{◌≡◌};
+ghost use Rattle.std.specs.List.{list_any};
+ghost use Rattle.plant_base.specs.State.{same};
 ghost use Rattle.sqlite_value.specs.Value.{owned};
 ghost use Rattle.plant_check_rows.specs.ValueRules as spec;
 
-use plant_base::{BatchState, Due, Id, JobState, RecipeState, Text, Unit, Word};
-use plant_tables_columns::RecallState;
+use plant_base::{Due, Id, Text, Unit};
 use sqlite::types::ValueRef;
 
 /// What a stored value has to be.
@@ -50,196 +45,87 @@ pub enum ValueRule {
     EventWord,
 }
 
-/// The bytes of a text.
-pub(crate) fn text_in(value: ValueRef<'_>) -> Option<&[u8]>
-    ensures { option_map (λ bytes. bytes.now) result ≡ text_in (owned value.entry) }
+/// Whether NULL obeys the rule.
+fn allows_null(rule: ValueRule) -> bool
+    ensures { result ≡ spec.allows_null rule }
 {
-    match value {
-        ValueRef::Text(bytes) => Some(bytes),
-        ValueRef::Null | ValueRef::Int(_) | ValueRef::Real(_) | ValueRef::Blob(_) => None,
+    match rule {
+        ValueRule::IdOrNull | ValueRule::TextOrNull | ValueRule::NumberOrNull(_, _) => true,
+        _ => false,
     }
 }
 
-/// A whole number.
-pub(crate) fn integer_in(value: ValueRef<'_>) -> Option<i64>
-    ensures { result ≡ integer_in (owned value.entry) }
+/// Whether a whole number obeys the rule.
+fn allows_number(rule: ValueRule, number: i64) -> bool
+    ensures { result ≡ spec.allows_number rule number }
 {
-    match value {
-        ValueRef::Int(number) => Some(number),
-        ValueRef::Null | ValueRef::Real(_) | ValueRef::Text(_) | ValueRef::Blob(_) => None,
+    match rule {
+        ValueRule::Number(low, high) | ValueRule::NumberOrNull(low, high) => {
+            match u64::try_from(number) {
+                Ok(number) => low <= number && number <= high,
+                Err(_) => false,
+            }
+        }
+        ValueRule::Whole => true,
+        _ => false,
     }
 }
 
-fn is_null(value: ValueRef<'_>) -> bool
-    ensures { result ≡ is_null (owned value.entry) }
+/// Whether a text is one of the words.
+fn is_one_of(words: &[&str], bytes: &[u8]) -> bool
+    ensures { result ≡ list_any (λ word. same word.now bytes.now) words.now }
 {
-    match value {
-        ValueRef::Null => true,
-        ValueRef::Int(_) | ValueRef::Real(_) | ValueRef::Text(_) | ValueRef::Blob(_) => false,
-    }
+    words.iter().any(|word| word.as_bytes() == bytes)
 }
 
-fn holds_id(value: ValueRef<'_>) -> bool
-    ensures { result ≡ holds_text is_id (text_in (owned value.entry)) }
-{
-    match text_in(value) {
-        Some(bytes) => Id::read(bytes).is_some(),
-        None => false,
-    }
-}
-
-fn holds_nothing(value: ValueRef<'_>) -> bool
-    ensures { result ≡ holds_text is_no_text (text_in (owned value.entry)) }
-{
-    match text_in(value) {
-        Some(bytes) => bytes.is_empty(),
-        None => false,
-    }
-}
-
-fn holds_readable(value: ValueRef<'_>) -> bool
-    ensures { result ≡ holds_text is_text (text_in (owned value.entry)) }
-{
-    match text_in(value) {
-        Some(bytes) => Text::read(bytes).is_some(),
-        None => false,
-    }
-}
-
-fn holds_unit(value: ValueRef<'_>) -> bool
-    ensures { result ≡ holds_text is_unit (text_in (owned value.entry)) }
-{
-    match text_in(value) {
-        Some(bytes) => Unit::read(bytes).is_some(),
-        None => false,
-    }
-}
-
-fn holds_due(value: ValueRef<'_>) -> bool
-    ensures { result ≡ holds_text is_due (text_in (owned value.entry)) }
-{
-    match text_in(value) {
-        Some(bytes) => Due::read(bytes).is_ok(),
-        None => false,
-    }
-}
-
-fn is_from_to(low: u64, high: u64, number: &i64) -> bool
-    ensures { result ≡ spec.is_from_to low high number.now }
-{
-    match u64::try_from(*number) {
-        Ok(number) => low <= number && number <= high,
-        Err(_) => false,
-    }
-}
-
-fn holds_number(low: u64, high: u64, value: ValueRef<'_>) -> bool
-    ensures { result ≡ holds_integer (spec.is_from_to low high) (integer_in (owned value.entry)) }
-{
-    match integer_in(value) {
-        Some(number) => is_from_to(low, high, &number),
-        None => false,
-    }
-}
-
-fn names_recipe_state(bytes: &[u8]) -> bool
-    ensures { result ≡ spec.is_name_of recipe_state_name all_recipe_states bytes.now }
-{
-    [
-        RecipeState::Draft,
-        RecipeState::Approved,
-        RecipeState::Withdrawn,
-    ]
-    .iter()
-    .any(|state| state.name().as_bytes() == bytes)
-}
-
-fn names_job_state(bytes: &[u8]) -> bool
-    ensures { result ≡ spec.is_name_of job_state_name all_job_states bytes.now }
-{
-    [
-        JobState::Open,
-        JobState::Cancelled,
-        JobState::Released,
-        JobState::Finished,
-    ]
-    .iter()
-    .any(|state| state.name().as_bytes() == bytes)
-}
-
-fn names_batch_state(bytes: &[u8]) -> bool
-    ensures { result ≡ spec.is_name_of batch_state_name all_batch_states bytes.now }
-{
-    [
-        BatchState::Idle,
-        BatchState::Running,
-        BatchState::Complete,
-        BatchState::Pausing,
-        BatchState::Paused,
-        BatchState::Holding,
-        BatchState::Held,
-        BatchState::Restarting,
-        BatchState::Stopping,
-        BatchState::Stopped,
-        BatchState::Aborting,
-        BatchState::Aborted,
-    ]
-    .iter()
-    .any(|state| state.name().as_bytes() == bytes)
-}
-
-fn names_recall_state(bytes: &[u8]) -> bool
-    ensures { result ≡ spec.is_name_of recall_state_name all_recall_states bytes.now }
-{
-    [RecallState::Open, RecallState::Lifted]
-        .iter()
-        .any(|state| state.name().as_bytes() == bytes)
-}
-
-fn names_batch_word(bytes: &[u8]) -> bool
-    ensures { result ≡ spec.is_name_of word_name all_words bytes.now }
-{
-    [
-        Word::Start,
-        Word::Stop,
-        Word::Hold,
-        Word::Restart,
-        Word::Abort,
-        Word::Reset,
-        Word::Pause,
-        Word::Resume,
-        Word::Done,
-    ]
-    .iter()
-    .any(|word| word.name().as_bytes() == bytes)
-}
-
-fn names_event(bytes: &[u8]) -> bool
-    ensures { result ≡ spec.is_event_word bytes.now }
-{
-    names_batch_word(bytes) || bytes == "phase".as_bytes() || bytes == "close".as_bytes()
-}
-
-/// Whether a text has a word that the rule allows; of a rule that speaks of no words, whether it is any text.
-fn names_word(rule: ValueRule, bytes: &[u8]) -> bool
+/// Whether a text is a word that the rule allows.
+fn is_word_of(rule: ValueRule, bytes: &[u8]) -> bool
     ensures { result ≡ spec.is_word_of rule bytes.now }
 {
     match rule {
-        ValueRule::RecipeState => names_recipe_state(bytes),
-        ValueRule::JobState => names_job_state(bytes),
-        ValueRule::BatchState => names_batch_state(bytes),
-        ValueRule::RecallState => names_recall_state(bytes),
-        ValueRule::EventWord => names_event(bytes),
-        _ => true,
+        ValueRule::RecipeState => is_one_of(&["draft", "approved", "withdrawn"], bytes),
+        ValueRule::JobState => is_one_of(&["open", "cancelled", "released", "finished"], bytes),
+        ValueRule::BatchState => is_one_of(
+            &[
+                "idle",
+                "running",
+                "complete",
+                "pausing",
+                "paused",
+                "holding",
+                "held",
+                "restarting",
+                "stopping",
+                "stopped",
+                "aborting",
+                "aborted",
+            ],
+            bytes,
+        ),
+        ValueRule::RecallState => is_one_of(&["open", "lifted"], bytes),
+        ValueRule::EventWord => is_one_of(
+            &[
+                "start", "stop", "hold", "restart", "abort", "reset", "pause", "resume", "done",
+                "phase", "close",
+            ],
+            bytes,
+        ),
+        _ => false,
     }
 }
 
-fn holds_word(rule: ValueRule, value: ValueRef<'_>) -> bool
-    ensures { result ≡ holds_text (spec.is_word_of rule) (text_in (owned value.entry)) }
+/// Whether a text obeys the rule.
+fn allows_text(rule: ValueRule, bytes: &[u8]) -> bool
+    ensures { result ≡ spec.allows_text rule bytes.now }
 {
-    match text_in(value) {
-        Some(bytes) => names_word(rule, bytes),
-        None => false,
+    match rule {
+        ValueRule::Id | ValueRule::IdOrNull => Id::read(bytes).is_some(),
+        ValueRule::IdOrEmpty => Id::read(bytes).is_some() || bytes.is_empty(),
+        ValueRule::Text | ValueRule::TextOrNull => Text::read(bytes).is_some(),
+        ValueRule::AnyText => true,
+        ValueRule::Unit => Unit::read(bytes).is_some(),
+        ValueRule::Due => Due::read(bytes).is_ok(),
+        _ => is_word_of(rule, bytes),
     }
 }
 
@@ -247,22 +133,10 @@ fn holds_word(rule: ValueRule, value: ValueRef<'_>) -> bool
 pub(crate) fn obeys(rule: ValueRule, value: ValueRef<'_>) -> bool
     ensures { result ≡ spec.obeys rule (owned value.entry) }
 {
-    match rule {
-        ValueRule::Id => holds_id(value),
-        ValueRule::IdOrNull => is_null(value) || holds_id(value),
-        ValueRule::IdOrEmpty => holds_id(value) || holds_nothing(value),
-        ValueRule::Text => holds_readable(value),
-        ValueRule::TextOrNull => is_null(value) || holds_readable(value),
-        ValueRule::Unit => holds_unit(value),
-        ValueRule::Due => holds_due(value),
-        ValueRule::Number(low, high) => holds_number(low, high, value),
-        ValueRule::NumberOrNull(low, high) => is_null(value) || holds_number(low, high, value),
-        ValueRule::Whole => integer_in(value).is_some(),
-        ValueRule::AnyText
-        | ValueRule::RecipeState
-        | ValueRule::JobState
-        | ValueRule::BatchState
-        | ValueRule::RecallState
-        | ValueRule::EventWord => holds_word(rule, value),
+    match value {
+        ValueRef::Null => allows_null(rule),
+        ValueRef::Int(number) => allows_number(rule, number),
+        ValueRef::Text(bytes) => allows_text(rule, bytes),
+        ValueRef::Real(_) | ValueRef::Blob(_) => false,
     }
 }

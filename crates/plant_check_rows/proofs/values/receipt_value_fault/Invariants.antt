@@ -1,9 +1,0 @@
-use Rattle.std.proofs.Common.{◌≡◌, ◌+◌, drop}
-use Rattle.plant_tables_columns.specs.TableColumns.{receipt_from}
-use Rattle.plant_check_rows.specs.Values.{first_unread}
-use Rattle.plant_check_rows.specs.declared.fault.Table.TheVariants as table
-use Rattle.plant_check_rows.proofs.values.receipt_value_fault.Given as goal
-
--- the rows so far can be decoded: the first that can't is one of those that are left
-abbrev pub invariant-loop-at : goal.invariant-loop-at
-invariant-loop-at l = first_unread table.Receipt receipt_from (l.at + 1) (drop l.at l.rows) ≡ first_unread table.Receipt receipt_from 1 l.rows

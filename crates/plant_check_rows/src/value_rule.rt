@@ -49,10 +49,10 @@ pub enum ValueRule {
 fn allows_null(rule: ValueRule) -> bool
     ensures { result ≡ spec.allows_null rule }
 {
-    match rule {
-        ValueRule::IdOrNull | ValueRule::TextOrNull | ValueRule::NumberOrNull(_, _) => true,
-        _ => false,
-    }
+    matches!(
+        rule,
+        ValueRule::IdOrNull | ValueRule::TextOrNull | ValueRule::NumberOrNull(_, _)
+    )
 }
 
 /// Whether a whole number obeys the rule.
@@ -61,10 +61,7 @@ fn allows_number(rule: ValueRule, number: i64) -> bool
 {
     match rule {
         ValueRule::Number(low, high) | ValueRule::NumberOrNull(low, high) => {
-            match u64::try_from(number) {
-                Ok(number) => low <= number && number <= high,
-                Err(_) => false,
-            }
+            u64::try_from(number).is_ok_and(|number| low <= number && number <= high)
         }
         ValueRule::Whole => true,
         _ => false,

@@ -44,23 +44,17 @@ fn first_bad_value(rules: &[(Column, ValueRule)], row: &Row) -> Option<BadValue>
     None
 }
 
-/// The row of this table and key, where this value breaks its rule; as a whole, where each value alone obeys its rule.
-fn fault_of_values(place: (Table, Key), bad: Option<BadValue>) -> RowFault
-    ensures { result ≡ spec.fault_of_values place bad }
-{
-    match bad {
-        None => as_a_whole(place, Wanted::Values),
-        Some(bad) => in_column(place, bad.column, bad.found, Wanted::Value(bad.rule)),
-    }
-}
-
-/// The fault of a row of the table that can't be decoded and has this position in the order of the key.
+/// The fault of a row of the table that can't be decoded and has this position in the order of the key. It is that of the
+/// first column whose value breaks its rule; of the row as a whole, where each value alone obeys its rule.
 #[tactic(auto, unfolding(crate::specs::Values::unread_fault))]
 fn unread_fault(table: Table, place: u64, row: &Row) -> RowFault
     ensures { result ≡ spec.unread_fault table place row.now }
 {
-    let key = key_or_place(table, place, row);
-    fault_of_values((table, key), first_bad_value(rules_of(table), row))
+    let place = (table, key_or_place(table, place, row));
+    match first_bad_value(rules_of(table), row) {
+        None => as_a_whole(place, Wanted::Values),
+        Some(bad) => in_column(place, bad.column, bad.found, Wanted::Value(bad.rule)),
+    }
 }
 
 /// The tables with a key, in the order in which they are loaded.

@@ -47,7 +47,7 @@ found_text (Some f) = broken_text f.rule f.row
 
 -- what is found of a rule in rows that were tested
 abbrev pub found_in : Tested → Rule → Option Finding
-found_in t r = finding_of r (rows_listed t.rows) t.movements.items
+found_in t r = finding_of r (rows_listed t.rows)
 
 abbrev pub each_text : Tested → List Rule → List ℕ
 each_text t [] = []

@@ -1,5 +1,5 @@
 -- The rules that tables obey which a desk has written, and the first that is broken.
-use Rattle.std.specs.Prelude.{ℕ, Bool, not, ◌&&◌, if◌then◌else◌, List, Option, Some, None, is_some}
+use Rattle.std.specs.Prelude.{ℕ, Bool, true, not, ◌&&◌, if◌then◌else◌, List, [], ◌∷◌, find, Option, Some, None, is_some}
 use Rattle.std.specs.List.{list_all, filter_map}
 use Rattle.std.specs.Cmp.Lexicographic.{pointwise}
 use Rattle.plant_base.specs.Edges.{edge_eq}
@@ -31,10 +31,6 @@ use Rattle.plant_check.specs.Lots.{are_lots}
 use Rattle.plant_check.specs.declared.rule.Rule.{Rule}
 use Rattle.plant_check.specs.declared.rule.Rule.TheVariants as rule
 
--- the rule where it is broken, and else what else is
-abbrev pub unless : Bool → Rule → Option Rule → Option Rule
-unless obeyed r rest = if obeyed then rest else Some r
-
 -- each row has the columns of its kind
 abbrev pub are_whole : List BookedRow → Bool
 are_whole rows = list_all (λ r. is_some (movement_from r)) rows
@@ -58,42 +54,11 @@ are_kept_edges schema rows movements = are_same_edges rows (edges_in schema move
 abbrev pub are_right_edges : Rows → List Movement → Bool
 are_right_edges r ms = are_acyclic (edges_among ms) && are_kept_edges r.meta.schema r.edges ms
 
--- the first, where one is broken, and else what else is
-abbrev pub or_else : Option Rule → Option Rule → Option Rule
-or_else None rest = rest
-or_else (Some r) rest = Some r
-
--- the first rule on classes, recipes, orders and batches that is broken
-unfoldable pub broken_plan : Rows → Option Rule
-broken_plan r =
-    unless (are_classified r.classes r.definitions) rule.Classes
-    (unless (are_recipes r.definitions r.recipes r.master_lines) rule.Recipes
-    (unless (are_orders r.recipes r.batches r.jobs) rule.Orders
-    (unless (are_batches r.recipes r.master_lines r.jobs r.batches r.control_lines) rule.Batches None)))
-
--- the first on stocks and lots
-unfoldable pub broken_lot : Rows → Option Rule
-broken_lot r =
-    unless (are_stocks r.movements r.sublots) rule.Stocks
-    (unless (are_lots r.definitions r.lots r.sublots r.holds r.movements) rule.Lots None)
-
 abbrev pub are_right_movements : Rows → List Movement → Bool
 are_right_movements r ms = are_whole r.movements && are_movements r.lots r.sublots r.batches r.control_lines ms
 
 abbrev pub are_right_numbers : Rows → List Movement → Bool
 are_right_numbers r ms = are_numbers r.meta.position.seq r.events ms && are_times r.meta.position.at ms r.events r.batches r.holds
-
--- the first on what was done
-unfoldable pub broken_history : Rows → Option Rule
-broken_history r =
-    unless (are_right_movements r (movements_in r.movements)) rule.Movements
-    (unless (are_events r.control_lines r.events r.batches) rule.Events
-    (unless (are_right_numbers r (movements_in r.movements)) rule.Numbers
-    (unless (are_right_edges r (movements_in r.movements)) rule.Descent None)))
-
--- the one on receipts, where it is broken
-unfoldable pub broken_receipt : Rows → Option Rule
-broken_receipt r = unless (are_receipts r.meta.position.seq r.receipts) rule.Receipts None
 
 -- each row has the columns of a lifting that its state asks for
 abbrev pub are_fitting : List StatedRecall → Bool
@@ -109,13 +74,34 @@ are_kept_recalls r recalls ms = are_recalls r.meta.position.at r.lots recalls &&
 abbrev pub are_right_recalls : Rows → Bool
 are_right_recalls r = are_fitting r.recalls && are_kept_recalls r (recalls_read r.recalls) (movements_in r.movements)
 
--- the one on recalls, where it is broken
-unfoldable pub broken_recall : Rows → Option Rule
-broken_recall r = unless (are_right_recalls r) rule.Recalls None
+-- ---- the rules
 
--- the first rule that rows break whose values obey theirs
+-- rows whose values obey theirs obey the rule
+abbrev pub obeys : Rule → Rows → Bool
+obeys rule.Tables r = true
+obeys rule.Values r = true
+obeys rule.Classes r = are_classified r.classes r.definitions
+obeys rule.Recipes r = are_recipes r.definitions r.recipes r.master_lines
+obeys rule.Orders r = are_orders r.recipes r.batches r.jobs
+obeys rule.Batches r = are_batches r.recipes r.master_lines r.jobs r.batches r.control_lines
+obeys rule.Stocks r = are_stocks r.movements r.sublots
+obeys rule.Lots r = are_lots r.definitions r.lots r.sublots r.holds r.movements
+obeys rule.Movements r = are_right_movements r (movements_in r.movements)
+obeys rule.Events r = are_events r.control_lines r.events r.batches
+obeys rule.Numbers r = are_right_numbers r (movements_in r.movements)
+obeys rule.Descent r = are_right_edges r (movements_in r.movements)
+obeys rule.Receipts r = are_receipts r.meta.position.seq r.receipts
+obeys rule.Recalls r = are_right_recalls r
+
+-- the rules that such rows are tested by, in their order
+abbrev pub tested_rules : List Rule
+tested_rules =
+    rule.Classes ∷ rule.Recipes ∷ rule.Orders ∷ rule.Batches ∷ rule.Stocks ∷ rule.Lots
+    ∷ rule.Movements ∷ rule.Events ∷ rule.Numbers ∷ rule.Descent ∷ rule.Receipts ∷ rule.Recalls ∷ []
+
+-- the first of them that the rows break
 unfoldable pub first_broken_of : Rows → Option Rule
-first_broken_of r = or_else (broken_plan r) (or_else (broken_lot r) (or_else (broken_history r) (or_else (broken_receipt r) (broken_recall r))))
+first_broken_of r = find (λ t. not (obeys t r)) tested_rules
 
 abbrev pub broken_rows : Option Rows → Option Rule
 broken_rows None = Some rule.Values
@@ -123,4 +109,4 @@ broken_rows (Some r) = first_broken_of r
 
 -- the first rule that is broken
 unfoldable pub first_broken : Loaded → Option Rule
-first_broken x = unless (is_some (only_meta (contents_loaded x 0))) rule.Tables (broken_rows (rows_from x))
+first_broken x = if is_some (only_meta (contents_loaded x 0)) then broken_rows (rows_from x) else Some rule.Tables

@@ -6,7 +6,7 @@ ghost use Rattle.plant_base.specs.Edges.{edge_order};
 ghost use Rattle.plant_view.specs.Genealogy.{edge_row_of, edge_rows};
 ghost use Rattle.plant_view.specs.Rows.{put_all};
 ghost use Rattle.plant_view.specs.Tables.{edges_in};
-ghost use Rattle.plant_check.specs.Broken.{are_same_edges, are_kept_edges};
+ghost use Rattle.plant_check.specs.Broken.{are_kept_edges};
 
 use plant_base::{EdgeRow, Movement};
 use plant_view::edge_row;

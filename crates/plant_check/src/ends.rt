@@ -1,13 +1,11 @@
 //! What rows of table movement bring to a sublot and take from it, as their columns say.
 
-ghost use Rattle.std.specs.Prelude.{◌≡◌, ◌<◌, ◌^◌, IfOk};
+ghost use Rattle.std.specs.Prelude.{◌≡◌, ◌<◌, ◌^◌};
 ghost use Rattle.plant_check.specs.Ends.{other_end, entered_by, left_by, entries, exits, total_booked};
-ghost use Rattle.plant_check.specs.Ends.{has_right_stock, are_stocks};
 
 use grouped_rows::{Grouped, Grouping};
-use plant_base::{Id, Sublot};
+use plant_base::Id;
 use plant_tables_read::{BookedRow, MovementKindCode};
-use std::alloc::{AllocError, Global};
 
 /// Rows by the sublot that they bring their amount to.
 pub struct BySublotEntered;
@@ -100,31 +98,4 @@ pub fn total_booked(rows: &[BookedRow]) -> u128
         total += u128::from(row.amount.get());
     }
     total
-}
-
-/// Whether each sublot's stock is what entered it less what left it. The only error is that memory was refused.
-pub(crate) fn are_stocks(
-    alloc: Global,
-    rows: &[BookedRow],
-    sublots: &[Sublot],
-) -> Result<bool, AllocError>
-    ensures { IfOk result (λ b. b ≡ are_stocks rows.now sublots.now) }
-{
-    let entered = Grouped::<BySublotEntered>::new(alloc, rows)?;
-    let left = Grouped::<BySublotLeft>::new(alloc, rows)?;
-    Ok(sublots.iter().all(|s| has_right_stock(&entered, &left, s)))
-}
-
-#[tactic(auto, unfolding(crate::specs::Ends::has_right_stock))]
-fn has_right_stock(
-    entered: &Grouped<BySublotEntered>,
-    left: &Grouped<BySublotLeft>,
-    sublot: &Sublot,
-) -> bool
-    requires { entered.now.rows.now ≡ left.now.rows.now }
-    ensures { result ≡ has_right_stock entered.now.rows.now sublot.now }
-{
-    let more = total_booked(entries(entered, sublot.lot, sublot.number));
-    let less = total_booked(exits(left, sublot.lot, sublot.number));
-    u128::from(sublot.stock) + less == more
 }

@@ -1,22 +1,14 @@
 //! What was done, as rows of table movement report it.
 
-ghost use Rattle.std.specs.Prelude.{◌≡◌, ◌↔◌, IfOk, IsTrue, true};
-ghost use Rattle.plant_trace.specs.Reach.{IsAcyclic};
+ghost use Rattle.std.specs.Prelude.{◌≡◌, IfOk};
 ghost use Rattle.plant_view.specs.Genealogy.{edges_among};
-ghost use Rattle.plant_check.specs.Broken.{are_whole, movements_in, are_acyclic};
+ghost use Rattle.plant_check.specs.Broken.{movements_in, are_acyclic};
 
 use plant_base::Movement;
 use plant_tables_read::BookedRow;
 use plant_trace::{Node, acyclic};
 use plant_view::edges;
 use std::alloc::{AllocError, Global};
-
-/// Whether each row has the columns of its kind.
-pub(crate) fn are_whole(rows: &[BookedRow]) -> bool
-    ensures { result ≡ are_whole rows.now }
-{
-    rows.iter().all(|r| r.movement().is_some())
-}
 
 /// The movements of the rows that have the columns of their kinds.
 /// The only error is that memory was refused.

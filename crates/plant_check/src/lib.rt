@@ -1,4 +1,4 @@
-//! Whether tables are those of a desk: the first of the rules of valid tables that they break.
+//! The rules of valid tables, and what they ask of stocks, lots and the history.
 #![tactic(auto)]
 
 pub mod checking;
@@ -9,5 +9,4 @@ pub mod lots;
 pub mod recalls;
 mod rule;
 
-pub use checking::{check, check_rows};
 pub use rule::Rule;

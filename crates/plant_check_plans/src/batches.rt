@@ -1,23 +1,13 @@
 //! Batches and their control recipes.
 
-ghost use Rattle.std.specs.Prelude.{◌≡◌, IfOk, ◌&&◌, ◌==◌, map, length, filter, option_map};
-ghost use Rattle.std.specs.List.{list_all};
-ghost use Rattle.plant_base.specs.State.{same};
+ghost use Rattle.std.specs.Prelude.{◌≡◌, IfOk, ◌==◌, map};
 ghost use Rattle.plant_view.specs.Production.{lines_among};
 ghost use Rattle.plant_check_plans.specs.Batches.{control_sized, control_if_well_formed, control_of_found};
-ghost use Rattle.plant_check_plans.specs.Batches.{control_asked_for, is_control, is_row_among};
-ghost use Rattle.plant_check_plans.specs.Batches.{is_right_batch};
-ghost use Rattle.plant_check_plans.specs.Batches.{are_batches};
+ghost use Rattle.plant_check_plans.specs.Batches.{control_asked_for, is_control};
 
-use crate::keys::{
-    Batches, BatchesOfOrders, ControlLines, Orders, RecipeLines, Recipes, control_of, has_batch,
-    has_one_batch, job_at, lines_of, recipe_at,
-};
-use crate::numbered::are_numbered;
+use crate::keys::{Orders, RecipeLines, Recipes, lines_of, recipe_at};
 use grouped_rows::Grouped;
-use plant_base::{
-    Amount, BatchRow, ControlLine, Header, Items, Job, MasterLine, Recipe, RecipeLine,
-};
+use plant_base::{Amount, ControlLine, Header, Items, Job, MasterLine, Recipe, RecipeLine};
 use plant_recipe::{Master, RecipeFault, control, is_size_of};
 use plant_view::lines_in;
 use std::alloc::{AllocError, Global};
@@ -31,28 +21,6 @@ pub struct Plans<'a> {
     pub lines: Grouped<'a, RecipeLines>,
     /// The orders by id.
     pub jobs: Grouped<'a, Orders>,
-}
-
-/// Whether each batch is the only one of its order, that order and its recipe are there, its lines, numbered from 1
-/// on, are the control recipe for the order's size with no input or output of 0, and no line is without its batch.
-/// The only error is that memory was refused.
-pub fn are_batches(
-    alloc: Global,
-    recipes: &[Recipe],
-    rows: &[MasterLine],
-    jobs: &[Job],
-    batches: &[BatchRow],
-    control: &[ControlLine],
-) -> Result<bool, AllocError>
-    ensures { IfOk result (λ b. b ≡ are_batches recipes.now rows.now jobs.now batches.now control.now) }
-{
-    let plans = Plans::new(alloc, recipes, rows, jobs)?;
-    let controls = Grouped::<ControlLines>::new(alloc, control)?;
-    if !are_right(alloc, &plans, batches, &controls)? {
-        return Ok(false);
-    }
-    let known = Grouped::<Batches>::new(alloc, batches)?;
-    Ok(are_of_batches(&known, control))
 }
 
 impl<'a> Plans<'a> {
@@ -147,49 +115,6 @@ fn control_of_master(
     }
 }
 
-// Whether each batch is right.
-fn are_right(
-    alloc: Global,
-    plans: &Plans,
-    batches: &[BatchRow],
-    controls: &Grouped<ControlLines>,
-) -> Result<bool, AllocError>
-    ensures { IfOk result
-        (λ b. b ≡ list_all (is_right_batch plans.now.recipes.rows.now plans.now.lines.rows.now
-        plans.now.jobs.rows.now batches.now controls.now.rows.now) batches.now) }
-{
-    let orders = Grouped::<BatchesOfOrders>::new(alloc, batches)?;
-    for batch in batches {
-        if !is_right(alloc, plans, &orders, controls, batch)? {
-            return Ok(false);
-        }
-    }
-    Ok(true)
-}
-
-#[tactic(auto, unfolding(crate::specs::Batches::is_right_batch))]
-fn is_right(
-    alloc: Global,
-    plans: &Plans,
-    orders: &Grouped<BatchesOfOrders>,
-    controls: &Grouped<ControlLines>,
-    batch: &BatchRow,
-) -> Result<bool, AllocError>
-    ensures { IfOk result
-        (λ b. b ≡ is_right_batch plans.now.recipes.rows.now plans.now.lines.rows.now
-        plans.now.jobs.rows.now orders.now.rows.now controls.now.rows.now batch.now) }
-{
-    let order = batch.batch.job;
-    let lines = control_of(controls, batch.batch.id);
-    let wanted = plans.control_asked_for(alloc, job_at(&plans.jobs, order))?;
-    let found = lines_among(alloc, lines)?;
-    Ok(
-        has_one_batch(orders, order)
-            && are_numbered(1, lines)
-            && is_control(&wanted, found.as_slice()),
-    )
-}
-
 /// The lines of the rows. The only error is that memory was refused.
 pub fn lines_among(alloc: Global, rows: &[ControlLine]) -> Result<Vec<RecipeLine>, AllocError>
     ensures { IfOk result (λ lines. lines.items ≡ map (λ r. r.line) rows.now) }
@@ -205,11 +130,4 @@ pub fn is_control(wanted: &Option<Items<RecipeLine>>, lines: &[RecipeLine]) -> b
         None => false,
         Some(control) => control.as_slice() == lines,
     }
-}
-
-// Whether no line is without its batch.
-fn are_of_batches(known: &Grouped<Batches>, control: &[ControlLine]) -> bool
-    ensures { result ≡ list_all (λ l. is_row_among known.now.rows.now l.batch) control.now }
-{
-    control.iter().all(|l| has_batch(known, l.batch))
 }

@@ -6,7 +6,7 @@ use Rattle.std.specs.List.{list_all}
 use Rattle.plant_base.specs.{BatchEvent, Movement}
 use Rattle.plant_check_stock.specs.Times.{row_mark_of, row_mark_of_event, row_marks, is_no_later, never_fall}
 use Rattle.plant_check_rows.specs.First.{fault_unless, or_fault}
-use Rattle.plant_check_rows.specs.declared.fault.RowFault.{RowFault}
+use Rattle.plant_check_rows.specs.{RowFault}
 use Rattle.plant_check_rows.specs.Numbers.{movement_before, fall_fault_in, event_before, event_fall_fault_in}
 
 abbrev Mark : Type 0

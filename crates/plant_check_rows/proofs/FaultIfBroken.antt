@@ -2,10 +2,8 @@
 use Rattle.std.proofs.Common.{◌≡◌, ◌∙◌, Bool, true, false, List, [], ◌∷◌, map, Option, Some, None, refl, ap}
 use Rattle.std.specs.Prelude.{◌&&◌, is_none}
 use Rattle.std.specs.List.{list_all}
-use Rattle.plant_check.specs.{Rule}
 use Rattle.plant_check_rows.specs.First.{fault_unless, or_fault, first_reported}
-use Rattle.plant_check_rows.specs.Findings.{found_by_row, found_by_test}
-use Rattle.plant_check_rows.specs.declared.fault.RowFault.{RowFault}
+use Rattle.plant_check_rows.specs.{RowFault}
 
 pub reported_none : (b : Bool) (f : RowFault) → is_none (fault_unless b f) ≡ b
 reported_none true f = refl
@@ -42,14 +40,6 @@ both_none (Some x) b p q e f = λ i. e i && q
 pub first_none : {R : Type 0} (fault_of : R → Option RowFault) (passes : R → Bool) → ((r : R) → is_none (fault_of r) ≡ passes r) → (rs : List R) → is_none (first_reported fault_of rs) ≡ list_all passes rs
 first_none fault_of passes each [] = refl
 first_none fault_of passes each (r ∷ rs) = both_none (fault_of r) (first_reported fault_of rs) (passes r) (list_all passes rs) (each r) (first_none fault_of passes each rs)
-
-pub row_none : (broken : Rule) (reported : Option RowFault) → is_none (found_by_row broken reported) ≡ is_none reported
-row_none broken None = refl
-row_none broken (Some f) = refl
-
-pub test_none : (broken : Rule) (b : Bool) (reported : Option RowFault) → is_none (found_by_test broken b reported) ≡ b
-test_none broken true reported = refl
-test_none broken false reported = refl
 
 pub all_mapped : {X Y : Type 0} (p : Y → Bool) (f : X → Y) (xs : List X) → list_all (λ x. p (f x)) xs ≡ list_all p (map f xs)
 all_mapped p f [] = refl

@@ -8,7 +8,7 @@ use Rattle.plant_view.specs.Genealogy.{edge_row_of}
 use Rattle.plant_view.specs.Tables.{edges_in}
 use Rattle.plant_check_rows.specs.Keys.{edge_key}
 use Rattle.plant_check_rows.specs.First.{as_a_whole, fault_unless, or_fault, first_reported}
-use Rattle.plant_check_rows.specs.declared.fault.RowFault.{RowFault}
+use Rattle.plant_check_rows.specs.{RowFault}
 use Rattle.plant_check_rows.specs.declared.fault.Table.TheVariants as table
 use Rattle.plant_check_rows.specs.declared.fault.Found.TheVariants as found
 use Rattle.plant_check_rows.specs.declared.fault.Wanted.TheVariants as wanted

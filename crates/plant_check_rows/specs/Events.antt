@@ -8,11 +8,8 @@ use Rattle.plant_view.specs.Tables.{phases_among, events_among}
 use Rattle.plant_check_plans.specs.Batches.{is_row_among}
 use Rattle.plant_check_plans.specs.Events.{kept_progress}
 use Rattle.plant_check_rows.specs.Keys.{id_key, number_key}
-use Rattle.plant_check_rows.specs.declared.fault.Column.{Column}
-use Rattle.plant_check_rows.specs.declared.fault.Found.{Found}
-use Rattle.plant_check_rows.specs.declared.fault.Wanted.{Wanted}
+use Rattle.plant_check_rows.specs.{Column, Found, RowFault, Wanted}
 use Rattle.plant_check_rows.specs.First.{in_column, names_none, fault_unless, or_fault, first_reported}
-use Rattle.plant_check_rows.specs.declared.fault.RowFault.{RowFault}
 use Rattle.plant_check_rows.specs.declared.fault.Table.TheVariants as table
 use Rattle.plant_check_rows.specs.declared.fault.Column.TheVariants as column
 use Rattle.plant_check_rows.specs.declared.fault.Found.TheVariants as found
@@ -24,9 +21,6 @@ batch_as b c f w = in_column (table.Batch, id_key b.batch.id) c f w
 
 abbrev pub number_as : BatchRow → Column → ℕ → ℕ → RowFault
 number_as b c m n = batch_as b c (found.Number m) (wanted.Number n)
-
-abbrev pub refused_event : BatchRow → Refusal → RowFault
-refused_event b refusal = batch_as b column.State (found.State b.state) (wanted.Allowed refusal)
 
 abbrev pub differ : Bool → Bool → Bool
 differ true b = not b
@@ -46,18 +40,15 @@ progress_fault p b =
 
 -- the batch, where one of its events was refused, or it has come elsewhere than they lead to
 abbrev pub run_found : Result Progress Refusal → BatchRow → Option RowFault
-run_found (Err refusal) b = Some (refused_event b refusal)
+run_found (Err refusal) b = Some (batch_as b column.State (found.State b.state) (wanted.Allowed refusal))
 run_found (Ok p) b = fault_unless (equal.eq p (kept_progress b)) (progress_fault p b)
 
 abbrev pub run_fault : List ControlLine → List BatchEvent → BatchRow → Option RowFault
 run_fault control events b = run_found (run_of (phases_among control b.batch.id) (events_among events b.batch.id)) b
 
-abbrev pub stray_event : BatchEvent → RowFault
-stray_event e = names_none (table.BatchEvent, number_key e.seq) column.Batch e.batch table.Batch
-
 -- the event, where its batch isn't there
 abbrev pub event_fault : List BatchRow → BatchEvent → Option RowFault
-event_fault batches e = fault_unless (is_row_among batches e.batch) (stray_event e)
+event_fault batches e = fault_unless (is_row_among batches e.batch) (names_none (table.BatchEvent, number_key e.seq) column.Batch e.batch table.Batch)
 
 abbrev pub event_fault_in : List ControlLine → List BatchEvent → List BatchRow → Option RowFault
 event_fault_in control events batches = or_fault (first_reported (run_fault control events) batches) (first_reported (event_fault batches) events)

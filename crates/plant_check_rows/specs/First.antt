@@ -1,12 +1,7 @@
 -- What is reported of a row, and the first fault that is reported.
 use Rattle.std.specs.Prelude.{ℕ, Bool, true, false, List, [], ◌∷◌, Option, Some, None}
-use Rattle.plant_check_rows.specs.declared.fault.Column.{Column}
-use Rattle.plant_check_rows.specs.declared.fault.Found.{Found}
+use Rattle.plant_check_rows.specs.{Column, Found, Key, RowFault, Table, Wanted}
 use Rattle.plant_check_rows.specs.declared.fault.Found.TheVariants as found
-use Rattle.plant_check_rows.specs.declared.fault.Key.{Key}
-use Rattle.plant_check_rows.specs.declared.fault.RowFault.{RowFault}
-use Rattle.plant_check_rows.specs.declared.fault.Table.{Table}
-use Rattle.plant_check_rows.specs.declared.fault.Wanted.{Wanted}
 use Rattle.plant_check_rows.specs.declared.fault.Wanted.TheVariants as wanted
 
 -- the fault of the row of this table and key: this is in a column, where that is wanted

@@ -19,8 +19,11 @@ pub mod Stored
 pub mod Values
 pub mod Findings
 pub use declared.fault.Column.{Column}
+pub use declared.fault.Found.{Found}
 pub use declared.fault.Key.{Key}
 pub use declared.fault.RowFault.{RowFault}
 pub use declared.fault.Table.{Table}
+pub use declared.fault.Wanted.{Wanted}
 pub use declared.finding.Finding.{Finding}
 pub use declared.finding.Tested.{Tested}
+pub use declared.value_rule.ValueRule.{ValueRule}

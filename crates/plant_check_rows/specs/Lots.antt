@@ -6,39 +6,26 @@ use Rattle.plant_tables_columns.specs.{BookedRow}
 use Rattle.plant_check.specs.Lots.{are_from_zero, sublots_among, is_lot_among, is_born}
 use Rattle.plant_check_rows.specs.Keys.{id_key, sublot_key, hold_key}
 use Rattle.plant_check_rows.specs.First.{names_none, as_a_whole, fault_unless, or_fault, first_reported}
-use Rattle.plant_check_rows.specs.declared.fault.RowFault.{RowFault}
+use Rattle.plant_check_rows.specs.{RowFault}
 use Rattle.plant_check_rows.specs.declared.fault.Table.TheVariants as table
 use Rattle.plant_check_rows.specs.declared.fault.Column.TheVariants as column
 use Rattle.plant_check_rows.specs.declared.fault.Wanted.TheVariants as wanted
 
-abbrev pub undefined_lot : Lot → RowFault
-undefined_lot l = names_none (table.Lot, id_key l.id) column.Def l.def table.Definition
-
-abbrev pub unnumbered_lot : Lot → RowFault
-unnumbered_lot l = as_a_whole (table.Lot, id_key l.id) (wanted.NumberedFrom table.Sublot 0)
-
 -- the lot, where its definition isn't there, or its sublots aren't numbered from 0 on
 abbrev pub lot_fault : List Definition → List Sublot → Lot → Option RowFault
 lot_fault definitions sublots l =
-    or_fault (fault_unless (is_defined definitions l.def) (undefined_lot l))
-    (fault_unless (are_from_zero (map (λ s. s.number) (sublots_among sublots l.id))) (unnumbered_lot l))
-
-abbrev pub stray_sublot : Sublot → RowFault
-stray_sublot s = names_none (table.Sublot, sublot_key s) column.Lot s.lot table.Lot
-
-abbrev pub unborn_sublot : Sublot → RowFault
-unborn_sublot s = as_a_whole (table.Sublot, sublot_key s) wanted.Birth
+    or_fault (fault_unless (is_defined definitions l.def) (names_none (table.Lot, id_key l.id) column.Def l.def table.Definition))
+    (fault_unless (are_from_zero (map (λ s. s.number) (sublots_among sublots l.id))) (as_a_whole (table.Lot, id_key l.id) (wanted.NumberedFrom table.Sublot 0)))
 
 -- the sublot, where its lot isn't there, or it didn't come to be once
 abbrev pub sublot_fault : List Lot → List BookedRow → Sublot → Option RowFault
-sublot_fault lots rows s = or_fault (fault_unless (is_lot_among lots s.lot) (stray_sublot s)) (fault_unless (is_born rows s) (unborn_sublot s))
-
-abbrev pub stray_hold : Hold → RowFault
-stray_hold h = names_none (table.Hold, hold_key h) column.Lot h.lot table.Lot
+sublot_fault lots rows s =
+    or_fault (fault_unless (is_lot_among lots s.lot) (names_none (table.Sublot, sublot_key s) column.Lot s.lot table.Lot))
+    (fault_unless (is_born rows s) (as_a_whole (table.Sublot, sublot_key s) wanted.Birth))
 
 -- the hold, where its lot isn't there
 abbrev pub hold_fault : List Lot → Hold → Option RowFault
-hold_fault lots h = fault_unless (is_lot_among lots h.lot) (stray_hold h)
+hold_fault lots h = fault_unless (is_lot_among lots h.lot) (names_none (table.Hold, hold_key h) column.Lot h.lot table.Lot)
 
 abbrev pub lot_fault_in : List Definition → List Lot → List Sublot → List Hold → List BookedRow → Option RowFault
 lot_fault_in definitions lots sublots holds rows =

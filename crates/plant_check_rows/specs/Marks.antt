@@ -8,9 +8,7 @@ use Rattle.plant_view.specs.Genealogy.{edges_among}
 use Rattle.plant_view.specs.Recalls.{marks}
 use Rattle.plant_check_rows.specs.Keys.{mark_key}
 use Rattle.plant_check_rows.specs.First.{fault_unless, or_fault, first_reported}
-use Rattle.plant_check_rows.specs.declared.fault.Found.{Found}
-use Rattle.plant_check_rows.specs.declared.fault.RowFault.{RowFault}
-use Rattle.plant_check_rows.specs.declared.fault.Wanted.{Wanted}
+use Rattle.plant_check_rows.specs.{Found, RowFault, Wanted}
 use Rattle.plant_check_rows.specs.declared.fault.Table.TheVariants as table
 use Rattle.plant_check_rows.specs.declared.fault.Found.TheVariants as found
 use Rattle.plant_check_rows.specs.declared.fault.Wanted.TheVariants as wanted

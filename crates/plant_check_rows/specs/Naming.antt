@@ -1,8 +1,7 @@
 -- The names of tables and columns in the file.
 use Rattle.std.specs.Prelude.{ℕ, List, codes}
-use Rattle.plant_check_rows.specs.declared.fault.Table.{Table}
+use Rattle.plant_check_rows.specs.{Column, Table}
 use Rattle.plant_check_rows.specs.declared.fault.Table.TheVariants as table
-use Rattle.plant_check_rows.specs.declared.fault.Column.{Column}
 use Rattle.plant_check_rows.specs.declared.fault.Column.TheVariants as column
 
 abbrev pub table_name : Table → List ℕ

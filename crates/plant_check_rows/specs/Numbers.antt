@@ -6,13 +6,8 @@ use Rattle.plant_check_stock.specs.Numbering.{is_given, is_next_line, is_apart, 
 use Rattle.plant_check_stock.specs.Times.{row_mark_of, row_mark_of_event, is_no_later}
 use Rattle.plant_check_rows.specs.Keys.{booked_key, id_key, number_key, hold_key}
 use Rattle.plant_check_rows.specs.Movements.{movement_as}
-use Rattle.plant_check_rows.specs.declared.fault.Column.{Column}
-use Rattle.plant_check_rows.specs.declared.fault.Found.{Found}
-use Rattle.plant_check_rows.specs.declared.fault.Key.{Key}
-use Rattle.plant_check_rows.specs.declared.fault.Table.{Table}
-use Rattle.plant_check_rows.specs.declared.fault.Wanted.{Wanted}
+use Rattle.plant_check_rows.specs.{Column, Found, Key, RowFault, Table, Wanted}
 use Rattle.plant_check_rows.specs.First.{in_column, fault_unless, or_fault, first_reported}
-use Rattle.plant_check_rows.specs.declared.fault.RowFault.{RowFault}
 use Rattle.plant_check_rows.specs.declared.fault.Table.TheVariants as table
 use Rattle.plant_check_rows.specs.declared.fault.Column.TheVariants as column
 use Rattle.plant_check_rows.specs.declared.fault.Found.TheVariants as found

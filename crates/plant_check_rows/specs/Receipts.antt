@@ -6,10 +6,7 @@ use Rattle.plant_check_stock.specs.Numbering.{is_given}
 use Rattle.plant_check_stock.specs.Receipts.{seqs_of}
 use Rattle.plant_check_rows.specs.Keys.{id_key}
 use Rattle.plant_check_rows.specs.First.{in_column, fault_unless, or_fault, first_reported}
-use Rattle.plant_check_rows.specs.declared.fault.Column.{Column}
-use Rattle.plant_check_rows.specs.declared.fault.Found.{Found}
-use Rattle.plant_check_rows.specs.declared.fault.Wanted.{Wanted}
-use Rattle.plant_check_rows.specs.declared.fault.RowFault.{RowFault}
+use Rattle.plant_check_rows.specs.{Column, Found, RowFault, Wanted}
 use Rattle.plant_check_rows.specs.declared.fault.Table.TheVariants as table
 use Rattle.plant_check_rows.specs.declared.fault.Column.TheVariants as column
 use Rattle.plant_check_rows.specs.declared.fault.Found.TheVariants as found

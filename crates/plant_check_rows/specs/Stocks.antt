@@ -5,19 +5,15 @@ use Rattle.plant_tables_columns.specs.{BookedRow}
 use Rattle.plant_check.specs.Ends.{entries, exits, total_booked}
 use Rattle.plant_check_rows.specs.First.{in_column, fault_unless, first_reported}
 use Rattle.plant_check_rows.specs.Keys.{sublot_key}
-use Rattle.plant_check_rows.specs.declared.fault.RowFault.{RowFault}
+use Rattle.plant_check_rows.specs.{RowFault}
 use Rattle.plant_check_rows.specs.declared.fault.Table.TheVariants as table
 use Rattle.plant_check_rows.specs.declared.fault.Column.TheVariants as column
 use Rattle.plant_check_rows.specs.declared.fault.Found.TheVariants as found
 use Rattle.plant_check_rows.specs.declared.fault.Wanted.TheVariants as wanted
 
--- the sublot, where so much entered and so much left
-abbrev pub wrong_stock : ℕ → ℕ → Sublot → RowFault
-wrong_stock entered left s = in_column (table.Sublot, sublot_key s) column.Stock (found.Number s.stock) (wanted.Stock entered left)
-
 -- the sublot, where its stock isn't what entered less what left
 abbrev pub stock_found : ℕ → ℕ → Sublot → Option RowFault
-stock_found entered left s = fault_unless (s.stock + left == entered) (wrong_stock entered left s)
+stock_found entered left s = fault_unless (s.stock + left == entered) (in_column (table.Sublot, sublot_key s) column.Stock (found.Number s.stock) (wanted.Stock entered left))
 
 abbrev pub stock_fault : List BookedRow → List BookedRow → Sublot → Option RowFault
 stock_fault entering leaving s = stock_found (total_booked (entries entering s.lot s.number)) (total_booked (exits leaving s.lot s.number)) s

@@ -6,11 +6,9 @@ use Rattle.sqlite.specs.Order.{Row, column}
 use Rattle.plant_base.specs.Options.{◌>>=◌}
 use Rattle.plant_base.specs.Values.{is_text}
 use Rattle.plant_tables_columns.specs.Reading.{greatest_number, id_from, number_from}
-use Rattle.plant_check_rows.specs.declared.fault.Found.{Found}
+use Rattle.plant_check_rows.specs.{Found, Key, Table}
 use Rattle.plant_check_rows.specs.declared.fault.Found.TheVariants as found
-use Rattle.plant_check_rows.specs.declared.fault.Key.{Key}
 use Rattle.plant_check_rows.specs.declared.fault.Key.TheVariants as key
-use Rattle.plant_check_rows.specs.declared.fault.Table.{Table}
 use Rattle.plant_check_rows.specs.declared.fault.Table.TheVariants as table
 
 -- a text of the desk as it is, and of any other its kind

@@ -6,15 +6,10 @@ use Rattle.plant_base.specs.Words.{batch_state_name, job_state_name}
 use Rattle.plant_tables_columns.specs.{MovementKindCode}
 use Rattle.plant_tables_columns.specs.declared.booked.MovementKindCode.TheVariants as kind_code
 use Rattle.plant_check_rows.specs.Naming.{table_name, column_name}
-use Rattle.plant_check_rows.specs.declared.fault.Key.{Key}
+use Rattle.plant_check_rows.specs.{Column, Found, Key, RowFault, ValueRule, Wanted}
 use Rattle.plant_check_rows.specs.declared.fault.Key.TheVariants as key
-use Rattle.plant_check_rows.specs.declared.fault.Column.{Column}
-use Rattle.plant_check_rows.specs.declared.fault.Found.{Found}
 use Rattle.plant_check_rows.specs.declared.fault.Found.TheVariants as found
-use Rattle.plant_check_rows.specs.declared.fault.Wanted.{Wanted}
 use Rattle.plant_check_rows.specs.declared.fault.Wanted.TheVariants as wanted
-use Rattle.plant_check_rows.specs.declared.fault.RowFault.{RowFault}
-use Rattle.plant_check_rows.specs.declared.value_rule.ValueRule.{ValueRule}
 use Rattle.plant_check_rows.specs.declared.value_rule.ValueRule.TheVariants as rule
 
 abbrev pub key_text : Key → List ℕ

@@ -9,7 +9,7 @@ use Rattle.plant_base.specs.Values.{is_id, is_text, is_unit}
 use Rattle.plant_base.specs.Words.{recipe_state_name, job_state_name, batch_state_name, word_name}
 use Rattle.plant_tables_columns.specs.Naming.{all_recipe_states, all_job_states, all_batch_states, all_recall_states, all_words, recall_state_name}
 use Rattle.plant_tables_columns.specs.Reading.{is_in, is_no_text}
-use Rattle.plant_check_rows.specs.declared.value_rule.ValueRule.{ValueRule}
+use Rattle.plant_check_rows.specs.{ValueRule}
 use Rattle.plant_check_rows.specs.declared.value_rule.ValueRule.TheVariants as rule
 
 abbrev pub allows_null : ValueRule → Bool

@@ -9,13 +9,9 @@ use Rattle.plant_check_rows.specs.ColumnRules.{rules_of}
 use Rattle.plant_check_rows.specs.Stored.{found_in, key_or_place}
 use Rattle.plant_check_rows.specs.ValueRules.{obeys}
 use Rattle.plant_check_rows.specs.declared.values.BadValue.{BadValue}
-use Rattle.plant_check_rows.specs.declared.fault.Column.{Column}
-use Rattle.plant_check_rows.specs.declared.fault.Key.{Key}
-use Rattle.plant_check_rows.specs.declared.fault.RowFault.{RowFault}
-use Rattle.plant_check_rows.specs.declared.fault.Table.{Table}
+use Rattle.plant_check_rows.specs.{Column, Key, RowFault, Table, ValueRule}
 use Rattle.plant_check_rows.specs.declared.fault.Table.TheVariants as table
 use Rattle.plant_check_rows.specs.declared.fault.Wanted.TheVariants as wanted
-use Rattle.plant_check_rows.specs.declared.value_rule.ValueRule.{ValueRule}
 
 -- the value of the column of this index, which breaks the rule of the column
 abbrev pub bad_value : Column × ValueRule → Row → ℕ → BadValue

@@ -1,5 +1,6 @@
 //! Edges that no movement makes, and edges that are missing.
 ghost use Rattle.std.specs.Prelude.{◌≡◌, IfOk, Option};
+ghost use Rattle.plant_check.specs.Broken.{movements_in};
 ghost use Rattle.plant_check_rows.specs.Edges.{edge_fault_in, is_edge_among, missing_edge, missing_edge_fault};
 ghost use Rattle.plant_check_rows.specs.Edges.{stray_edge_fault};
 ghost use Rattle.plant_check_rows.specs.First.{first_reported};
@@ -10,6 +11,7 @@ use crate::keys::edge_key;
 use grouped_rows::{Grouped, Grouping};
 use plant_base::{EdgeRow, Movement};
 use plant_check::edges::edges_in;
+use plant_check::history::movements_in;
 use plant_tables_read::DeskRows;
 use plant_view::edge_row;
 use std::alloc::{AllocError, Global};
@@ -111,17 +113,14 @@ fn unkept_edge(
 
 /// The first edge that no movement makes, or else the first that a movement makes and that isn't there, in a schema that keeps
 /// edges. The only error is that memory was refused.
-pub(crate) fn edge_fault(
-    alloc: Global,
-    rows: &DeskRows,
-    movements: &[Movement],
-) -> Result<Option<RowFault>, AllocError>
-    ensures { IfOk result (λ reported. reported ≡ edge_fault_in rows.now.meta.schema rows.now.edges.items movements.now) }
+pub(crate) fn edge_fault(alloc: Global, rows: &DeskRows) -> Result<Option<RowFault>, AllocError>
+    ensures { IfOk result (λ reported. reported
+        ≡ edge_fault_in rows.now.meta.schema rows.now.edges.items (movements_in rows.now.movements.items)) }
 {
-    let schema = rows.meta.schema;
-    let edges = rows.edges.as_slice();
-    let made = edges_in(alloc, schema, movements)?;
+    let movements = movements_in(alloc, rows.movements.as_slice())?;
+    let (schema, edges) = (rows.meta.schema, rows.edges.as_slice());
+    let made = edges_in(alloc, schema, movements.as_slice())?;
     let stray = stray_edge(alloc, made.as_slice(), edges)?;
-    let missing = unkept_edge(alloc, schema, edges, movements)?;
+    let missing = unkept_edge(alloc, schema, edges, movements.as_slice())?;
     Ok(or_fault(stray, missing))
 }

@@ -1,11 +1,11 @@
 //! Batches and events that break a rule.
 ghost use Rattle.std.specs.Prelude.{◌≡◌, IfOk, Result};
 ghost use Rattle.plant_check_rows.specs.Events.{batch_as, closed_number, differ, event_fault, event_fault_in};
-ghost use Rattle.plant_check_rows.specs.Events.{number_as, progress_fault, refused_event, run_fault, run_found};
+ghost use Rattle.plant_check_rows.specs.Events.{number_as, progress_fault, run_fault, run_found};
 ghost use Rattle.plant_check_rows.specs.First.{first_reported};
 
 use crate::fault::{Column, Found, RowFault, Table, Wanted};
-use crate::first::{RowRule, fault_unless, first_fault, in_column, names_none, or_fault};
+use crate::first::{RowRule, first_fault, in_column, names_none};
 use crate::keys::{id_key, number_key};
 use grouped_rows::Grouped;
 use plant_base::{BatchEvent, BatchRow, Refusal};
@@ -21,13 +21,6 @@ fn batch_as(batch: &BatchRow, column: Column, found: Found, wanted: Wanted) -> R
 {
     let place = (Table::Batch, id_key(batch.batch.id));
     in_column(place, column, found, wanted)
-}
-
-fn refused_event(batch: &BatchRow, refusal: Refusal) -> RowFault
-    ensures { result ≡ refused_event batch.now refusal }
-{
-    let found = Found::State(batch.state);
-    batch_as(batch, Column::State, found, Wanted::Allowed(refusal))
 }
 
 fn differ(a: bool, b: bool) -> bool
@@ -75,11 +68,12 @@ fn run_found(run: Result<Progress, Refusal>, batch: &BatchRow) -> Option<RowFaul
     ensures { result ≡ run_found run batch.now }
 {
     match run {
-        Err(refusal) => Some(refused_event(batch, refusal)),
-        Ok(progress) => {
-            let is_kept = progress == kept_progress(batch);
-            fault_unless(is_kept, progress_fault(&progress, batch))
+        Err(refusal) => {
+            let (found, wanted) = (Found::State(batch.state), Wanted::Allowed(refusal));
+            Some(batch_as(batch, Column::State, found, wanted))
         }
+        Ok(progress) if progress == kept_progress(batch) => None,
+        Ok(progress) => Some(progress_fault(&progress, batch)),
     }
 }
 
@@ -107,9 +101,11 @@ impl<'a> RowRule<BatchEvent> for Grouped<'a, Batches> {
     ghost fault_of = { λ t e. event_fault t.rows.now e };
 
     fn fault(&self, _alloc: Global, row: &BatchEvent) -> Result<Option<RowFault>, AllocError> {
+        if has_batch(self, row.batch) {
+            return Ok(None);
+        }
         let place = (Table::BatchEvent, number_key(row.seq));
-        let fault = names_none(place, Column::Batch, row.batch, Table::Batch);
-        Ok(fault_unless(has_batch(self, row.batch), fault))
+        Ok(Some(names_none(place, Column::Batch, row.batch, Table::Batch)))
     }
 }
 
@@ -123,18 +119,16 @@ fn wrong_run(alloc: Global, rows: &DeskRows) -> Result<Option<RowFault>, AllocEr
     first_fault(alloc, &runs, rows.batches.as_slice())
 }
 
-fn stray_event(alloc: Global, rows: &DeskRows) -> Result<Option<RowFault>, AllocError>
-    ensures { IfOk result (λ reported. reported ≡ first_reported (event_fault rows.now.batches.items) rows.now.events.items) }
-{
-    let batches = Grouped::<Batches>::new(alloc, rows.batches.as_slice())?;
-    first_fault(alloc, &batches, rows.events.as_slice())
-}
-
 /// The first batch that hasn't come as far as its columns say, or else the first event without its batch. The only error is
 /// that memory was refused.
 pub(crate) fn event_fault(alloc: Global, rows: &DeskRows) -> Result<Option<RowFault>, AllocError>
     ensures { IfOk result (λ reported. reported
         ≡ event_fault_in rows.now.control_lines.items rows.now.events.items rows.now.batches.items) }
 {
-    Ok(or_fault(wrong_run(alloc, rows)?, stray_event(alloc, rows)?))
+    let wrong = wrong_run(alloc, rows)?;
+    if let Some(fault) = wrong {
+        return Ok(Some(fault));
+    }
+    let batches = Grouped::<Batches>::new(alloc, rows.batches.as_slice())?;
+    first_fault(alloc, &batches, rows.events.as_slice())
 }

@@ -1,9 +1,10 @@
 //! The broken rules, each with the first row that breaks it.
-ghost use Rattle.std.specs.Prelude.{◌≡◌, IfOk, filter};
+ghost use Rattle.std.specs.Prelude.{◌≡◌, IfOk, true, not, filter, find};
 ghost use Rattle.plant_tables_read.specs.Collecting.{rows_listed};
+ghost use Rattle.plant_check.specs.Broken.{first_broken_of, obeys, tested_rules};
 ghost use Rattle.plant_check_rows.specs.Values.{AreUnreadIfBad};
 ghost use Rattle.plant_check_rows.specs.Findings as spec;
-ghost use Rattle.plant_check_rows.specs.Findings.{AreFindingsOf, IsFoundWhereBroken, IsFirstFound, IsTestOf};
+ghost use Rattle.plant_check_rows.specs.Findings.{AreFindingsOf, IsFirstFound, IsFoundByRow, IsFoundWhereBroken, IsTestOf};
 
 use crate::edges::edge_fault;
 use crate::events::event_fault;
@@ -17,10 +18,8 @@ use crate::receipts::receipt_fault;
 use crate::recipes::recipe_fault;
 use crate::stocks::stock_fault;
 use crate::values::value_fault_in;
-use plant_base::Movement;
 use plant_check::Rule;
 use plant_check::checking::{are_edges_of, are_numbers_of, are_right_recalls};
-use plant_check::history::movements_in;
 use plant_check_stock::are_receipts;
 use plant_tables_read::{DeskRows, Loaded, has_meta, rows_of};
 use std::alloc::{AllocError, Global};
@@ -68,7 +67,7 @@ pub fn rule_text(rule: Rule) -> &'static str
 
 /// The rules that rows are tested by whose values obey theirs, in their order.
 fn tested_rules() -> [Rule; 12]
-    ensures { result ≡ spec.tested_rules }
+    ensures { result ≡ tested_rules }
 {
     [
         Rule::Classes,
@@ -86,75 +85,93 @@ fn tested_rules() -> [Rule; 12]
     ]
 }
 
-/// The rule, where a row breaks it.
-fn found_by_row(rule: Rule, row: Option<RowFault>) -> Option<Finding>
-    ensures { result ≡ spec.found_by_row rule row }
-{
-    match row {
-        None => None,
-        Some(row) => Some(Finding {
-            rule,
-            row: Some(row),
-        }),
-    }
-}
-
-/// The rule, where it isn't obeyed, with the row where one is known.
-fn found_by_test(rule: Rule, obeyed: bool, row: Option<RowFault>) -> Option<Finding>
-    ensures { result ≡ spec.found_by_test rule obeyed row }
-{
-    if obeyed {
-        None
-    } else {
-        Some(Finding { rule, row })
-    }
-}
-
-/// What is found of a rule.
+/// The first row that breaks the rule, where one is known.
 #[tactic(auto, unfolding(plant_tables_read::specs::Collecting::rows_listed))]
-fn finding_of(
-    alloc: Global,
-    rule: Rule,
-    rows: &DeskRows,
-    movements: &[Movement],
-) -> Result<Option<Finding>, AllocError>
-    ensures { IfOk result (λ found. found ≡ spec.finding_of rule (rows_listed rows.now) movements.now) }
+fn row_fault(alloc: Global, rule: Rule, rows: &DeskRows) -> Result<Option<RowFault>, AllocError>
+    ensures { IfOk result (λ reported. reported ≡ spec.row_fault rule (rows_listed rows.now)) }
 {
     match rule {
         Rule::Tables | Rule::Values => Ok(None),
-        Rule::Classes => Ok(found_by_row(rule, class_fault(alloc, rows)?)),
-        Rule::Recipes => Ok(found_by_row(rule, recipe_fault(alloc, rows)?)),
-        Rule::Orders => Ok(found_by_row(rule, order_fault(alloc, rows)?)),
-        Rule::Batches => Ok(found_by_row(rule, batch_fault(alloc, rows)?)),
-        Rule::Stocks => Ok(found_by_row(rule, stock_fault(alloc, rows)?)),
-        Rule::Lots => Ok(found_by_row(rule, lot_fault(alloc, rows)?)),
-        Rule::Movements => Ok(found_by_row(rule, movement_fault(alloc, rows, movements)?)),
-        Rule::Events => Ok(found_by_row(rule, event_fault(alloc, rows)?)),
-        Rule::Numbers => {
-            let obeyed = are_numbers_of(alloc, rows, movements)?;
-            Ok(found_by_test(rule, obeyed, number_fault(alloc, rows, movements)?))
-        }
-        Rule::Descent => {
-            let obeyed = are_edges_of(alloc, rows, movements)?;
-            Ok(found_by_test(rule, obeyed, edge_fault(alloc, rows, movements)?))
-        }
-        Rule::Receipts => {
-            let seq = rows.meta.position.seq;
-            let obeyed = are_receipts(alloc, seq, rows.receipts.as_slice())?;
-            Ok(found_by_test(rule, obeyed, receipt_fault(alloc, rows)?))
-        }
-        Rule::Recalls => {
-            let obeyed = are_right_recalls(alloc, rows)?;
-            Ok(found_by_test(rule, obeyed, recall_fault(alloc, rows, movements)?))
+        Rule::Classes => class_fault(alloc, rows),
+        Rule::Recipes => recipe_fault(alloc, rows),
+        Rule::Orders => order_fault(alloc, rows),
+        Rule::Batches => batch_fault(alloc, rows),
+        Rule::Stocks => stock_fault(alloc, rows),
+        Rule::Lots => lot_fault(alloc, rows),
+        Rule::Movements => movement_fault(alloc, rows),
+        Rule::Events => event_fault(alloc, rows),
+        Rule::Numbers => number_fault(alloc, rows),
+        Rule::Descent => edge_fault(alloc, rows),
+        Rule::Receipts => receipt_fault(alloc, rows),
+        Rule::Recalls => recall_fault(alloc, rows),
+    }
+}
+
+/// Whether no row breaks the rule, one that is broken by a row alone.
+fn passes_by_row(alloc: Global, rule: Rule, rows: &DeskRows) -> Result<bool, AllocError>
+    requires { spec.is_broken_by_row rule ≡ true }
+    ensures { IfOk result (λ b. b ≡ obeys rule (rows_listed rows.now)) }
+{
+    match row_fault(alloc, rule, rows) {
+        Ok(None) => Ok(true),
+        Ok(Some(_)) => Ok(false),
+        Err(refused) => Err(refused),
+    }
+}
+
+/// Whether the rows obey the rule. Where a row breaks it in any case, they obey it where none is found; the others are tested apart.
+/// The only error is that memory was refused.
+#[tactic(auto, unfolding(plant_tables_read::specs::Collecting::rows_listed))]
+fn obeys(alloc: Global, rule: Rule, rows: &DeskRows) -> Result<bool, AllocError>
+    ensures { IfOk result (λ b. b ≡ obeys rule (rows_listed rows.now)) }
+{
+    match rule {
+        Rule::Numbers => are_numbers_of(alloc, rows),
+        Rule::Descent => are_edges_of(alloc, rows),
+        Rule::Receipts => are_receipts(alloc, rows.meta.position.seq, rows.receipts.as_slice()),
+        Rule::Recalls => are_right_recalls(alloc, rows),
+        _ => passes_by_row(alloc, rule, rows),
+    }
+}
+
+/// What is found of a rule: nothing where the rows obey it.
+fn finding_of(alloc: Global, rule: Rule, rows: &DeskRows) -> Result<Option<Finding>, AllocError>
+    ensures { IfOk result (λ found. found ≡ spec.finding_of rule (rows_listed rows.now)) }
+{
+    if obeys(alloc, rule, rows)? {
+        return Ok(None);
+    }
+    let row = row_fault(alloc, rule, rows)?;
+    Ok(Some(Finding { rule, row }))
+}
+
+fn first_broken_among(
+    alloc: Global,
+    rules: &[Rule],
+    rows: &DeskRows,
+) -> Result<Option<Rule>, AllocError>
+    ensures { IfOk result (λ broken. broken ≡ find (λ r. not (obeys r (rows_listed rows.now))) rules.now) }
+{
+    for rule in rules {
+        if !obeys(alloc, *rule, rows)? {
+            return Ok(Some(*rule));
         }
     }
+    Ok(None)
+}
+
+/// The first rule that rows break whose values obey theirs, if they break one. The only error is that memory was refused.
+#[tactic(auto, unfolding(plant_check::specs::Broken::first_broken_of))]
+pub fn check_rows(alloc: Global, rows: &DeskRows) -> Result<Option<Rule>, AllocError>
+    ensures { IfOk result (λ broken. broken ≡ first_broken_of (rows_listed rows.now)) }
+{
+    first_broken_among(alloc, &tested_rules(), rows)
 }
 
 /// Rows whose values obey their rules, with the rules that they break.
 #[derive(Drop)]
 pub struct Tested {
     rows: DeskRows,
-    movements: Vec<Movement>,
     /// The broken rules, in their order.
     pub rules: Vec<Rule>,
 }
@@ -162,41 +179,18 @@ pub struct Tested {
 impl Tested {
     /// What is found of a rule: nothing where the rows obey it. The only error is that memory was refused.
     pub fn of_rule(&self, alloc: Global, rule: Rule) -> Result<Option<Finding>, AllocError>
-        ensures { IfOk result (λ found. found
-            ≡ spec.finding_of rule (rows_listed self.now.rows) self.now.movements.items) }
+        ensures { IfOk result (λ found. found ≡ spec.finding_of rule (rows_listed self.now.rows)) }
     {
-        finding_of(alloc, rule, &self.rows, self.movements.as_slice())
+        finding_of(alloc, rule, &self.rows)
     }
 }
 
-/// Whether the rows break the rule. The only error is that memory was refused.
-fn is_broken(
-    alloc: Global,
-    rule: Rule,
-    rows: &DeskRows,
-    movements: &[Movement],
-) -> Result<bool, AllocError>
-    ensures { IfOk result (λ b. b ≡ spec.is_broken rule (rows_listed rows.now) movements.now) }
-{
-    match finding_of(alloc, rule, rows, movements) {
-        Ok(None) => Ok(false),
-        Ok(Some(_)) => Ok(true),
-        Err(refused) => Err(refused),
-    }
-}
-
-fn broken_among(
-    alloc: Global,
-    rules: &[Rule],
-    rows: &DeskRows,
-    movements: &[Movement],
-) -> Result<Vec<Rule>, AllocError>
-    ensures { IfOk result (λ list. list.items
-        ≡ filter (λ r. spec.is_broken r (rows_listed rows.now) movements.now) rules.now) }
+fn broken_among(alloc: Global, rules: &[Rule], rows: &DeskRows) -> Result<Vec<Rule>, AllocError>
+    ensures { IfOk result (λ list. list.items ≡ filter (λ r. not (obeys r (rows_listed rows.now))) rules.now) }
 {
     let mut list = Vec::new(alloc);
     for rule in rules {
-        if is_broken(alloc, *rule, rows, movements)? {
+        if !obeys(alloc, *rule, rows)? {
             list.push(*rule)?;
         }
     }
@@ -204,17 +198,11 @@ fn broken_among(
 }
 
 /// Tests rows whose values obey theirs by each other rule. The only error is that memory was refused.
-#[tactic(auto, unfolding(plant_tables_read::specs::Collecting::rows_listed))]
 pub fn test_rows(alloc: Global, rows: DeskRows) -> Result<Tested, AllocError>
     ensures { IfOk result (IsTestOf rows) }
 {
-    let movements = movements_in(alloc, rows.movements.as_slice())?;
-    let rules = broken_among(alloc, &tested_rules(), &rows, movements.as_slice())?;
-    Ok(Tested {
-        rows,
-        movements,
-        rules,
-    })
+    let rules = broken_among(alloc, &tested_rules(), &rows)?;
+    Ok(Tested { rows, rules })
 }
 
 /// What is found of all rows that were loaded.
@@ -244,10 +232,12 @@ pub fn test_loaded(alloc: Global, loaded: &Loaded) -> Result<Findings, AllocErro
 /// What findings say, as laws that a proof above may cite. It does nothing when it runs.
 ///
 /// - `broken`: of rows whose values obey their rules each other rule is found exactly where they don't obey it.
+/// - `by_row`: and then with a row, but for numbers, descent, receipts and recalls.
 /// - `first`: the first rule that is found of loaded rows is the first that they break.
 /// - `unread`: no row is read of which a value breaks the rule of its column.
 pub fn findings_law()
     ensures broken { IsFoundWhereBroken }
+    ensures by_row { IsFoundByRow }
     ensures first { IsFirstFound }
     ensures unread { AreUnreadIfBad }
 {}

@@ -9,7 +9,7 @@ use std::alloc::{AllocError, Global};
 /// What each row of a table has to obey by itself, given the rows that it is compared with.
 pub(crate) trait RowRule<R> {
     ghost use Rattle.std.specs.Prelude.{◌≡◌, Option, IfOk};
-    ghost use Rattle.plant_check_rows.specs.declared.fault.RowFault.{RowFault as Reported};
+    ghost use Rattle.plant_check_rows.specs.{RowFault as Reported};
 
     /// What is wrong with a row.
     ghost fault_of: { Self → R → Option Reported };

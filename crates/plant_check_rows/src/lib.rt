@@ -23,5 +23,7 @@ mod value_rule;
 mod values;
 
 pub use fault::{Column, Found, Key, RowFault, Table, Wanted};
-pub use finding::{Finding, Findings, Tested, findings_law, rule_text, test_loaded, test_rows};
+pub use finding::{
+    Finding, Findings, Tested, check_rows, findings_law, rule_text, test_loaded, test_rows,
+};
 pub use value_rule::ValueRule;

@@ -4,7 +4,7 @@ ghost use Rattle.plant_check_rows.specs.Lots.{hold_fault, lot_fault, lot_fault_i
 ghost use Rattle.plant_check_rows.specs.First.{first_reported};
 
 use crate::fault::{Column, RowFault, Table, Wanted};
-use crate::first::{RowRule, as_a_whole, fault_unless, first_fault, names_none, or_fault};
+use crate::first::{RowRule, as_a_whole, first_fault, names_none, or_fault};
 use crate::keys::{hold_key, id_key, sublot_key};
 use grouped_rows::Grouped;
 use plant_base::{Hold, Lot, Sublot};
@@ -29,14 +29,13 @@ impl<'a> RowRule<Lot> for Defined<'a> {
 
     fn fault(&self, _alloc: Global, row: &Lot) -> Result<Option<RowFault>, AllocError> {
         let place = (Table::Lot, id_key(row.id));
-        let undefined = names_none(place, Column::Def, row.def, Table::Definition);
-        let numbered = Wanted::NumberedFrom(Table::Sublot, 0);
-        let unnumbered = as_a_whole((Table::Lot, id_key(row.id)), numbered);
-        let sublots = sublots_of(&self.sublots, row.id);
-        Ok(or_fault(
-            fault_unless(has_definition(&self.definitions, row.def), undefined),
-            fault_unless(are_from_zero(sublots), unnumbered),
-        ))
+        if !has_definition(&self.definitions, row.def) {
+            return Ok(Some(names_none(place, Column::Def, row.def, Table::Definition)));
+        }
+        if are_from_zero(sublots_of(&self.sublots, row.id)) {
+            return Ok(None);
+        }
+        Ok(Some(as_a_whole(place, Wanted::NumberedFrom(Table::Sublot, 0))))
     }
 }
 
@@ -54,12 +53,13 @@ impl<'a> RowRule<Sublot> for Born<'a> {
 
     fn fault(&self, _alloc: Global, row: &Sublot) -> Result<Option<RowFault>, AllocError> {
         let place = (Table::Sublot, sublot_key(row));
-        let stray = names_none(place, Column::Lot, row.lot, Table::Lot);
-        let unborn = as_a_whole((Table::Sublot, sublot_key(row)), Wanted::Birth);
-        Ok(or_fault(
-            fault_unless(has_lot(&self.lots, row.lot), stray),
-            fault_unless(is_born(&self.entered, row), unborn),
-        ))
+        if !has_lot(&self.lots, row.lot) {
+            return Ok(Some(names_none(place, Column::Lot, row.lot, Table::Lot)));
+        }
+        if is_born(&self.entered, row) {
+            return Ok(None);
+        }
+        Ok(Some(as_a_whole(place, Wanted::Birth)))
     }
 }
 
@@ -70,9 +70,11 @@ impl<'a> RowRule<Hold> for Grouped<'a, Lots> {
     ghost fault_of = { λ t h. hold_fault t.rows.now h };
 
     fn fault(&self, _alloc: Global, row: &Hold) -> Result<Option<RowFault>, AllocError> {
+        if has_lot(self, row.lot) {
+            return Ok(None);
+        }
         let place = (Table::Hold, hold_key(row));
-        let fault = names_none(place, Column::Lot, row.lot, Table::Lot);
-        Ok(fault_unless(has_lot(self, row.lot), fault))
+        Ok(Some(names_none(place, Column::Lot, row.lot, Table::Lot)))
     }
 }
 

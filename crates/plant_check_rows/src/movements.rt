@@ -1,14 +1,16 @@
 //! Movements that break a rule.
 ghost use Rattle.std.specs.Prelude.{◌≡◌, IfOk};
-ghost use Rattle.plant_check_rows.specs.Movements.{batch_named_fault, id_found, movement_as, movement_fault, movement_fault_in};
-ghost use Rattle.plant_check_rows.specs.Movements.{naming_fault, source_fault, target_fault};
+ghost use Rattle.plant_check_rows.specs.Movements.{id_found, movement_as, movement_fault, movement_fault_in};
+ghost use Rattle.plant_check_rows.specs.Movements.{naming_fault};
+ghost use Rattle.plant_check.specs.Broken.{movements_in};
 ghost use Rattle.plant_check_rows.specs.First.{first_reported};
 
 use crate::fault::{Column, Found, RowFault, Table, Wanted};
-use crate::first::{RowRule, fault_unless, first_fault, in_column, or_fault};
+use crate::first::{RowRule, first_fault, in_column};
 use crate::keys::booked_key;
 use grouped_rows::Grouped;
 use plant_base::{BatchRow, ControlLine, Id, Lot, Movement, Sublot};
+use plant_check::history::movements_in;
 use plant_check_stock::keys::{Parts, is_there};
 use plant_check_stock::movements::{Named, batch_by, is_of_right_merge};
 use plant_stock::{source, target};
@@ -25,15 +27,12 @@ impl RowRule<BookedRow> for Kinds {
     ghost fault_of = { λ _ r. kind_fault r };
 
     fn fault(&self, _alloc: Global, row: &BookedRow) -> Result<Option<RowFault>, AllocError> {
-        let key = booked_key(row.seq, row.line);
-        let kind_code = Found::Sort(row.kind_code);
-        let fault = in_column(
-            (Table::Movement, key),
-            Column::Kind,
-            kind_code,
-            Wanted::Columns,
-        );
-        Ok(fault_unless(row.movement().is_some(), fault))
+        if row.movement().is_some() {
+            return Ok(None);
+        }
+        let place = (Table::Movement, booked_key(row.seq, row.line));
+        let found = Found::Sort(row.kind_code);
+        Ok(Some(in_column(place, Column::Kind, found, Wanted::Columns)))
     }
 }
 
@@ -64,49 +63,23 @@ fn id_found(id: Option<Id>) -> Found
     }
 }
 
-/// The movement, where the sublot that it brings its amount to isn't there.
-fn target_fault(named: &Named, movement: &Movement) -> Option<RowFault>
-    ensures { result ≡ target_fault named.now.sublots.rows.now movement.now }
-{
-    let fault = movement_as(movement, None, Found::Row, Wanted::Key(Table::Sublot));
-    fault_unless(is_there(&named.sublots, target(movement)), fault)
-}
-
-/// The movement, where the sublot that it takes its amount from isn't there.
-fn source_fault(named: &Named, movement: &Movement) -> Option<RowFault>
-    ensures { result ≡ source_fault named.now.sublots.rows.now movement.now }
-{
-    let fault = movement_as(
-        movement,
-        Some(Column::Lot),
-        Found::Id(movement.lot),
-        Wanted::Key(Table::Sublot),
-    );
-    fault_unless(is_there(&named.sublots, source(movement)), fault)
-}
-
-/// The movement, where the batch that it names isn't there.
-fn batch_named_fault(named: &Named, movement: &Movement) -> Option<RowFault>
-    ensures { result ≡ batch_named_fault named.now.batches.rows.now movement.now }
-{
-    let fault = movement_as(
-        movement,
-        Some(Column::Batch),
-        id_found(batch_by(movement)),
-        Wanted::Key(Table::Batch),
-    );
-    fault_unless(named.has_batch(batch_by(movement)), fault)
-}
-
 /// The movement, where a sublot or the batch that it names isn't there.
 fn naming_fault(named: &Named, movement: &Movement) -> Option<RowFault>
     ensures { result ≡ naming_fault named.now.sublots.rows.now named.now.batches.rows.now movement.now }
 {
-    let rest = or_fault(
-        source_fault(named, movement),
-        batch_named_fault(named, movement),
-    );
-    or_fault(target_fault(named, movement), rest)
+    if !is_there(&named.sublots, target(movement)) {
+        let wanted = Wanted::Key(Table::Sublot);
+        return Some(movement_as(movement, None, Found::Row, wanted));
+    }
+    if !is_there(&named.sublots, source(movement)) {
+        let (found, wanted) = (Found::Id(movement.lot), Wanted::Key(Table::Sublot));
+        return Some(movement_as(movement, Some(Column::Lot), found, wanted));
+    }
+    if named.has_batch(batch_by(movement)) {
+        return None;
+    }
+    let (found, wanted) = (id_found(batch_by(movement)), Wanted::Key(Table::Batch));
+    Some(movement_as(movement, Some(Column::Batch), found, wanted))
 }
 
 /// That a movement names what is there, of the right definition.
@@ -123,16 +96,17 @@ impl<'a> RowRule<Movement> for Moving<'a> {
         t.named.batches.rows.now t.named.controls.rows.now t.parts.rows.now m };
 
     fn fault(&self, _alloc: Global, row: &Movement) -> Result<Option<RowFault>, AllocError> {
-        let of_lot = Found::Id(row.lot);
-        let other = movement_as(row, Some(Column::Lot), of_lot, Wanted::RightDefinition);
-        let merge = movement_as(row, None, Found::Row, Wanted::Parts);
-        Ok(or_fault(
-            naming_fault(&self.named, row),
-            or_fault(
-                fault_unless(self.named.allows(row), other),
-                fault_unless(is_of_right_merge(&self.parts, row), merge),
-            ),
-        ))
+        if let Some(fault) = naming_fault(&self.named, row) {
+            return Ok(Some(fault));
+        }
+        if !self.named.allows(row) {
+            let (found, wanted) = (Found::Id(row.lot), Wanted::RightDefinition);
+            return Ok(Some(movement_as(row, Some(Column::Lot), found, wanted)));
+        }
+        if is_of_right_merge(&self.parts, row) {
+            return Ok(None);
+        }
+        Ok(Some(movement_as(row, None, Found::Row, Wanted::Parts)))
     }
 }
 
@@ -155,22 +129,21 @@ fn wrong_movement(
 
 /// The first row whose columns aren't those of its kind, or else the first movement that breaks its rule. The only error is
 /// that memory was refused.
-pub(crate) fn movement_fault(
-    alloc: Global,
-    rows: &DeskRows,
-    movements: &[Movement],
-) -> Result<Option<RowFault>, AllocError>
+pub(crate) fn movement_fault(alloc: Global, rows: &DeskRows) -> Result<Option<RowFault>, AllocError>
     ensures { IfOk result (λ reported. reported ≡ movement_fault_in rows.now.movements.items rows.now.lots.items
-        rows.now.sublots.items rows.now.batches.items rows.now.control_lines.items movements.now) }
+        rows.now.sublots.items rows.now.batches.items rows.now.control_lines.items
+        (movements_in rows.now.movements.items)) }
 {
-    let kind = first_fault(alloc, &Kinds, rows.movements.as_slice())?;
-    let wrong = wrong_movement(
+    if let Some(fault) = first_fault(alloc, &Kinds, rows.movements.as_slice())? {
+        return Ok(Some(fault));
+    }
+    let movements = movements_in(alloc, rows.movements.as_slice())?;
+    wrong_movement(
         alloc,
         rows.lots.as_slice(),
         rows.sublots.as_slice(),
         rows.batches.as_slice(),
         rows.control_lines.as_slice(),
-        movements,
-    )?;
-    Ok(or_fault(kind, wrong))
+        movements.as_slice(),
+    )
 }

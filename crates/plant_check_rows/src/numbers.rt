@@ -6,6 +6,7 @@ ghost use Rattle.plant_check_rows.specs.Numbers.{event_as, event_fall_fault, eve
 ghost use Rattle.plant_check_rows.specs.Numbers.{fall_fault_in, late_fault_in, line_fault, line_fault_in};
 ghost use Rattle.plant_check_rows.specs.Numbers.{moment_fault, number_as, number_fault, number_fault_in};
 ghost use Rattle.plant_tables_read.specs.Collecting.{rows_listed};
+ghost use Rattle.plant_check.specs.Broken.{movements_in};
 ghost use Rattle.plant_check_rows.specs.Findings.{numbered_fault_in};
 ghost use Rattle.plant_check_rows.specs.First.{first_reported};
 
@@ -15,6 +16,7 @@ use crate::keys::{booked_key, hold_key, id_key, number_key};
 use crate::movements::movement_as;
 use grouped_rows::Grouped;
 use plant_base::{BatchEvent, BatchRow, Hold, Moment, Movement};
+use plant_check::history::movements_in;
 use plant_check_stock::keys::{EnteredSublots, EventNumbers, has_event};
 use plant_check_stock::numbering::{is_entered_before, is_given, is_next_line};
 use plant_stock::source;
@@ -312,14 +314,12 @@ fn falling_event(events: &[BatchEvent]) -> Option<RowFault>
 /// The first row whose number or moment breaks the rule: a number that wasn't given, or else a moment that is later than the
 /// desk's, or else one that falls. The only error is that memory was refused.
 #[tactic(auto, unfolding(plant_tables_read::specs::Collecting::rows_listed))]
-pub(crate) fn number_fault(
-    alloc: Global,
-    rows: &DeskRows,
-    movements: &[Movement],
-) -> Result<Option<RowFault>, AllocError>
-    ensures { IfOk result (λ reported. reported ≡ numbered_fault_in (rows_listed rows.now) movements.now) }
+pub(crate) fn number_fault(alloc: Global, rows: &DeskRows) -> Result<Option<RowFault>, AllocError>
+    ensures { IfOk result (λ reported. reported
+        ≡ numbered_fault_in (rows_listed rows.now) (movements_in rows.now.movements.items)) }
 {
-    let events = rows.events.as_slice();
+    let list = movements_in(alloc, rows.movements.as_slice())?;
+    let (movements, events) = (list.as_slice(), rows.events.as_slice());
     let number = wrong_number(alloc, rows.meta.position.seq, events, movements)?;
     let late = late_fault(
         alloc,

@@ -1,15 +1,13 @@
 //! Definitions, orders, batches and their lines that break a rule.
 ghost use Rattle.std.specs.Prelude.{◌≡◌, IfOk};
-ghost use Rattle.plant_check_rows.specs.Plans.{batch_as_a_whole, batch_fault, batch_fault_in, batch_wanted};
+ghost use Rattle.plant_check_rows.specs.Plans.{batch_fault, batch_fault_in, batch_wanted};
 ghost use Rattle.plant_check_rows.specs.Plans.{class_fault_in, control_line_fault};
 ghost use Rattle.plant_check_rows.specs.First.{first_reported};
-ghost use Rattle.plant_check_rows.specs.Plans.{missing_recipe, order_fault_in, shared_order, size_fault};
+ghost use Rattle.plant_check_rows.specs.Plans.{order_fault_in, size_fault};
 ghost use Rattle.plant_check_rows.specs.Plans.{start_fault, wrong_size};
 
 use crate::fault::{Column, Found, RowFault, Table, Wanted};
-use crate::first::{
-    RowRule, as_a_whole, fault_unless, first_fault, in_column, names_none, or_fault,
-};
+use crate::first::{RowRule, as_a_whole, first_fault, in_column, names_none, or_fault};
 use crate::keys::{control_line_key, id_key};
 use grouped_rows::Grouped;
 use plant_base::{BatchRow, ControlLine, Definition, Job, JobState, MasterLine, Recipe};
@@ -31,9 +29,11 @@ impl<'a> RowRule<Definition> for Grouped<'a, Classes> {
     ghost fault_of = { λ t d. class_fault t.rows.now d };
 
     fn fault(&self, _alloc: Global, row: &Definition) -> Result<Option<RowFault>, AllocError> {
+        if has_class(self, row.class) {
+            return Ok(None);
+        }
         let place = (Table::Definition, id_key(row.id));
-        let fault = names_none(place, Column::Class, row.class, Table::Class);
-        Ok(fault_unless(has_class(self, row.class), fault))
+        Ok(Some(names_none(place, Column::Class, row.class, Table::Class)))
     }
 }
 
@@ -45,23 +45,20 @@ pub(crate) fn class_fault(alloc: Global, rows: &DeskRows) -> Result<Option<RowFa
     first_fault(alloc, &classes, rows.definitions.as_slice())
 }
 
-fn missing_recipe(job: &Job) -> RowFault
-    ensures { result ≡ missing_recipe job.now }
-{
-    let place = (Table::Job, id_key(job.order.order));
-    names_none(place, Column::Recipe, job.order.recipe, Table::Recipe)
-}
-
 fn wrong_size(recipe: &Recipe, job: &Job) -> RowFault
     ensures { result ≡ wrong_size recipe.now job.now }
 {
-    let size = Found::Number(job.order.size.get());
+    let found = Found::Number(job.order.size.get());
     let wanted = Wanted::Size {
         least: recipe.header.least,
         greatest: recipe.header.greatest,
     };
-    let place = (Table::Job, id_key(job.order.order));
-    in_column(place, Column::Size, size, wanted)
+    in_column(
+        (Table::Job, id_key(job.order.order)),
+        Column::Size,
+        found,
+        wanted,
+    )
 }
 
 /// The order, where its recipe isn't there, or its size is none of that.
@@ -69,11 +66,16 @@ fn size_fault(recipe: Option<Recipe>, job: &Job) -> Option<RowFault>
     ensures { result ≡ size_fault recipe job.now }
 {
     match recipe {
-        None => Some(missing_recipe(job)),
-        Some(recipe) => fault_unless(
-            is_size_of_recipe(Some(recipe), job.order.size),
-            wrong_size(&recipe, job),
-        ),
+        None => {
+            let place = (Table::Job, id_key(job.order.order));
+            Some(names_none(place, Column::Recipe, job.order.recipe, Table::Recipe))
+        }
+        Some(recipe) => {
+            if is_size_of_recipe(Some(recipe), job.order.size) {
+                return None;
+            }
+            Some(wrong_size(&recipe, job))
+        }
     }
 }
 
@@ -92,10 +94,12 @@ fn batch_wanted(state: JobState) -> Wanted
 fn start_fault(batch: Option<BatchRow>, job: &Job) -> Option<RowFault>
     ensures { result ≡ start_fault batch job.now }
 {
+    if is_started(job.state, batch) {
+        return None;
+    }
     let place = (Table::Job, id_key(job.order.order));
     let (found, wanted) = (Found::Order(job.state), batch_wanted(job.state));
-    let fault = in_column(place, Column::State, found, wanted);
-    fault_unless(is_started(job.state, batch), fault)
+    Some(in_column(place, Column::State, found, wanted))
 }
 
 /// That an order's recipe is there with its size, and that it has a batch as its state says.
@@ -128,21 +132,6 @@ pub(crate) fn order_fault(alloc: Global, rows: &DeskRows) -> Result<Option<RowFa
     first_fault(alloc, &ordered, rows.jobs.as_slice())
 }
 
-/// The batch, where this is wanted of the row as a whole.
-fn batch_as_a_whole(batch: &BatchRow, wanted: Wanted) -> RowFault
-    ensures { result ≡ batch_as_a_whole batch.now wanted }
-{
-    as_a_whole((Table::Batch, id_key(batch.batch.id)), wanted)
-}
-
-fn shared_order(batch: &BatchRow) -> RowFault
-    ensures { result ≡ shared_order batch.now }
-{
-    let order = Found::Id(batch.batch.job);
-    let place = (Table::Batch, id_key(batch.batch.id));
-    in_column(place, Column::Job, order, Wanted::OneBatch)
-}
-
 /// That a batch is the only one of its order, and that its lines are the control recipe that this asks for.
 #[derive(Drop)]
 struct Released<'a> {
@@ -156,20 +145,23 @@ impl<'a> RowRule<BatchRow> for Released<'a> {
         t.plans.jobs.rows.now t.batches.rows.now t.controls.rows.now b };
 
     fn fault(&self, alloc: Global, row: &BatchRow) -> Result<Option<RowFault>, AllocError> {
-        let order = row.batch.job;
-        let lines = control_of(&self.controls, row.batch.id);
-        let wanted = self
-            .plans
-            .control_asked_for(alloc, job_at(&self.plans.jobs, order))?;
-        let found = lines_among(alloc, lines)?;
-        let shared = fault_unless(has_one_batch(&self.batches, order), shared_order(row));
-        let numbering = Wanted::NumberedFrom(Table::ControlLine, 1);
-        let numbered = fault_unless(are_numbered(1, lines), batch_as_a_whole(row, numbering));
-        let controlled = fault_unless(
-            is_control(&wanted, found.as_slice()),
-            batch_as_a_whole(row, Wanted::Control),
-        );
-        Ok(or_fault(shared, or_fault(numbered, controlled)))
+        let (id, order) = (row.batch.id, row.batch.job);
+        let place = (Table::Batch, id_key(id));
+        if !has_one_batch(&self.batches, order) {
+            let fault = in_column(place, Column::Job, Found::Id(order), Wanted::OneBatch);
+            return Ok(Some(fault));
+        }
+        let lines = control_of(&self.controls, id);
+        if !are_numbered(1, lines) {
+            let numbering = Wanted::NumberedFrom(Table::ControlLine, 1);
+            return Ok(Some(as_a_whole(place, numbering)));
+        }
+        let job = job_at(&self.plans.jobs, order);
+        let wanted = self.plans.control_asked_for(alloc, job)?;
+        if is_control(&wanted, lines_among(alloc, lines)?.as_slice()) {
+            return Ok(None);
+        }
+        Ok(Some(as_a_whole(place, Wanted::Control)))
     }
 }
 
@@ -178,9 +170,11 @@ impl<'a> RowRule<ControlLine> for Grouped<'a, Batches> {
     ghost fault_of = { λ t l. control_line_fault t.rows.now l };
 
     fn fault(&self, _alloc: Global, row: &ControlLine) -> Result<Option<RowFault>, AllocError> {
+        if has_batch(self, row.batch) {
+            return Ok(None);
+        }
         let place = (Table::ControlLine, control_line_key(row));
-        let fault = names_none(place, Column::Batch, row.batch, Table::Batch);
-        Ok(fault_unless(has_batch(self, row.batch), fault))
+        Ok(Some(names_none(place, Column::Batch, row.batch, Table::Batch)))
     }
 }
 
@@ -203,26 +197,19 @@ fn wrong_batch(
     first_fault(alloc, &released, batches)
 }
 
-fn stray_control_line(alloc: Global, rows: &DeskRows) -> Result<Option<RowFault>, AllocError>
-    ensures { IfOk result (λ reported. reported ≡ first_reported (control_line_fault rows.now.batches.items) rows.now.control_lines.items) }
-{
-    let batches = Grouped::<Batches>::new(alloc, rows.batches.as_slice())?;
-    first_fault(alloc, &batches, rows.control_lines.as_slice())
-}
-
 /// The first batch that breaks its rule, or else the first line of a control recipe without its batch. The only error is that
 /// memory was refused.
 pub(crate) fn batch_fault(alloc: Global, rows: &DeskRows) -> Result<Option<RowFault>, AllocError>
     ensures { IfOk result (λ reported. reported ≡ batch_fault_in rows.now.recipes.items
         rows.now.master_lines.items rows.now.jobs.items rows.now.batches.items rows.now.control_lines.items) }
 {
-    let wrong = wrong_batch(
-        alloc,
-        rows.recipes.as_slice(),
-        rows.master_lines.as_slice(),
-        rows.jobs.as_slice(),
-        rows.batches.as_slice(),
-        rows.control_lines.as_slice(),
-    )?;
-    Ok(or_fault(wrong, stray_control_line(alloc, rows)?))
+    let (batches, lines) = (rows.batches.as_slice(), rows.control_lines.as_slice());
+    let (recipes, jobs) = (rows.recipes.as_slice(), rows.jobs.as_slice());
+    let master_lines = rows.master_lines.as_slice();
+    let wrong = wrong_batch(alloc, recipes, master_lines, jobs, batches, lines)?;
+    if let Some(fault) = wrong {
+        return Ok(Some(fault));
+    }
+    let batches = Grouped::<Batches>::new(alloc, batches)?;
+    first_fault(alloc, &batches, lines)
 }

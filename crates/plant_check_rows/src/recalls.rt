@@ -1,7 +1,7 @@
 //! Recalls that break a rule.
 ghost use Rattle.std.specs.Prelude.{◌≡◌, IfOk};
 ghost use Rattle.plant_tables_read.specs.Collecting.{rows_listed};
-ghost use Rattle.plant_check.specs.Broken.{recalls_read};
+ghost use Rattle.plant_check.specs.Broken.{movements_in, recalls_read};
 ghost use Rattle.plant_check_rows.specs.Findings.{recalled_fault_in};
 ghost use Rattle.plant_check_rows.specs.Recalls.{recall_as, recall_fault_in};
 
@@ -10,7 +10,8 @@ use crate::first::{RowRule, fault_unless, first_fault, in_column, or_fault};
 use crate::keys::id_key;
 use crate::marks::mark_fault;
 use grouped_rows::Grouped;
-use plant_base::{Id, Lot, Moment, Movement, Recall};
+use plant_base::{Id, Lot, Moment, Recall};
+use plant_check::history::movements_in;
 use plant_check::recalls::recalls_read;
 use plant_check_stock::keys::{Lots, lot_at};
 use plant_check_stock::recalls::is_timely;
@@ -82,19 +83,21 @@ fn stated_fault(
 
 /// The first row that breaks the rule, or else the mark that does. The only error is that memory was refused.
 #[tactic(auto, unfolding(plant_tables_read::specs::Collecting::rows_listed))]
-pub(crate) fn recall_fault(
-    alloc: Global,
-    rows: &DeskRows,
-    movements: &[Movement],
-) -> Result<Option<RowFault>, AllocError>
+pub(crate) fn recall_fault(alloc: Global, rows: &DeskRows) -> Result<Option<RowFault>, AllocError>
     ensures { IfOk result (λ reported. reported ≡ recalled_fault_in (rows_listed rows.now)
-        (recalls_read rows.now.recalls.items) movements.now) }
+        (recalls_read rows.now.recalls.items) (movements_in rows.now.movements.items)) }
 {
+    let movements = movements_in(alloc, rows.movements.as_slice())?;
     let stated = rows.recalls.as_slice();
     let recalls = recalls_read(alloc, stated)?;
     let at = rows.meta.position.at;
     let lots = rows.lots.as_slice();
     let by_row = stated_fault(alloc, at, stated, lots, recalls.as_slice())?;
-    let marked = mark_fault(alloc, recalls.as_slice(), movements, rows.marks.as_slice())?;
+    let marked = mark_fault(
+        alloc,
+        recalls.as_slice(),
+        movements.as_slice(),
+        rows.marks.as_slice(),
+    )?;
     Ok(or_fault(by_row, marked))
 }

@@ -3,7 +3,7 @@ ghost use Rattle.std.specs.Prelude.{◌≡◌, IfOk};
 ghost use Rattle.plant_check_rows.specs.Stocks.{stock_fault_in};
 
 use crate::fault::{Column, Found, RowFault, Table, Wanted};
-use crate::first::{RowRule, fault_unless, first_fault, in_column};
+use crate::first::{RowRule, first_fault, in_column};
 use crate::keys::sublot_key;
 use grouped_rows::Grouped;
 use plant_base::Sublot;
@@ -26,11 +26,12 @@ impl<'a> RowRule<Sublot> for Stocks<'a> {
     fn fault(&self, _alloc: Global, row: &Sublot) -> Result<Option<RowFault>, AllocError> {
         let entered = total_booked(entries(&self.entered, row.lot, row.number));
         let left = total_booked(exits(&self.left, row.lot, row.number));
-        let stock = Found::Number(row.stock);
-        let wanted = Wanted::Stock { entered, left };
+        if u128::from(row.stock) + left == entered {
+            return Ok(None);
+        }
         let place = (Table::Sublot, sublot_key(row));
-        let fault = in_column(place, Column::Stock, stock, wanted);
-        Ok(fault_unless(u128::from(row.stock) + left == entered, fault))
+        let (found, wanted) = (Found::Number(row.stock), Wanted::Stock { entered, left });
+        Ok(Some(in_column(place, Column::Stock, found, wanted)))
     }
 }
 

@@ -1,6 +1,7 @@
-//! The rules that movements, receipts and recalls obey in tables that a desk has written, each as a test.
+//! What the rule on movements asks of each of them in tables that a desk has written, and the rules on numbers, moments, receipts
+//! and recalls, each as a test.
 //!
-//! Each goes over its rows once, and looks the others up by their key.
+//! Other rows are looked up by their key.
 #![tactic(auto)]
 
 pub mod keys;
@@ -12,7 +13,6 @@ pub mod receipts;
 mod times;
 
 pub use marks::{are_marks, marks_within};
-pub use movements::are_movements;
 pub use numbering::are_numbers;
 pub use recalls::are_recalls;
 pub use receipts::are_receipts;

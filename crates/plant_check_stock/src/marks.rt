@@ -11,7 +11,7 @@ ghost use Rattle.plant_view.specs.Rows.{put_all};
 ghost use Rattle.plant_check_stock.specs.Marks.{are_same_marks, are_marks, AreExpected};
 
 use plant_base::{Id, Mark, Movement, Recall};
-use plant_trace::{Edges, Indexed, Node, reached};
+use plant_trace::{Indexed, Node, reached};
 use plant_view::{edges, mark_on};
 use std::alloc::{AllocError, Global};
 use std::collections::BTreeSet;

@@ -1,20 +1,18 @@
 //! What movements name, and what their definitions are.
 
 ghost use Rattle.std.specs.Prelude.{◌≡◌, IfOk};
-ghost use Rattle.std.specs.List.{list_any, list_all};
+ghost use Rattle.std.specs.List.{list_any};
 ghost use Rattle.plant_stock.specs.Stock.{is_one_source};
 ghost use Rattle.plant_view.specs.Genealogy.{batch_by};
-ghost use Rattle.plant_check_stock.specs.Movements.{is_batch_there, names_known, are_of_one, is_asked_for};
+ghost use Rattle.plant_check_stock.specs.Movements.{is_batch_there, are_of_one, is_asked_for};
 ghost use Rattle.plant_check_stock.specs.Movements.{is_yielded, is_of_right_definition, is_merged};
 ghost use Rattle.plant_check_stock.specs.Movements.{are_distinct};
-ghost use Rattle.plant_check_stock.specs.Movements.{are_parts, is_of_right_merge, is_right_movement};
-ghost use Rattle.plant_check_stock.specs.Movements.{are_movements};
+ghost use Rattle.plant_check_stock.specs.Movements.{are_parts, is_of_right_merge};
 
-use crate::keys::{Lots, Parts, Sublots, is_there, lot_at, parts_of};
+use crate::keys::{Lots, Parts, Sublots, lot_at, parts_of};
 use grouped_rows::Grouped;
 use plant_base::{BatchRow, ControlLine, Id, Lot, Movement, MovementKind, Sublot};
 use plant_check_plans::keys::{Batches, ControlLines, control_of, has_batch};
-use plant_stock::{source, target};
 use plant_view::{is_made, is_taken};
 use std::alloc::{AllocError, Global};
 
@@ -32,34 +30,6 @@ pub struct Named<'a> {
     pub batches: Grouped<'a, Batches>,
     /// The lines of control recipes by batch.
     pub controls: Grouped<'a, ControlLines>,
-}
-
-/// Whether the sublots and the batch that each movement names are there, what it splits off or merges is of the
-/// definition of the lot it comes from, an in line of the batch's control recipe asks for what it consumes and an out
-/// line for what it produces, and the parts of its merge are at most 16, of distinct pairs of lot and sublot. The only
-/// error is that memory was refused.
-pub fn are_movements(
-    alloc: Global,
-    lots: &[Lot],
-    sublots: &[Sublot],
-    batches: &[BatchRow],
-    control: &[ControlLine],
-    movements: &[Movement],
-) -> Result<bool, AllocError>
-    ensures { IfOk result
-        (λ b. b ≡ are_movements lots.now sublots.now batches.now control.now movements.now) }
-{
-    let named = Named::new(alloc, lots, sublots, batches, control)?;
-    let parts = Grouped::<Parts>::new(alloc, movements)?;
-    Ok(are_right(&named, &parts, movements))
-}
-
-fn are_right(named: &Named, parts: &Grouped<Parts>, movements: &[Movement]) -> bool
-    ensures { result ≡ list_all
-        (is_right_movement named.now.lots.rows.now named.now.sublots.rows.now named.now.batches.rows.now
-        named.now.controls.rows.now parts.now.rows.now) movements.now }
-{
-    movements.iter().all(|m| is_right(named, parts, m))
 }
 
 impl<'a> Named<'a> {
@@ -85,15 +55,6 @@ impl<'a> Named<'a> {
             batches,
             controls,
         })
-    }
-
-    // Whether the sublots and the batch that the movement names are there.
-    fn knows(&self, movement: &Movement) -> bool
-        ensures { result ≡ names_known self.now.sublots.rows.now self.now.batches.rows.now movement.now }
-    {
-        is_there(&self.sublots, target(movement))
-            && is_there(&self.sublots, source(movement))
-            && self.has_batch(batch_by(movement))
     }
 
     /// Whether the batch, where one is named, is there.
@@ -124,14 +85,6 @@ impl<'a> Named<'a> {
             }
         }
     }
-}
-
-#[tactic(auto, unfolding(crate::specs::Movements::is_right_movement))]
-fn is_right(named: &Named, parts: &Grouped<Parts>, movement: &Movement) -> bool
-    ensures { result ≡ is_right_movement named.now.lots.rows.now named.now.sublots.rows.now
-        named.now.batches.rows.now named.now.controls.rows.now parts.now.rows.now movement.now }
-{
-    named.knows(movement) && named.allows(movement) && is_of_right_merge(parts, movement)
 }
 
 /// The batch that the movement names.

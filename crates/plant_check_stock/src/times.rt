@@ -1,8 +1,8 @@
 //! The moments of movements, events, batches and holds.
 
-ghost use Rattle.std.specs.Prelude.{◌≡◌, IfOk, ◌++◌, map, nat_le};
+ghost use Rattle.std.specs.Prelude.{◌≡◌, IfOk, nat_le};
 ghost use Rattle.std.specs.List.{list_all};
-ghost use Rattle.plant_check_stock.specs.Times.{row_mark_of, row_mark_of_event, row_marks, never_fall, rises};
+ghost use Rattle.plant_check_stock.specs.Times.{row_marks, never_fall, rises};
 ghost use Rattle.plant_check_stock.specs.Times.{are_by};
 ghost use Rattle.plant_check_stock.specs.Times.{are_times};
 

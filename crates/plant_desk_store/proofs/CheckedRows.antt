@@ -1,6 +1,7 @@
 -- What is judged of loaded rows.
 use Rattle.std.proofs.Common.{◌≡◌, ◌∙◌, ℕ, ◌≤◌, true, leb-true, List, [], ◌∷◌, Bool, Some, is_some, Result, IfOk, sym, ap, subst}
 use Rattle.std.proofs.lemmas.Result.{IfOk-weaker}
+use Rattle.std.specs.Prelude.{if◌then◌else◌}
 use Rattle.sqlite.specs.Order.{Row}
 use Rattle.plant_base.specs.{Meta}
 use Rattle.plant_view.proofs.TestsAndSums.{and_left}
@@ -10,16 +11,16 @@ use Rattle.plant_tables_read.specs.Collecting.{Rows, rows_from, rows_listed}
 use Rattle.plant_tables_read.proofs.RowsRepresentTables.{rows_back}
 use Rattle.plant_tables_columns.specs.TableColumns.{only_meta}
 use Rattle.plant_tables_columns.proofs.RowLaws.{meta_reads}
-use Rattle.plant_check.specs.Broken.{first_broken, first_broken_of, broken_rows, unless}
+use Rattle.plant_check.specs.Broken.{first_broken, first_broken_of, broken_rows}
 use Rattle.plant_check.specs.declared.rule.Rule.TheVariants as rule
 use Rattle.plant_desk_store.specs.Checks.{FailsChecks, PassesChecks, FailsChecksBy, PassesChecksOf, FailsChecksOf}
 use Rattle.plant_desk_store.specs.declared.check_error.CheckError.{CheckError}
 use Rattle.plant_desk_store.specs.declared.check_error.CheckError.TheVariants as check_error
 
 -- the rule that is broken first, by whether there is one row of meta
-pub broken_where : (x : Loaded) (b : Bool) → is_some (only_meta (contents_loaded x 0)) ≡ b → first_broken x ≡ unless b rule.Tables (broken_rows (rows_from x))
+pub broken_where : (x : Loaded) (b : Bool) → is_some (only_meta (contents_loaded x 0)) ≡ b → first_broken x ≡ (if b then broken_rows (rows_from x) else Some rule.Tables)
 unfolding first_broken
-broken_where x b e = ap (λ c. unless c rule.Tables (broken_rows (rows_from x))) e
+broken_where x b e = ap (λ c. if c then broken_rows (rows_from x) else Some rule.Tables) e
 
 same_broken : (x : Loaded) (r : Rows) → is_some (only_meta (contents_loaded x 0)) ≡ true → rows_from x ≡ Some r → first_broken x ≡ first_broken_of r
 same_broken x r e f = broken_where x true e ∙ ap broken_rows f

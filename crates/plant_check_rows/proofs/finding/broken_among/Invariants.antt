@@ -1,11 +1,11 @@
 use Rattle.std.proofs.Common.{◌≡◌, ◌++◌, drop}
-use Rattle.std.specs.Prelude.{filter}
+use Rattle.std.specs.Prelude.{filter, not}
 use Rattle.plant_tables_read.specs.Collecting.{rows_listed}
-use Rattle.plant_check_rows.specs.Findings.{is_broken}
+use Rattle.plant_check.specs.Broken.{obeys}
 use Rattle.plant_check_rows.proofs.finding.broken_among.Given as goal
 
 -- the broken ones so far, and then those of the rules that are left, are all of them
 abbrev pub invariant-loop-rule : goal.invariant-loop-rule
 invariant-loop-rule l =
-    l.list.items ++ filter (λ r. is_broken r (rows_listed l.rows) l.movements) (drop l.rule-index l.rules)
-    ≡ filter (λ r. is_broken r (rows_listed l.rows) l.movements) l.rules
+    l.list.items ++ filter (λ r. not (obeys r (rows_listed l.rows))) (drop l.rule-index l.rules)
+    ≡ filter (λ r. not (obeys r (rows_listed l.rows))) l.rules

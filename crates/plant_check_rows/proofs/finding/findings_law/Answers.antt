@@ -1,4 +1,4 @@
-use Rattle.plant_check_rows.proofs.FoundIfDisobeyed.{found_where_broken}
+use Rattle.plant_check_rows.proofs.FoundIfDisobeyed.{found_by_row, found_where_broken}
 use Rattle.plant_check_rows.proofs.FirstFoundIsFirstBroken.{first_found}
 use Rattle.plant_check_rows.proofs.ObeyedColumns.{all_unread}
 use Rattle.plant_check_rows.proofs.finding.findings_law.Goals as goal
@@ -6,6 +6,7 @@ use Rattle.plant_check_rows.proofs.finding.findings_law.Goals as goal
 pub returns : goal.returns
 returns c = record {
   broken = found_where_broken;
+  by_row = found_by_row;
   first = first_found;
   unread = all_unread;
 }

@@ -52,14 +52,14 @@ class Changes(CommandsTestCase):
              r'        write!(f, "weigh\n{lot}\n{sub}\n{amount}\n{version}\n{phase}\n{word}\n{unit}\n{place}\n")'),
             ("crates/plant_base/specs/WellFormedCommands.antt", "HasBodyValues (body.Weigh c) = "
              "IsTrue (is_id c.lot) × IsTrue (is_amount c.amount) × IsTrue (is_unit c.unit) × IsTrue (is_text c.place)"),
-            ("crates/plant_base/proofs/ContentReadBack.antt", "    weigh_in ls)))))))))))))))))))))))"),
+            ("crates/plant_base/proofs/ContentReadBack.antt", f"    weigh_in ls{')' * len(self.tool.COMMANDS)}"),
             ("crates/plant_base/proofs/ContentReadBack.antt", "body_back (body.Weigh c) v n = λ i. body.Weigh (record { lot = c.lot;"
              " sub = short_back c.sub n.0 i; amount = amount_back c.amount v.1 i; version = short_back c.version n.1 i;"
              " phase = byte_back c.phase n.2 i; word = word_back c.word i; unit = c.unit; place = c.place })"),
             ("crates/plant_text_commands/specs/Plain.antt", "goods_of c.Weigh (field.Id lot ∷ field.Number sub ∷ field.Amount amount"
              " ∷ field.Number version ∷ field.Small phase ∷ field.Word word ∷ field.Unit unit ∷ field.Text place ∷ [])"
              " = Some (body.Weigh (record { lot = lot; sub = sub; amount = amount; version = version; phase = phase; word = word; unit = unit; place = place }))"),
-            ("crates/line_check/specs/Words.antt", "place_of_command c.Weigh = 23"),
+            ("crates/line_check/specs/Words.antt", f"place_of_command c.Weigh = {len(self.tool.COMMANDS)}"),
             ("crates/plant_rules/src/commands.rt", "        Command::Weigh(c) => decide_weigh(alloc, view, seq, stamp, c),"),
         ])
 

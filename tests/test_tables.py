@@ -7,8 +7,8 @@ from __future__ import annotations
 from tests.support.regions import RegionsTestCase
 
 # A table of the newest schema, before the end of the list, and the lookup of its rows.
-SITE = '    Table("site", "id:id name:text", "Sites.", schema=4, plain=True, looked_up="id"),\n]\n\n\n# ---- indexes and lookups\n'
-SITE_BY_ID = '    ("site_by_id", "site", "id"),\n    ("edges", "edge", ""),\n'
+DEPOT = '    Table("depot", "id:id name:text", "Depots.", schema=4, plain=True, looked_up="id"),\n]\n\n\n# ---- indexes and lookups\n'
+DEPOT_BY_ID = '    ("depot_by_id", "depot", "id"),\n    ("edges", "edge", ""),\n'
 
 
 class TablesTestCase(RegionsTestCase):
@@ -19,10 +19,10 @@ class TablesTestCase(RegionsTestCase):
     def described(self, tool):
         return tool.table_regions.regions(tool.described())
 
-    def add_site(self):
+    def add_depot(self):
         """Adds a table to the description."""
-        self.replace(self.TOOLS[0], "]\n\n\n# ---- indexes and lookups\n", SITE)
-        self.replace(self.TOOLS[0], '    ("edges", "edge", ""),\n', SITE_BY_ID)
+        self.replace(self.TOOLS[0], "]\n\n\n# ---- indexes and lookups\n", DEPOT)
+        self.replace(self.TOOLS[0], '    ("edges", "edge", ""),\n', DEPOT_BY_ID)
 
 
 class Files(TablesTestCase):
@@ -53,18 +53,19 @@ class Changes(TablesTestCase):
 
     def test_another_table_changes_regions_alone(self):
         before = self.texts()
-        self.add_site()
-        self.check_regions_alone(before, ["crates/plant_keyed/proofs/view/KeyedView/site/Answers.antt"])
+        self.add_depot()
+        self.check_regions_alone(before, ["crates/plant_keyed/proofs/view/KeyedView/depot/Answers.antt"])
 
     def test_another_table_has_its_lines(self):
-        self.add_site()
+        self.add_depot()
         self.written()
+        count = len(self.tool.TABLES)
         self.check_lines([
-            ("crates/plant_tables/src/table_defs.rt", '    "CREATE TABLE site (id TEXT NOT NULL, name TEXT NOT NULL, UNIQUE (id)) STRICT";'),
-            ("crates/plant_tables/src/table_defs.rt", "pub fn desk_table_defs() -> [TableDef<'static>; 18]"),
-            ("crates/plant_tables/specs/DeskTables.antt", "rows_changed (change.Site r) = changed_at 17 site_table (row_of_site r)"),
-            ("crates/plant_tables_read/src/readings.rt", "        reading!(SITE, SELECT_SITE),"),
-            ("crates/plant_keyed/src/texts.rt", 'pub(crate) const SITE_BY_ID: &str = "SELECT id, name FROM site WHERE id = ?1 ORDER BY id";'),
+            ("crates/plant_tables/src/table_defs.rt", '    "CREATE TABLE depot (id TEXT NOT NULL, name TEXT NOT NULL, UNIQUE (id)) STRICT";'),
+            ("crates/plant_tables/src/table_defs.rt", f"pub fn desk_table_defs() -> [TableDef<'static>; {count + 1}]"),
+            ("crates/plant_tables/specs/DeskTables.antt", f"rows_changed (change.Depot r) = changed_at {count} depot_table (row_of_depot r)"),
+            ("crates/plant_tables_read/src/readings.rt", "        reading!(DEPOT, SELECT_DEPOT),"),
+            ("crates/plant_keyed/src/texts.rt", 'pub(crate) const DEPOT_BY_ID: &str = "SELECT id, name FROM depot WHERE id = ?1 ORDER BY id";'),
         ])
 
     def test_other_words_are_answered_with_the_use(self):

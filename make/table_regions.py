@@ -2,96 +2,9 @@
 from __future__ import annotations
 
 import re
-import string
 
 from regions import Region, camel, chain, nested, packed
-
-# ---- words of a table
-
-
-def names(columns):
-    """Columns by their names."""
-    return ", ".join(column.name for column in columns)
-
-
-def is_stored_as_read(table):
-    """Whether what is stored is a row, and not one whose columns may be those of another kind or state."""
-    return table.stored_row == table.row
-
-
-def key_kinds(table):
-    """The kinds of the columns of a table's key, as the names of lemmas have them."""
-    kinds = ["number" if column.kind.is_number else "text" for column in table.keys[0]]
-    pairs = {"text text": "two_texts", "number number": "two_numbers", "text number number": "text_numbers", "number text text": "number_two_texts"}
-    joined = " ".join(kinds)
-    return pairs.get(joined, "_".join(kinds))
-
-
-def key_of(column, row):
-    """A column of a key as proofs compare it."""
-    return f"({column.kind.code} {row}.{column.field})" if column.kind.code else f"{row}.{column.field}"
-
-
-def key_pairs(table, one, other):
-    """The columns of the keys of two rows, one pair after the other."""
-    return " ".join(f"{key_of(column, one)} {key_of(column, other)}" for column in table.keys[0])
-
-
-def key_total(table):
-    """Why the order of a table's rows is total."""
-    proof = ""
-    for column in table.keys[0]:
-        total = "nat_cmp_total" if column.kind.is_number else "nat_list_cmp_total"
-        part = f"on_total (λ r. r.{column.field}) {total}"
-        proof = f"then_total ({proof}) ({part})" if proof else part
-    return proof
-
-
-# What a template names as the description has it.
-NAMED = (
-    "name one stored stored_row row change list state_row state_list order values read again fits place schema doc looked_up"
-).split()
-
-
-def words(table):
-    """What a template may name of a table."""
-    key = table.keys[0]
-    return {
-        **{name: getattr(table, name) for name in NAMED},
-        "NAME": table.name.upper(),
-        "Name": camel(table.name),
-        "keys": chain(f"({chain(str(table.number(column.name)) for column in columns)})" for columns in table.keys),
-        "key_places": chain(str(table.number(column.name)) for column in key),
-        "key_field": key[0].field,
-        "key_kinds": key_kinds(table),
-        "key_pairs": key_pairs(table, "a", "b"),
-        "key_met": key_pairs(table, "x", "r"),
-        "key_total": key_total(table),
-        "reads": f"{table.one if is_stored_as_read(table) else table.stored}_reads",
-    }
-
-
-def filled(template, table):
-    """A template with the words of a table."""
-    return string.Template(template).substitute(words(table))
-
-
-def many(tables, template, between="\n"):
-    """A template for each table, with what comes between two."""
-    return between.join(filled(template, table) for table in tables)
-
-
-def imports(module, tables, template, before=(), after=()):
-    """The line of specs and proofs that uses a name of each table."""
-    return f"use Rattle.{module}.{{{', '.join([*before, *(filled(template, table) for table in tables), *after])}}}"
-
-
-def bracketed(items, width=60):
-    """The items of an array in a block, in the layout of code: in one line where they are short."""
-    if len(", ".join(items)) <= width:
-        return f"[{', '.join(items)}]"
-    return "[\n" + "".join(f"        {item},\n" for item in items) + "    ]"
-
+from table_words import bracketed, filled, imports, is_stored_as_read, keyed, later, many, names, orders
 
 # ---- texts
 
@@ -214,11 +127,6 @@ def newest(desk):
     return [table for table in desk.tables if table.schema >= 4]
 
 
-def keyed(desk):
-    """The tables whose rows are in the order of their keys by a premise."""
-    return [table for table in desk.tables[1:] if not table.grows]
-
-
 def in_plant_tables(desk):
     """The regions of plant_tables."""
     return [*in_table_specs(desk), *in_put_specs(desk), *in_table_code(desk), *in_desk_statements(desk), *in_row_changes(desk), *in_writing(desk)]
@@ -228,9 +136,6 @@ def in_table_specs(desk):
     """The regions that declare the tables and their changes."""
     tables, rows = desk.tables, desk.tables[1:]
     defs, contents, premises = (f"plant_tables/specs/{name}.antt" for name in ("DeskTableDefs", "DeskTables", "Keyed"))
-    later = [table for table in tables if table.schema > 1]
-    elsewhere = ("batch_row_order", "sublot_order", "edge_order", "mark_order")
-    orders = [table.order for table in keyed(desk) if table.order not in elsewhere]
     return [
         Region(defs, "the columns", imports("plant_tables_columns.specs.TableColumns", tables, "${stored}_columns")),
         Region(defs, "how each table is declared", many(tables, """\
@@ -241,10 +146,10 @@ ${name}_table = record { name = codes "$name"; columns = ${stored}_columns.decla
         Region(contents, "the rows of each table", many(rows, "∷ map row_of_$one t.$list")),
         Region(contents, "what a change makes of the rows", many(
             tables, "rows_changed (change.$change r) = changed_at $place ${name}_table (row_of_$one r)")),
-        Region(premises, "the orders", f"use Rattle.plant_base.specs.State.{{newest_schema, same, {', '.join(orders)}}}"),
-        Region(premises, "no rows of later tables", many(later, "pub ${list} : nat_le $schema schema ≡ false → t.$list ≡ []")),
-        Region(premises, "keys in order", many(keyed(desk), "pub $list : IsStrictlySortedBy $order t.$list")),
-        Region(premises, "the schema of a change", many(later, "IsOfSchema schema (change.$change r) = nat_le $schema schema ≡ true")),
+        Region(premises, "the orders", f"use Rattle.plant_base.specs.State.{{newest_schema, same, {', '.join(orders(keyed(tables)))}}}"),
+        Region(premises, "no rows of later tables", many(later(tables), "pub ${list} : nat_le $schema schema ≡ false → t.$list ≡ []")),
+        Region(premises, "keys in order", many(keyed(desk.tables), "pub $list : IsStrictlySortedBy $order t.$list")),
+        Region(premises, "the schema of a change", many(later(tables), "IsOfSchema schema (change.$change r) = nat_le $schema schema ≡ true")),
     ]
 
 
@@ -355,7 +260,7 @@ ${one}_key = record { total = $key_total; met = λ x r. or_false _ ∙ one_$key_
         Region(path, "changes of the newest tables", many(
             newest(desk), "one_changed (change.$change r) t keyed fresh = at_place $place (rows.put ${name}_table (row_of_$one r)) (rows_of t)"
             " (map row_of_$one (put $order r t.$list)) (omega arith) (put_typed ${one}_key r t.$list keyed.$list)")),
-        Region(path, "keys after a change", keys_after(tables, keyed(desk))),
+        Region(path, "keys after a change", keys_after(tables, keyed(desk.tables))),
         Region(path, "the newest tables changed alike", many(
             newest(desk), "rows_same (change.$change r) a b same = changed_same $place ${name}_table (row_of_$one r) a b same")),
     ]
@@ -599,8 +504,7 @@ def in_abstraction(tables, with_state, late):
     """The regions of the state that a database shows."""
     specs, proof = "plant_keyed/specs/Abstraction.antt", "plant_keyed/proofs/AbstractionIsState.antt"
     shown = [tables[0], *with_state]
-    orders = [it.order for it in with_state if it.order not in ("batch_row_order", "sublot_order")]
-    state = f"use Rattle.plant_base.specs.State.{{State, newest_schema, {', '.join(orders)}}}"
+    state = f"use Rattle.plant_base.specs.State.{{State, newest_schema, {', '.join(orders(with_state))}}}"
     read = ["only_meta", *(it.read for it in with_state)]
     fields = []
     for it in with_state:

@@ -4,14 +4,17 @@
     make/tables.py          writes each region anew
     make/tables.py --check  ends with status 1 where a region isn't what the description gives
 
-make/regions.py says what a region is, and make/table_regions.py what each repeats. What isn't alike for each table is written by hand.
+make/regions.py says what a region is; make/table_regions.py, make/schema_regions.py and make/line_regions.py say what each repeats. What isn't
+alike for each table is written by hand.
 """
 from __future__ import annotations
 
 import dataclasses
 import sys
 
+import line_regions
 import regions
+import schema_regions
 import table_regions
 from regions import camel
 
@@ -136,6 +139,8 @@ class Table:
     list: str = ""
     order: str = ""
     values: str = ""
+    # Whether it is plant_base that says what values a row has, as of each plain one.
+    base_values: bool = False
     # How a row is read from its columns, and why it is read again as it was written.
     read: str = ""
     again: str = ""
@@ -149,12 +154,14 @@ class Table:
     plain: bool = False
     # Why its columns fit.
     fits: str = "refl"
-    # Whether the state has its rows; the type and the field of those, how they are made of those of the table, and what they lack.
+    # Whether the state has its rows; the type and the field of those, how they are made of those of the table, and what they lack;
+    # and how the rows of the table are made of a state s in a schema k.
     in_state: bool = True
     state_row: str = ""
     state_list: str = ""
     bare: str = ""
     lacks: str = ""
+    made: str = ""
     # The name of the id by which a lookup finds a row, where a generated proof says that it does.
     looked_up: str = ""
     place: int = 0
@@ -174,6 +181,16 @@ class Table:
         self.values = self.values or f"Has{self.row}Values"
         self.read = self.read or self.stored + "_from"
         self.again = self.again or f"(λ r h. {self.one}_reads.again r h tt)"
+
+    @property
+    def has_base_values(self):
+        """Whether it is plant_base that says what values a row has."""
+        return self.plain or self.base_values
+
+    @property
+    def rows(self):
+        """How the rows are made of a state s in a schema k."""
+        return self.made or (f"s.{self.list}" if self.schema == 1 else f"{self.list}_in k s.{self.list}")
 
     def number(self, column):
         """The place of a column, from 1."""
@@ -206,7 +223,8 @@ TABLES = [
         "batch", "id=batch.id:id job:id at:moment by_who:text note:text state:batch_state attempt:attempt next:next closed:flag",
         "Batches, with the columns that are the fold of their events. No two are of one order.",
         keys=["id", "job"], row="BatchRow", list="batches", order="batch_row_order", updates=True,
-        state_row="Batch", bare="map (λ r. r.batch)", lacks="the columns that follow from their events",
+        state_row="Batch", bare="map batch_of_row", lacks="the columns that follow from their events",
+        made="map (batch_row s.control_lines s.events) s.batches",
     ),
     Table(
         "control_line", "batch:id no=number:line_number kind:line_kind def:id_or_null qty:quantity t1:id_or_empty t2:text t3:id_or_empty",
@@ -217,11 +235,11 @@ TABLES = [
         "What happened to batches.",
         keys=["seq"], one="event", stored="batch_event", row="BatchEvent", values="HasEventRowValues", grows=True,
     ),
-    Table("lot", "id:id def:id", "Material lots.", looked_up="id"),
+    Table("lot", "id:id def:id", "Material lots.", looked_up="id", base_values=True),
     Table(
         "sublot", "lot:id no=number:sublot place:text stock:quantity", "Material sublots, with their stock.",
         keys=["lot no"], updates=True, added="Adds a sublot of a lot that is added with it.", state_row="Place", state_list="places",
-        bare="map place_of_row", lacks="their stock",
+        bare="map place_of_row", lacks="their stock", made="map (sublot_row s.movements) s.places",
     ),
     Table(
         "movement",
@@ -232,11 +250,12 @@ TABLES = [
     ),
     Table(
         "hold", "lot:id id:id at:moment by_who=by:text note:text", "The holds of lots.",
-        keys=["lot id"], taken=Taken("Unhold", "lot hold", "DELETE_HOLD", "lot id", after="receipt"),
+        keys=["lot id"], base_values=True, taken=Taken("Unhold", "lot hold", "DELETE_HOLD", "lot id", after="receipt"),
     ),
     Table(
         "edge", "kind:edge_kind a=from:id b=to:id", "Edges of the genealogy.",
         keys=["kind a b"], row="EdgeRow", values="HasEdgeValues", schema=2, updates=True, in_state=False,
+        made="edges_in k s.movements",
     ),
     Table(
         "receipt", "id=reference:id seq:seq content:content", "What is kept of accepted commands that had a reference.",
@@ -246,11 +265,11 @@ TABLES = [
         "recall",
         "id:id lot:id state:recall_state at:moment by_who:text note:text lift_at:moment_or_null lift_by:text_or_null lift_note:text_or_null",
         "The recalls of lots.", schema=4, updates=True, stored="stated", stored_row="StatedRecall", read="recall_read", again="recall_again",
-        fits="(stated_lawful.fits (stated_of c.in-Recall.row))", looked_up="id",
+        fits="(stated_lawful.fits (stated_of c.in-Recall.row))", looked_up="id", base_values=True, made="recalls_in k s.recalls",
     ),
     Table(
         "mark", "recall:id kind:mark_kind id:id", "The marks on what open recalls reach.",
-        keys=["recall kind id"], schema=4, in_state=False,
+        keys=["recall kind id"], schema=4, in_state=False, made="marks_in k s.recalls s.movements",
         taken=Taken("Unmark", "recall", "DELETE_MARKS", "recall", after="mark", doc="Takes all marks of a recall away."),
     ),
 ]
@@ -338,8 +357,13 @@ def described():
     return Desk(TABLES, INDEXES, LOOKUPS)
 
 
+def regions_of(desk):
+    """All regions."""
+    return [region for part in (table_regions, schema_regions, line_regions) for region in part.regions(desk)]
+
+
 def main():
-    return regions.run("make/tables.py", __doc__, "tables", table_regions.regions(described()))
+    return regions.run("make/tables.py", __doc__, "tables", regions_of(described()))
 
 
 if __name__ == "__main__":

@@ -14,10 +14,12 @@ DEPOT_BY_ID = '    ("depot_by_id", "depot", "id"),\n    ("edges", "edge", ""),\n
 class TablesTestCase(RegionsTestCase):
     """A test case over a copy of the files."""
 
-    TOOLS = ("make/tables.py", "make/table_regions.py", "make/regions.py")
+    TOOLS = (
+        "make/tables.py", "make/table_regions.py", "make/schema_regions.py", "make/line_regions.py", "make/table_words.py", "make/regions.py",
+    )
 
     def described(self, tool):
-        return tool.table_regions.regions(tool.described())
+        return tool.regions_of(tool.described())
 
     def add_depot(self):
         """Adds a table to the description."""

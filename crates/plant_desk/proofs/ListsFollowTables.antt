@@ -5,7 +5,7 @@ use Rattle.plant_base.proofs.PutKeepsOrder.{put_kept}
 use Rattle.plant_view.specs.{RowChange}
 use Rattle.plant_view.specs.declared.change.RowChange.TheVariants as row
 use Rattle.plant_view.specs.Tables.{state_without_kept, Tables, tables_of, changed, changed_all, batch_row_order, sublot_order, place_of_row, batch_of_row}
-use Rattle.plant_answers.proofs.PlainTables.{plain_tables}
+use Rattle.plant_answers.proofs.PlainTables.{plain_tables, whole_in_newest}
 use Rattle.plant_desk.specs.Lists.{applied, applied_all}
 
 plain_changed : (c : RowChange) (t : Tables) → state_without_kept (changed c t) ≡ applied c (state_without_kept t)
@@ -18,4 +18,4 @@ plain_changed_all [] t = refl
 plain_changed_all (c ∷ cs) t = plain_changed_all cs (changed c t) ∙ ap (applied_all cs) (plain_changed c t)
 
 pub leads : (cs : List RowChange) (s next : State) → changed_all cs (tables_of newest_schema s) ≡ tables_of newest_schema next → applied_all cs s ≡ next
-leads cs s next e = ap (applied_all cs) (sym (plain_tables newest_schema s (refl, refl))) ∙ sym (plain_changed_all cs (tables_of newest_schema s)) ∙ ap state_without_kept e ∙ plain_tables newest_schema next (refl, refl)
+leads cs s next e = ap (applied_all cs) (sym (plain_tables newest_schema s (whole_in_newest s))) ∙ sym (plain_changed_all cs (tables_of newest_schema s)) ∙ ap state_without_kept e ∙ plain_tables newest_schema next (whole_in_newest next)

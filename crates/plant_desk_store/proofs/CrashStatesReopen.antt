@@ -7,6 +7,7 @@ use Rattle.sqlite.specs.Effect.{Database, IsDatabase}
 use Rattle.sqlite_catalog.specs.Listing.{IsSound}
 use Rattle.plant_base.specs.State.{State, opening, newest_schema}
 use Rattle.plant_view.specs.Tables.{Tables, tables_of}
+use Rattle.plant_answers.proofs.PlainTables.{whole_in_newest}
 use Rattle.plant_invariant.proofs.StepPreservesInvariant.{opening_is_valid}
 use Rattle.sql_tables.specs.StoredRows.{AreFree, IsFree, KeepsOtherTables}
 use Rattle.plant_tables.specs.DeskTableDefs.{desk_table_defs, later_table_defs}
@@ -80,7 +81,7 @@ pub opening_adopted : (old : Database) → IsDatabase old → AreFree desk_table
 opening_adopted old was free db (sound, inl same) = inl (same_database old db was sound same)
 opening_adopted old was free db (sound, inr (inl made)) =
     let represents = found_here old db sound newest_schema (tables_of newest_schema opening) made.finds in
-    let held : HoldsValidState newest_schema db opening = record { known = (omega arith, omega arith); valid = opening_is_valid; holds = represents.0; whole = (refl, refl) } in
+    let held : HoldsValidState newest_schema db opening = record { known = (omega arith, omega arith); valid = opening_is_valid; holds = represents.0; whole = whole_in_newest opening } in
     inr (record { held = held; free = none_later newest_schema db.schema refl }, represents.1)
 opening_adopted old was free db (sound, inr (inr raised)) = absurd (not_free raised.version old raised.represented.0 raised.represented.1 free)
 

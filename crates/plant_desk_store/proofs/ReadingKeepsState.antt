@@ -7,6 +7,7 @@ use Rattle.sqlite.specs.State as store
 use Rattle.sqlite.specs.State.{HasCleanDisk, Survives}
 use Rattle.plant_base.specs.State.{State, newest_schema}
 use Rattle.plant_view.specs.Tables.{tables_of}
+use Rattle.plant_answers.proofs.PlainTables.{whole_in_newest}
 use Rattle.plant_invariant.specs.StateInvariant.{StateInvariant}
 use Rattle.sql_tables.specs.AtRest.{Keeps}
 use Rattle.sql_tables.proofs.TransactionEnds.{IsStore}
@@ -41,7 +42,7 @@ still_open old new s at clean kept survives laws = record {
 -- ---- a commit
 
 found_in : (old : Database) (db : Trees) (s : State) → StateInvariant s → FindsTables old db (tables_of newest_schema s) → FindsState db s
-found_in old db s valid finds = record { valid = valid; schema = finds.schema; holds = finds.holds; whole = (refl, refl) }
+found_in old db s valid finds = record { valid = valid; schema = finds.schema; holds = finds.holds; whole = whole_in_newest s }
 
 -- the state that is represented is what a stop leaves
 crash_states_at : (new : store.State) (s : State) → StateInvariant s → IsAt new (tables_of newest_schema s) → HasCleanDisk new → IsStore new → HasCrashStates new (λ u. u ≡ s)

@@ -4,7 +4,7 @@ from __future__ import annotations
 from regions import Region
 from table_words import filled, is_stored_as_read, keyed, law, many, orders, row_laws, row_types, used, uses, values
 
-DEFS, ROWS, STATE = "plant_tables.specs.DeskTableDefs", "plant_base.specs", "plant_base.specs.State"
+DEFS, ROWS, STATE = "plant_tables.specs.DeskTableDefs", "plant_base.specs", "plant_base.specs.PlantState"
 BASE, OWN, LAWS = "plant_base.specs.RowValues", "plant_tables_columns.specs.ValidValues", "plant_tables_columns.proofs.RowLaws"
 
 
@@ -35,7 +35,7 @@ def in_base(desk):
         Region("plant_base/src/lib.rt", "the types of rows", used("rows", types, "pub use ")),
         Region(values_path, "the types of rows that one id finds", many(plain(desk), "use Rattle.plant_base.specs.declared.rows.$row.{$row}")),
         Region(values_path, "rows that one id finds", "\n\n".join(map(values_of, plain(desk)))),
-        Region("plant_base/specs/State.antt", "the types of rows", "\n".join(
+        Region("plant_base/specs/PlantState.antt", "the types of rows", "\n".join(
             f"use Rattle.plant_base.specs.declared.rows.{it.state_row}.{{{it.state_row}}}" for it in desk.tables if it.in_state)),
     ]
 

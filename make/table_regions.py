@@ -146,7 +146,7 @@ ${name}_table = record { name = codes "$name"; columns = ${stored}_columns.decla
         Region(contents, "the rows of each table", many(rows, "∷ map row_of_$one t.$list")),
         Region(contents, "what a change makes of the rows", many(
             tables, "rows_changed (change.$change r) = changed_at $place ${name}_table (row_of_$one r)")),
-        Region(premises, "the orders", f"use Rattle.plant_base.specs.State.{{newest_schema, same, {', '.join(orders(keyed(tables)))}}}"),
+        Region(premises, "the orders", f"use Rattle.plant_base.specs.PlantState.{{newest_schema, same, {', '.join(orders(keyed(tables)))}}}"),
         Region(premises, "no rows of later tables", many(later(tables), "pub ${list} : nat_le $schema schema ≡ false → t.$list ≡ []")),
         Region(premises, "keys in order", many(keyed(desk.tables), "pub $list : IsStrictlySortedBy $order t.$list")),
         Region(premises, "the schema of a change", many(later(tables), "IsOfSchema schema (change.$change r) = nat_le $schema schema ≡ true")),
@@ -504,7 +504,7 @@ def in_abstraction(tables, with_state, late):
     """The regions of the state that a database shows."""
     specs, proof = "plant_keyed/specs/Abstraction.antt", "plant_keyed/proofs/AbstractionIsState.antt"
     shown = [tables[0], *with_state]
-    state = f"use Rattle.plant_base.specs.State.{{State, newest_schema, {', '.join(orders(with_state))}}}"
+    state = f"use Rattle.plant_base.specs.PlantState.{{State, newest_schema, {', '.join(orders(with_state))}}}"
     read = ["only_meta", *(it.read for it in with_state)]
     fields = []
     for it in with_state:
@@ -602,7 +602,7 @@ def in_other_files(desk):
         Region("plant_view/specs/Tables.antt", "changes of each table", changes),
         Region("plant_sorted/src/keys.rt", "keys of the newest tables", many(late, """\
 impl HasKey for $row {
-    ghost use Rattle.plant_base.specs.State.{$order};
+    ghost use Rattle.plant_base.specs.PlantState.{$order};
 
     ghost order = { $order };
 
@@ -618,7 +618,7 @@ impl HasKey for $row {
 
 def in_states(states, plain):
     """The regions of the rows of a state, and of the lookups of those that one id finds."""
-    lists, specs, state = "plant_desk/src/lists.rt", "plant_desk/specs/Lists.antt", "plant_base/specs/State.antt"
+    lists, specs, state = "plant_desk/src/lists.rt", "plant_desk/specs/Lists.antt", "plant_base/specs/PlantState.antt"
     return [
         Region(state, "the rows of each table", many(states, "pub $state_list : List $state_row")),
         Region(state, "no rows", many(states, "$state_list = [];")),

@@ -1,2 +1,3 @@
 pub mod Served
 pub mod Worked
+pub use Worked.{exit_status}

@@ -6,22 +6,16 @@ use Rattle.sqlite.specs.declared.error.ErrorCode.TheVariants.{OutOfMemory}
 use Rattle.sqlite_trees.specs.declared.store.Store.{Ghosts}
 use Rattle.sqlite.specs.State as store
 use Rattle.sqlite.specs.State.{HasCleanDisk}
-use Rattle.plant_base.specs.State.{State}
-use Rattle.plant_desk_store.specs.DeskStates.{HasCrashStates, IsDurablyAt, Represents}
+use Rattle.plant_base.specs.{State}
+use Rattle.plant_desk_store.specs.{HasCrashStates, IsDurablyAt, Represents}
 use Rattle.plant_http_requests.specs.{Profile}
 use Rattle.plant_http_requests.specs.declared.profile.Profile.TheVariants as profile
-use Rattle.desk_file.specs.Working.{WasDone}
-use Rattle.desk_cli.specs.Hosts.{names_of}
+use Rattle.desk_file.specs.{WasDone}
+use Rattle.desk_cli.specs.{names_of, Serving, Work}
 use Rattle.desk_cli.specs.declared.hosts.Hosts.{Hosts}
-use Rattle.desk_cli.specs.{Serving, Work}
 use Rattle.desk_cli.specs.declared.meaning.Work.TheVariants as work
-use Rattle.desk_program.specs.Faults.{status_of}
-use Rattle.desk_program.specs.Performs.{after_closing}
-use Rattle.desk_program.specs.Runs.{AdoptedIfHonest, WasRefused}
-use Rattle.desk_program.specs.Tasks.{TaskGives}
-use Rattle.desk_program.specs.{Fault}
-use Rattle.desk_server.specs.Serving.{EndsServing, HasServed}
-use Rattle.desk_server.specs.{ServingFault}
+use Rattle.desk_program.specs.{status_of, after_closing, AdoptedIfHonest, WasRefused, TaskGives, Fault}
+use Rattle.desk_server.specs.{EndsServing, HasServed, ServingFault}
 use Rattle.desk.specs.Served.{outcome_of}
 
 -- The profile by which requests are served: with the page, under these further names, and else without it.

@@ -1,8 +1,8 @@
 //! The work of the arguments, done over the file that they name.
 ghost use Rattle.std.specs.Prelude.{◌≡◌, ◌≢◌};
 ghost use Rattle.sqlite.specs.Steps.{over_memory};
-ghost use Rattle.desk_file.specs.Working.{in_memory};
-ghost use Rattle.desk_program.specs.Performs.{after_closing};
+ghost use Rattle.desk_file.specs.{in_memory};
+ghost use Rattle.desk_program.specs.{after_closing};
 ghost use Rattle.desk.specs.Worked.{ExitsOver};
 
 use crate::working::do_work;

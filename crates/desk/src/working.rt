@@ -3,8 +3,8 @@ ghost use Rattle.std.specs.Prelude.{◌≡◌, false, Err, IfErr, OnErr, OnOk};
 ghost use Rattle.sqlite.specs.Held.{state};
 ghost use Rattle.desk.specs.Served.{outcome_of};
 ghost use Rattle.desk.specs.Worked.{DeskServes, IsProfileOf, ServingGives, WorkGives};
-ghost use Rattle.desk_program.specs.Runs.{WasHonest};
-ghost use Rattle.desk_server.specs.Serving.{EndsServing, ServesAtMost};
+ghost use Rattle.desk_program.specs.{WasHonest};
+ghost use Rattle.desk_server.specs.{EndsServing, ServesAtMost};
 ghost use Rattle.plant_http_requests.specs.{Profile};
 
 use desk_cli::{Hosts, Serving, Work};

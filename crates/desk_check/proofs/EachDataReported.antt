@@ -7,8 +7,7 @@ use Rattle.serde_json.specs.declared.value.Value.{Value, Array}
 use Rattle.serde_json.proofs.Views.{view-Array}
 use Rattle.plant_check.specs.{Rule}
 use Rattle.plant_check_rows.specs.{Tested}
-use Rattle.desk_check.specs.Objects.{each_data, found_data}
-use Rattle.desk_check.specs.Reports.{found_in}
+use Rattle.desk_check.specs.{each_data, found_data, found_in}
 
 -- what is reported of one rule more
 pub each_data_more : (t : Tested) (rs : List Rule) (r : Rule) → each_data t (rs ++ r ∷ []) ≡ each_data t rs ++ found_data (found_in t r)

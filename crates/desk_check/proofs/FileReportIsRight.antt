@@ -1,25 +1,19 @@
 -- The report on an opened store is right.
-use Rattle.std.proofs.Common.{◌≡◌, ◌∙◌, ◌<◌, ◌≤◌, ℕ, ℤ, pos, Option, Some, None, Result, Ok, Err, IfOk, IfSome, refl, sym, subst, inl, inr, arith}
-use Rattle.std.specs.Prelude.{◌↔◌, ◌≢◌, All}
+use Rattle.std.proofs.Common.{◌≡◌, ◌∙◌, ◌<◌, ◌≤◌, ℕ, ℤ, pos, Option, Some, None, Result, Ok, Err, IfOk, IfSome, refl, sym, subst, inl, inr, arith, ◌↔◌, ◌≢◌, All}
 use Rattle.sqlite.specs.Effect.{Database}
 use Rattle.sqlite.specs.State as store
 use Rattle.sqlite.specs.State.{IsUnchanged}
-use Rattle.sql_tables.specs.AtRest.{Keeps}
-use Rattle.sql_tables.specs.{Fault}
-use Rattle.plant_base.specs.State.{newest_schema}
-use Rattle.plant_tables_read.specs.Version.{IsVersion}
-use Rattle.plant_tables_read.specs.{FoundTables, Loaded}
+use Rattle.sql_tables.specs.{Keeps, Fault, AreFree, IsFree}
+use Rattle.plant_base.specs.{newest_schema}
+use Rattle.plant_tables_read.specs.{IsVersion, FoundTables, Loaded}
 use Rattle.plant_tables_read.proofs.OneVersion.{one_version}
-use Rattle.plant_check.specs.Broken.{first_broken}
-use Rattle.plant_check.specs.Damaged.{IsDamaged}
-use Rattle.plant_check.specs.{Rule}
-use Rattle.plant_check_rows.specs.Findings.{first_rule}
+use Rattle.plant_check.specs.{first_broken, IsDamaged, Rule}
+use Rattle.plant_check_rows.specs.{first_rule}
 use Rattle.plant_check_rows.proofs.FirstFoundIsFirstBroken.{first_found}
-use Rattle.sql_tables.specs.StoredRows.{AreFree, IsFree}
-use Rattle.plant_tables.specs.DeskTableDefs.{desk_table_defs}
+use Rattle.plant_tables.specs.{desk_table_defs}
 use Rattle.plant_tables_read.specs.declared.finding.FoundTables.TheVariants as tables
 use Rattle.plant_check.specs.declared.rule.Rule.TheVariants as rule
-use Rattle.desk_check.specs.FileReports.{HoldsRows, IsHeldBy, IsHeldIn, IsReadAt, IsFileReportOf, IsReportOf, first_reported}
+use Rattle.desk_check.specs.{HoldsRows, IsHeldBy, IsHeldIn, IsReadAt, IsFileReportOf, IsReportOf, first_reported}
 use Rattle.desk_check.specs.declared.barred.DeskIndex.{DeskIndex}
 use Rattle.desk_check.specs.declared.file_report.Held.{Held}
 use Rattle.desk_check.specs.declared.file_report.Held.TheVariants as held

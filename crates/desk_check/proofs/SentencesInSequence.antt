@@ -1,16 +1,13 @@
 -- Sentences that are written one after the other.
-use Rattle.std.proofs.Common.{◌≡◌, ◌∙◌, refl, ◌+◌, ◌<◌, ℕ, length, take, get_or, List, [], ◌∷◌, ◌++◌, Option, Result, Ok, Err, ap, sym, subst, append-nil, append_assoc}
-use Rattle.std.specs.Prelude.{IfSome, OnOk, Some, None}
+use Rattle.std.proofs.Common.{◌≡◌, ◌∙◌, refl, ◌+◌, ◌<◌, ℕ, length, take, get_or, List, [], ◌∷◌, ◌++◌, Option, Result, Ok, Err, ap, sym, subst, append-nil, append_assoc, IfSome, OnOk, Some, None}
 use Rattle.std.specs.Io.KnownBytes.{Appends}
 use Rattle.std.proofs.KnownBytes.{Appends-trans}
 use Rattle.std.proofs.lemmas.List.{take_more}
-use Rattle.plant_text.specs.Writes.{with_lf}
+use Rattle.plant_text.specs.{with_lf}
 use Rattle.plant_check.specs.{Rule}
 use Rattle.plant_check_rows.specs.{Tested}
 use Rattle.desk_check.specs.declared.open_error.OpenError.{OpenError}
-use Rattle.desk_check.specs.OpenErrors.{IsErrorText, error_of}
-use Rattle.desk_check.specs.Outcomes.{opening_text, IsFirstSentence, WritesOpening}
-use Rattle.desk_check.specs.Reports.{found_text, found_in, each_text, open_error_text}
+use Rattle.desk_check.specs.{IsErrorText, error_of, opening_text, IsFirstSentence, WritesOpening, found_text, found_in, each_text, open_error_text}
 
 pub each_more : (t : Tested) (rs : List Rule) (r : Rule) → each_text t (rs ++ r ∷ []) ≡ each_text t rs ++ found_text (found_in t r)
 each_more t [] r = append-nil (found_text (found_in t r))

@@ -3,9 +3,8 @@ use Rattle.std.specs.Prelude.{ℕ, Bool, false, ◌&&◌, List, [], ◌∷◌, O
 use Rattle.sqlite_schema.specs.Names.{same_name}
 use Rattle.sqlite_schema.specs.declared.schema.Schema.{Schema}
 use Rattle.sqlite_schema.specs.declared.schema.View.{View}
-use Rattle.plant_base.specs.Values.{is_text}
-use Rattle.plant_check_rows.specs.Naming.{table_name}
-use Rattle.plant_check_rows.specs.{Table}
+use Rattle.plant_base.specs.{is_text}
+use Rattle.plant_check_rows.specs.{table_name, Table}
 use Rattle.plant_check_rows.specs.declared.fault.Table.TheVariants as table
 use Rattle.desk_check.specs.declared.bound.Binder.{Binder}
 use Rattle.desk_check.specs.declared.file_report.FileReport.{FileReport}

@@ -2,19 +2,15 @@
 use Rattle.std.specs.Prelude.{◌≡◌, ◌<◌, ◌≤◌, ℕ, ℤ, pos, All, length, Option, Some, None}
 use Rattle.std.specs.Option.{option_map_or}
 use Rattle.sqlite.specs.Effect.{Database}
-use Rattle.plant_base.specs.State.{newest_schema}
-use Rattle.plant_base.specs.{Meta}
-use Rattle.sql_tables.specs.StoredRows.{AreFree, IsFree}
-use Rattle.plant_tables.specs.DeskTableDefs.{desk_table_defs}
-use Rattle.plant_tables_columns.specs.TableColumns.{only_meta}
-use Rattle.plant_tables_read.specs.Loading.{AreLoaded, contents_loaded}
-use Rattle.plant_tables_read.specs.Version.{IsVersion, HasTablesOf}
-use Rattle.plant_tables_read.specs.{FoundTables, Loaded}
+use Rattle.plant_base.specs.{newest_schema, Meta}
+use Rattle.sql_tables.specs.{AreFree, IsFree}
+use Rattle.plant_tables.specs.{desk_table_defs}
+use Rattle.plant_tables_columns.specs.{only_meta}
+use Rattle.plant_tables_read.specs.{AreLoaded, contents_loaded, IsVersion, HasTablesOf, FoundTables, Loaded}
 use Rattle.plant_tables_read.specs.declared.finding.FoundTables.TheVariants as tables
-use Rattle.plant_check.specs.Damaged.{IsDamaged}
-use Rattle.plant_check.specs.{Rule}
+use Rattle.plant_check.specs.{IsDamaged, Rule}
 use Rattle.plant_check.specs.declared.rule.Rule.TheVariants as rule
-use Rattle.plant_check_rows.specs.Findings.{AreFindingsOf, first_rule}
+use Rattle.plant_check_rows.specs.{AreFindingsOf, first_rule}
 use Rattle.plant_check_rows.specs.declared.finding.Findings.{Findings}
 use Rattle.desk_check.specs.Barred.{barred_index}
 use Rattle.desk_check.specs.declared.barred.DeskIndex.{DeskIndex}

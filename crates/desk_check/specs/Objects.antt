@@ -2,13 +2,9 @@
 use Rattle.std.specs.Prelude.{ℕ, Bool, List, [], ◌∷◌, ◌++◌, codes, Option, Some, None, is_none}
 use Rattle.serde_json.specs.Data.{Data, Members, null, boolean, number, unsigned, string, array, object, member, no_members}
 use Rattle.serde_json.specs.View.{items_of}
-use Rattle.plant_check.specs.Numbered.{rule_number}
-use Rattle.plant_check.specs.{Rule}
+use Rattle.plant_check.specs.{rule_number, Rule}
 use Rattle.plant_check.specs.declared.rule.Rule.TheVariants as rule
-use Rattle.plant_check_rows.specs.Findings.{rule_text}
-use Rattle.plant_check_rows.specs.Naming.{column_name, table_name}
-use Rattle.plant_check_rows.specs.Texts.{found_text, wanted_text}
-use Rattle.plant_check_rows.specs.{Column, Finding, Key, RowFault, Tested}
+use Rattle.plant_check_rows.specs.{rule_text, column_name, table_name, found_text, wanted_text, Column, Finding, Key, RowFault, Tested}
 use Rattle.plant_check_rows.specs.declared.fault.Key.TheVariants as key
 use Rattle.plant_check_rows.specs.declared.finding.Findings.{Findings}
 use Rattle.plant_check_rows.specs.declared.finding.Findings.TheVariants as findings

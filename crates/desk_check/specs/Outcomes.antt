@@ -2,7 +2,7 @@
 use Rattle.std.specs.Prelude.{◌≡◌, ℕ, List, [], ◌∷◌, ◌++◌, codes, Bool, true, false, Option, Some, None, Result, Ok, Err}
 use Rattle.std.specs.Io.KnownBytes.{Appends}
 use Rattle.serde_json.specs.Written.{compact_text}
-use Rattle.plant_text.specs.Writes.{with_lf}
+use Rattle.plant_text.specs.{with_lf}
 use Rattle.plant_check.specs.{Rule}
 use Rattle.plant_check_rows.specs.declared.finding.Findings.{Findings}
 use Rattle.plant_check_rows.specs.declared.finding.Findings.TheVariants as findings

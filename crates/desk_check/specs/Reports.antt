@@ -1,20 +1,16 @@
 -- The report on a file, in sentences.
 use Rattle.std.specs.Prelude.{ℕ, List, [], ◌∷◌, ◌++◌, codes, decimal, Option, Some, None}
-use Rattle.plant_text.specs.Writes.{with_lf}
-use Rattle.plant_check.specs.Numbered.{rule_number}
-use Rattle.plant_check.specs.{Rule}
+use Rattle.plant_text.specs.{with_lf}
+use Rattle.plant_check.specs.{rule_number, Rule}
 use Rattle.plant_check.specs.declared.rule.Rule.TheVariants as rule
-use Rattle.plant_tables_read.specs.Collecting.{rows_listed}
-use Rattle.plant_check_rows.specs.Findings.{rule_text, finding_of}
-use Rattle.plant_check_rows.specs.Texts.{fault_text}
-use Rattle.plant_check_rows.specs.{Finding, RowFault, Tested}
+use Rattle.plant_tables_read.specs.{rows_listed}
+use Rattle.plant_check_rows.specs.{rule_text, finding_of, fault_text, Finding, RowFault, Tested, table_name}
 use Rattle.plant_check_rows.specs.declared.finding.Findings.{Findings}
 use Rattle.plant_check_rows.specs.declared.finding.Findings.TheVariants as findings
 use Rattle.desk_check.specs.Barred.{index_name}
 use Rattle.desk_check.specs.OpenErrors.{cause_text, advice_text}
 use Rattle.desk_check.specs.declared.barred.DeskIndex.{DeskIndex}
 use Rattle.desk_check.specs.declared.bound.Binder.{Binder}
-use Rattle.plant_check_rows.specs.Naming.{table_name}
 use Rattle.desk_check.specs.declared.open_error.OpenError.{OpenError}
 use Rattle.desk_check.specs.declared.file_report.DeskSummary.{DeskSummary}
 use Rattle.desk_check.specs.declared.file_report.FileReport.{FileReport}

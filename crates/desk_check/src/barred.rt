@@ -1,7 +1,7 @@
 //! Indexes of the desk that can't be made, since something else bears their name.
 ghost use Rattle.std.specs.Prelude.{◌≡◌, map};
 ghost use Rattle.sqlite.specs.Change.{is_used};
-ghost use Rattle.plant_tables.specs.DeskIndexes.{desk_indexes};
+ghost use Rattle.plant_tables.specs.{desk_indexes};
 ghost use Rattle.desk_check.specs.Barred as spec;
 
 use sqlite_schema::schema::Schema;

@@ -2,10 +2,11 @@
 ghost use Rattle.std.specs.Prelude.{◌≡◌, IfOk, IfSome};
 ghost use Rattle.sqlite.specs.Held.{state};
 ghost use Rattle.sqlite.specs.State.{HasCleanDisk, Survives};
-ghost use Rattle.sql_tables.specs.AtRest.{Keeps};
-ghost use Rattle.plant_check.specs.Damaged.{IsDamaged};
-ghost use Rattle.desk_check.specs.FileReports.{IsHeldBy, IsHeldIn, IsReadAs, IsReadAt, IsFileReportOf, IsReportOf};
-ghost use Rattle.desk_check.specs.FileReports.{ReportsDesk, first_reported, summary_of};
+ghost use Rattle.sql_tables.specs.{Keeps};
+ghost use Rattle.plant_check.specs.{IsDamaged};
+ghost use Rattle.desk_check.specs.FileReports.{IsHeldBy, IsHeldIn, IsReadAs, IsReadAt};
+ghost use Rattle.desk_check.specs.FileReports.{IsFileReportOf, IsReportOf, ReportsDesk};
+ghost use Rattle.desk_check.specs.FileReports.{first_reported, summary_of};
 
 use crate::barred::{DeskIndex, barred_index};
 use crate::bound::Binder;

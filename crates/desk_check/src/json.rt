@@ -1,9 +1,10 @@
 //! The report on a file, as one JSON object.
-ghost use Rattle.std.specs.Prelude.{◌≡◌, ◌∷◌, ◌++◌, [], ℕ, List, Option, IfOk, OnOk, Some, map, string_bytes};
+ghost use Rattle.std.specs.Prelude.{◌≡◌, ◌∷◌, ◌++◌, [], ℕ, List, Option, IfOk, OnOk, Some, map};
+ghost use Rattle.std.specs.Prelude.{string_bytes};
 ghost use Rattle.std.specs.Io.KnownBytes.{Appends};
 ghost use Rattle.serde_json.specs.View.{view};
 ghost use Rattle.serde_json.specs.Written.{compact_text};
-ghost use Rattle.plant_text.specs.Writes.{with_lf};
+ghost use Rattle.plant_text.specs.{with_lf};
 ghost use Rattle.desk_check.specs.Reports.{found_in};
 ghost use Rattle.desk_check.specs.Objects as spec;
 ghost use Rattle.desk_check.specs.OpenErrors.{HasWords, HasWordsOf, error_of};

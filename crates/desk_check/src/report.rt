@@ -1,7 +1,8 @@
 //! The report on a file, in sentences.
-ghost use Rattle.std.specs.Prelude.{◌≡◌, ℕ, List, ◌++◌, IfOk, IfSome, OnOk, Some, codes, string_bytes};
+ghost use Rattle.std.specs.Prelude.{◌≡◌, ℕ, List, ◌++◌, IfOk, IfSome, OnOk, Some, codes};
+ghost use Rattle.std.specs.Prelude.{string_bytes};
 ghost use Rattle.std.specs.Io.KnownBytes.{Appends};
-ghost use Rattle.plant_text.specs.Writes.{with_lf};
+ghost use Rattle.plant_text.specs.{with_lf};
 ghost use Rattle.desk_check.specs.OpenErrors.{IsErrorText, closed_text, error_of};
 ghost use Rattle.desk_check.specs.Outcomes.{WritesOpening};
 ghost use Rattle.desk_check.specs.Reports as spec;

@@ -1,10 +1,9 @@
 -- Numbers in arguments, as std reads them.
-use Rattle.std.proofs.Common.{◌≡◌, ◌<◌, ◌≤◌, ◌^◌, ℕ, Bool, true, false, List, length, Some, None, nat_le, ◌&&◌, if◌then◌else◌, ap, ◌∙◌, refl, rules, arith}
-use Rattle.std.specs.Prelude.{IfSome}
+use Rattle.std.proofs.Common.{◌≡◌, ◌<◌, ◌≤◌, ◌^◌, ℕ, Bool, true, false, List, length, Some, None, nat_le, ◌&&◌, if◌then◌else◌, ap, ◌∙◌, refl, rules, arith, IfSome}
 use Rattle.std.specs.Str.Parse.{IsNumeral, digits_value, without_leading_plus}
 use Rattle.std.proofs.lemmas.Str.Parse.{numerals_by_value, tells_all_ascii_digits}
-use Rattle.plant_base.specs.Values.{only}
-use Rattle.desk_cli.specs.Meaning.{is_numeral, number_in}
+use Rattle.plant_base.specs.{only}
+use Rattle.desk_cli.specs.{is_numeral, number_in}
 
 both : (a b : Bool) → (a && b) ≡ true → (a ≡ true) × (b ≡ true)
 both true b e = (refl, e)

@@ -1,16 +1,13 @@
 -- The plain arguments, computed.
-use Rattle.std.proofs.Common.{◌≡◌, ◌||◌, Bool, true, false, List, [], ◌∷◌, None, Some, Ok, Err, codes, refl, ap, ◌∙◌, rules}
-use Rattle.std.specs.Str.{bytes_eq}
+use Rattle.std.proofs.Common.{◌≡◌, ◌||◌, Bool, true, false, List, [], ◌∷◌, None, Some, Ok, Err, codes, refl, ap, ◌∙◌, rules, bytes_eq}
 use Rattle.clap.specs.Lexer.{long_of, short_of}
 use Rattle.clap.specs.Words.{Row, Text, fault_of, subcommand_of}
 use Rattle.clap.specs.declared.parser.matches.ValueSource.TheVariants.{CommandLine, DefaultValue}
 use Rattle.clap.specs.declared.builder.value_parser.Reading.TheVariants.{AsWritten, WithoutMinus}
-use Rattle.desk_cli.specs.CommandLine.{the_program}
+use Rattle.desk_cli.specs.{the_program, Meant, meant_in, number_in, work_in, AreWrong, Break, FileWords, ImportWords, Mean, ServeWords, ReportWords, begins_with_dash, hosts_of_names}
 use Rattle.clap.proofs.OnLiterals.{clap_on_literals}
-use Rattle.plant_base.specs.Values.{is_id}
-use Rattle.desk_cli.specs.Meaning.{Meant, meant_in, number_in, work_in}
-use Rattle.desk_cli.specs.PlainWords.{AreWrong, Break, FileWords, ImportWords, Mean, PlainWords, ServeWords, ReportWords, begins_with_dash}
-use Rattle.desk_cli.specs.Hosts.{hosts_of_names}
+use Rattle.plant_base.specs.{is_id}
+use Rattle.desk_cli.specs.PlainWords.{PlainWords}
 use Rattle.desk_cli.specs.declared.argument.Argument.{Argument}
 use Rattle.desk_cli.specs.declared.argument.Argument.TheVariants as argument
 use Rattle.desk_cli.specs.declared.meaning.Work.TheVariants as work

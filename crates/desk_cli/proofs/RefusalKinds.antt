@@ -6,8 +6,7 @@ use Rattle.clap.specs.Words.{Text, fault_of, kind_of, subcommand_of}
 use Rattle.clap.specs.declared.error.Error.{Error}
 use Rattle.clap.specs.declared.error.kind.ErrorKind.{ErrorKind}
 use Rattle.clap.specs.declared.error.kind.ErrorKind.TheVariants as kind
-use Rattle.desk_cli.specs.CommandLine.{the_program}
-use Rattle.desk_cli.specs.Meaning.{IsFaultOf, IsRefusalOf, IsRefusedBy, NamesBroken, asks_help, is_mistake, meant_in, fault_as}
+use Rattle.desk_cli.specs.{the_program, IsFaultOf, IsRefusalOf, IsRefusedBy, NamesBroken, asks_help, is_mistake, meant_in, fault_as}
 use Rattle.desk_cli.specs.declared.argument.Argument.{Argument}
 use Rattle.desk_cli.specs.declared.meaning.WordsFault.{WordsFault}
 use Rattle.desk_cli.specs.declared.meaning.WordsFault.TheVariants.{Usage, Help, Memory}

@@ -1,9 +1,7 @@
 -- Which refusals the arguments of a check of a desk's file lead to.
-use Rattle.std.proofs.Common.{◌≡◌, List, None, inl, inr}
-use Rattle.std.specs.Prelude.{codes}
+use Rattle.std.proofs.Common.{◌≡◌, List, None, inl, inr, codes}
 use Rattle.clap.specs.Words.{Text, fault_of}
-use Rattle.desk_cli.specs.DeskChecking.{IsUnchecked, desk_check_app, given}
-use Rattle.desk_cli.specs.Meaning.{IsRefusalOf, NamesBroken}
+use Rattle.desk_cli.specs.{IsUnchecked, desk_check_app, given, IsRefusalOf, NamesBroken}
 use Rattle.desk_cli.specs.declared.argument.Argument.TheVariants as argument
 use Rattle.desk_cli.specs.declared.meaning.WordsFault.{WordsFault}
 use Rattle.desk_cli.specs.declared.meaning.WordsFault.TheVariants.{Usage, Help, Memory}

@@ -1,7 +1,7 @@
 -- The names of hosts that the arguments give.
 use Rattle.std.specs.Prelude.{ℕ, ◌&&◌, ◌||◌, ◌==◌, nat_le, Bool, false, List, [], ◌∷◌, length, take, Option, Some, None, option_and_then, slice_get, unwrap_or, if◌then◌else◌}
 use Rattle.std.specs.List.{list_all}
-use Rattle.plant_base.specs.Values.{is_text, only}
+use Rattle.plant_base.specs.{is_text, only}
 use Rattle.desk_cli.specs.declared.hosts.Hosts.{Hosts}
 
 -- the most names

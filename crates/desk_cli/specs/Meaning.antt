@@ -1,13 +1,12 @@
 -- What the arguments of the command line mean.
-use Rattle.std.specs.Prelude.{◌≡◌, ◌⊎◌, ℕ, ◌&&◌, nat_le, Bool, true, false, List, [], length, codes, Option, Some, None, Result, Ok, Err, ok_or}
-use Rattle.std.specs.Prelude.{option_and_then, if◌then◌else◌, string_bytes}
+use Rattle.std.specs.Prelude.{◌≡◌, ◌⊎◌, ℕ, ◌&&◌, nat_le, Bool, true, false, List, [], length, codes, Option, Some, None, Result, Ok, Err, ok_or, option_and_then, if◌then◌else◌, string_bytes, bytes_eq}
 use Rattle.std.specs.List.{list_any}
-use Rattle.std.specs.Str.{all_ascii_digits, bytes_eq}
+use Rattle.std.specs.Str.{all_ascii_digits}
 use Rattle.std.specs.Str.Parse.{digits_value, without_leading_plus}
 use Rattle.clap.specs.Words.{Kinds, Row, Text, all_of, fault_of, first_of, subcommand_of}
 use Rattle.clap.specs.declared.error.kind.ErrorKind.{ErrorKind}
 use Rattle.clap.specs.declared.error.kind.ErrorKind.TheVariants as kind
-use Rattle.plant_base.specs.Values.{greatest_moment, is_id, is_text, only}
+use Rattle.plant_base.specs.{greatest_moment, is_id, is_text, only}
 use Rattle.plant_trace.specs.{Direction}
 use Rattle.plant_trace.specs.declared.direction.Direction.TheVariants.{Back, Forward}
 use Rattle.desk_cli.specs.Arguments.{name_of, refusal_text}

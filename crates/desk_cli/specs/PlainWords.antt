@@ -1,9 +1,8 @@
 -- What plain arguments mean, whatever the program, the file and the batch are called.
-use Rattle.std.specs.Prelude.{◌≡◌, ◌==◌, ◌||◌, Bool, true, false, List, [], ◌∷◌, codes, Some, None, Ok, Err}
-use Rattle.std.specs.Str.{bytes_eq}
+use Rattle.std.specs.Prelude.{◌≡◌, ◌==◌, ◌||◌, Bool, true, false, List, [], ◌∷◌, codes, Some, None, Ok, Err, bytes_eq}
 use Rattle.clap.specs.Words.{Text, fault_of, subcommand_of}
 use Rattle.clap.specs.declared.error.kind.ErrorKind.TheVariants as kind
-use Rattle.plant_base.specs.Values.{is_id}
+use Rattle.plant_base.specs.{is_id}
 use Rattle.plant_trace.specs.{Direction}
 use Rattle.plant_trace.specs.declared.direction.Direction.TheVariants.{Back, Forward}
 use Rattle.desk_cli.specs.declared.argument.Argument.{Argument}

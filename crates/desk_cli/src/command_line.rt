@@ -1,10 +1,11 @@
 //! The command line, as it is defined to clap.
 ghost use Rattle.std.specs.Prelude.{◌≡◌, IfOk, codes, false};
 ghost use Rattle.clap.specs.Words.{app_of, rule_of, shape_of, with_rule, with_subcommand};
-ghost use Rattle.desk_cli.specs.CommandLine.{bare_program, import_app, count_rule, host_rule, log_rule, page_rule, port_app, port_rule, record_app};
-ghost use Rattle.desk_cli.specs.CommandLine.{serve_app, the_program, trace_app, required_rule, word_app};
-ghost use Rattle.desk_cli.specs.CommandLine.{at_rule, by_rule, reference_rule, with_taking, with_report_words};
-ghost use Rattle.desk_cli.specs.CommandLine.{IsLocal};
+ghost use Rattle.desk_cli.specs.CommandLine.{bare_program, import_app, count_rule, host_rule};
+ghost use Rattle.desk_cli.specs.CommandLine.{log_rule, page_rule, port_app, port_rule, record_app};
+ghost use Rattle.desk_cli.specs.CommandLine.{serve_app, the_program, trace_app, required_rule};
+ghost use Rattle.desk_cli.specs.CommandLine.{word_app, at_rule, by_rule, reference_rule};
+ghost use Rattle.desk_cli.specs.CommandLine.{with_taking, with_report_words, IsLocal};
 
 use clap::{Arg, ArgAction, Command, value_parser};
 use plant_base::GREATEST_MOMENT;

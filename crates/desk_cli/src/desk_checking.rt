@@ -2,7 +2,8 @@
 ghost use Rattle.std.specs.Prelude.{◌≡◌, IfErr, IfOk, Some, [], codes, false, map};
 ghost use Rattle.clap.specs.Words.{app_of, fault_of, rule_of};
 ghost use Rattle.desk_cli.specs.CommandLine.{file_rule};
-ghost use Rattle.desk_cli.specs.DeskChecking.{IsUnchecked, desk_check_app, given, json_rule, room_rule};
+ghost use Rattle.desk_cli.specs.DeskChecking.{IsUnchecked, desk_check_app, given, json_rule};
+ghost use Rattle.desk_cli.specs.DeskChecking.{room_rule};
 ghost use Rattle.desk_cli.specs.Meaning.{is_set};
 
 use crate::argument::Argument;

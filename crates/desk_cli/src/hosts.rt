@@ -1,9 +1,10 @@
 //! The names of hosts that the arguments give.
 ghost use Rattle.std.specs.Prelude.{◌≡◌, ◌≤◌, [], ◌∷◌, length, map, IfSome};
 ghost use Rattle.std.specs.List.{list_all};
-ghost use Rattle.plant_base.specs.Values.{is_text, only};
-ghost use Rattle.desk_cli.specs.Hosts.{are_hosts, begins_host, hosts_of, hosts_of_names, is_host_byte, is_host_name};
-ghost use Rattle.desk_cli.specs.Hosts.{is_letter_or_digit, names_of, text_at};
+ghost use Rattle.plant_base.specs.{is_text, only};
+ghost use Rattle.desk_cli.specs.Hosts.{are_hosts, begins_host, hosts_of, hosts_of_names};
+ghost use Rattle.desk_cli.specs.Hosts.{is_host_byte, is_host_name, is_letter_or_digit, names_of};
+ghost use Rattle.desk_cli.specs.Hosts.{text_at};
 
 use plant_base::Text;
 

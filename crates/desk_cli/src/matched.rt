@@ -1,8 +1,9 @@
 //! What the arguments of the command line mean, as clap matched them.
 ghost use Rattle.std.specs.Prelude.{◌≡◌, codes};
 ghost use Rattle.clap.specs.Words.{all_of, first_of, found_of, rows_of, subcommand_rows_of};
-ghost use Rattle.desk_cli.specs.Meaning.{all_meant, hosts_given, import_in, is_set, meant_by, meant_in, page_in, record_in, serving_in};
-ghost use Rattle.desk_cli.specs.Meaning.{task_work, trace_in, work_in};
+ghost use Rattle.desk_cli.specs.Meaning.{all_meant, hosts_given, import_in, is_set, meant_by};
+ghost use Rattle.desk_cli.specs.Meaning.{meant_in, page_in, record_in, serving_in, task_work};
+ghost use Rattle.desk_cli.specs.Meaning.{trace_in, work_in};
 
 use crate::argument::Argument;
 use crate::hosts::{Hosts, hosts_of};

@@ -3,7 +3,8 @@ ghost use Rattle.std.specs.Prelude.{◌≡◌, IfErr, IfOk, Some, Ok, [], map};
 ghost use Rattle.clap.specs.Words.{fault_of, kind_of, subcommand_of};
 ghost use Rattle.desk_cli.specs.CommandLine.{the_program};
 ghost use Rattle.desk_cli.specs.Arguments.{refusal_text};
-ghost use Rattle.desk_cli.specs.Meaning.{IsFaultOf, IsRefusedBy, NamesBroken, meant_in, fault_as, words_meant};
+ghost use Rattle.desk_cli.specs.Meaning.{IsFaultOf, IsRefusedBy, NamesBroken, meant_in, fault_as};
+ghost use Rattle.desk_cli.specs.Meaning.{words_meant};
 
 use crate::argument::Argument;
 use crate::command_line::command_line;

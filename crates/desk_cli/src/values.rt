@@ -1,7 +1,7 @@
 //! The values of the subcommands' arguments, each by its rule.
 ghost use Rattle.std.specs.Prelude.{◌≡◌, ◌<◌, ◌^◌, ◌≤◌, IfOk, map, option_map};
 ghost use Rattle.clap.specs.Words.{all_of, first_of, found_of, rows_of};
-ghost use Rattle.plant_base.specs.Values.{greatest_moment, is_id, is_text, only};
+ghost use Rattle.plant_base.specs.{greatest_moment, is_id, is_text, only};
 ghost use Rattle.desk_cli.specs.Arguments.{name_of};
 ghost use Rattle.desk_cli.specs.Meaning.{direction_of, if_named, number_in, value_in};
 

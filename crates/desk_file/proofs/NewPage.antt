@@ -1,10 +1,9 @@
 -- The page of a new file.
-use Rattle.std.proofs.Common.{◌≡◌, ◌∙◌, ℕ, ◌≤◌, List, ◌++◌, take, replicate, length, ap, arith, refl}
-use Rattle.std.proofs.lemmas.List.{length-take}
+use Rattle.std.proofs.Common.{◌≡◌, ◌∙◌, ℕ, ◌≤◌, List, ◌++◌, take, replicate, length, ap, arith, refl, length-take}
 use Rattle.std.proofs.lemmas.List.FromFn.{length-map-range_with_len}
 use Rattle.sqlite_pool.specs.Header.{first_page, first_page_byte}
 use Rattle.desk_file.specs.declared.new_file.TheConstants.{FRONT}
-use Rattle.desk_file.specs.NewFile.{new_page}
+use Rattle.desk_file.specs.{new_page}
 
 -- its first bytes, and zeros
 pub front_and_zeros : FRONT ++ replicate 916 0 ≡ new_page

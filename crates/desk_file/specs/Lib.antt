@@ -1,3 +1,5 @@
 pub mod NewFile
 pub mod Timing
 pub mod Working
+pub use NewFile.{new_page}
+pub use Working.{WasDone, in_memory}

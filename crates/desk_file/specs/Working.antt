@@ -3,7 +3,7 @@ use Rattle.std.specs.Prelude.{◌≡◌, ℕ, List, codes, false}
 use Rattle.sqlite.specs.State.{State, HasCleanDisk}
 use Rattle.sqlite.specs.Held.{Held, state}
 use Rattle.sqlite_trees.specs.declared.store.Store.{Ghosts}
-use Rattle.sql_queries.specs.Opened.{IsNewlyOpened}
+use Rattle.sql_queries.specs.{IsNewlyOpened}
 
 -- the file name that means a new store in memory
 abbrev pub in_memory : List ℕ

@@ -4,7 +4,7 @@ ghost use Rattle.sqlite.specs.Held.{state};
 ghost use Rattle.sqlite.specs.Files.{file_state};
 ghost use Rattle.sqlite.specs.State.{HasCleanDisk};
 ghost use Rattle.sqlite.specs.Steps.{over_memory};
-ghost use Rattle.sql_queries.specs.Opened.{IsNewlyOpened};
+ghost use Rattle.sql_queries.specs.{IsNewlyOpened};
 ghost use Rattle.desk_file.specs.Working.{in_memory, WasDone};
 
 use crate::new_file::make_missing;

@@ -3,11 +3,10 @@ use Rattle.std.proofs.Common.{◌≡◌, inl, inr, false, Bool, arith}
 use Rattle.sqlite.specs.State as store
 use Rattle.sqlite.specs.State.{Survives}
 use Rattle.sqlite.specs.Tree.{Trees}
-use Rattle.plant_base.specs.State.{State, opening}
-use Rattle.plant_desk.specs.Keepers.{States}
-use Rattle.plant_desk_store.specs.Adopting.{IsNewlyOpened, AdoptedFrom}
-use Rattle.plant_desk_store.specs.DeskStates.{IsDurablyAt, Represents}
-use Rattle.desk_program.specs.Runs.{WasHonest}
+use Rattle.plant_base.specs.{State, opening}
+use Rattle.plant_desk.specs.{States}
+use Rattle.plant_desk_store.specs.{IsNewlyOpened, AdoptedFrom, IsDurablyAt, Represents}
+use Rattle.desk_program.specs.{WasHonest}
 
 pub adopted_so : (c : store.State) → IsNewlyOpened c → (before after : States) → ((s : State) → before s → after s) → AdoptedFrom c before → AdoptedFrom c after
 adopted_so c opened before after step (inl h) = inl (h.0, step opening h.1)

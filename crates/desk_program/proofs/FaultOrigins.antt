@@ -2,7 +2,7 @@
 use Rattle.std.proofs.Common.{◌≡◌, ◌≢◌}
 use Rattle.plant_desk_store.specs.{AdoptFault}
 use Rattle.plant_desk_store.specs.declared.adopting.AdoptFault.TheVariants as adopt
-use Rattle.desk_program.specs.Faults.{adopt_fault}
+use Rattle.desk_program.specs.{adopt_fault}
 use Rattle.desk_program.specs.declared.fault.Fault.{Fault}
 use Rattle.desk_program.specs.declared.fault.Fault.TheVariants as fault
 

@@ -1,12 +1,8 @@
 -- Order files that were taken in.
-use Rattle.std.proofs.Common.{◌≡◌, ℕ, List, Option, Some, None, Result, Ok, Err, subst}
-use Rattle.std.specs.Prelude.{IfSome, IfOk, IfErr}
-use Rattle.plant_base.specs.Inputs.{Agrees}
-use Rattle.plant_base.specs.{OrderRow}
-use Rattle.plant_orders.specs.Orders.{orders_of}
-use Rattle.plant_orders.specs.FaultsOfFiles.{FaultOfFile}
-use Rattle.plant_orders.specs.{OrdersFault}
-use Rattle.desk_program.specs.ImportOutcomes.{IsGivenOf}
+use Rattle.std.proofs.Common.{◌≡◌, ℕ, List, Option, Some, None, Result, Ok, Err, subst, IfSome, IfOk, IfErr}
+use Rattle.plant_base.specs.{Agrees, OrderRow}
+use Rattle.plant_orders.specs.{orders_of, FaultOfFile, OrdersFault}
+use Rattle.desk_program.specs.{IsGivenOf}
 
 -- what a reader gave is of the file that it had left
 pub given_of : (unread : Option (List ℕ)) (given : Result (List OrderRow) OrdersFault)

@@ -1,11 +1,8 @@
 -- One line on standard output.
-use Rattle.std.proofs.Common.{◌≡◌, ℕ, List, Option, Result, Ok, Err, subst, sym, refl}
-use Rattle.std.specs.Prelude.{OnOk, IfErr, MatchResult, ◌≢◌}
+use Rattle.std.proofs.Common.{◌≡◌, ℕ, List, Option, Result, Ok, Err, subst, sym, refl, OnOk, IfErr, MatchResult, ◌≢◌}
 use Rattle.std.specs.Io.KnownBytes.{Appends}
-use Rattle.plant_text.specs.Writes.{with_lf, AppendsPrefix}
-use Rattle.desk_program.specs.Faults.{IsPrintFault}
-use Rattle.desk_program.specs.Performs.{Lines, Printed, Unprinted}
-use Rattle.desk_program.specs.Reports.{LineStops}
+use Rattle.plant_text.specs.{with_lf, AppendsPrefix}
+use Rattle.desk_program.specs.{IsPrintFault, Lines, Printed, Unprinted, LineStops}
 use Rattle.desk_program.specs.declared.fault.Fault.{Fault}
 use Rattle.desk_program.specs.declared.fault.Fault.TheVariants as fault
 

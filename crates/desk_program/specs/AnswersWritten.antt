@@ -2,17 +2,15 @@
 use Rattle.std.specs.Prelude.{◌≡◌, ◌⊎◌, ℕ, List, ◌++◌, Bool, Option, Result, Ok, Err, IfOk, flat_map}
 use Rattle.std.specs.Io.KnownBytes.{Appends}
 use Rattle.sqlite.specs.State as store
-use Rattle.plant_base.specs.State.{newest_schema}
-use Rattle.plant_trace.specs.Nodes.{node_text}
-use Rattle.plant_trace.specs.{Node}
-use Rattle.plant_record.specs.Record.{record_text}
-use Rattle.plant_answers.specs.Answers.{answer}
+use Rattle.plant_base.specs.{newest_schema}
+use Rattle.plant_trace.specs.{node_text, Node}
+use Rattle.plant_record.specs.{record_text}
+use Rattle.plant_answers.specs.{answer}
 use Rattle.plant_messages.specs.{Answer, DeskFault, Question}
 use Rattle.plant_messages.specs.declared.question.Answer.TheVariants as A
-use Rattle.plant_desk_store.specs.DeskStates.{IsDurablyAt}
-use Rattle.plant_text_answers.specs.Answers.{text_of_answer}
-use Rattle.plant_text.specs.Session.{is_unknown}
-use Rattle.plant_text.specs.Writes.{with_lf, AppendsPrefix}
+use Rattle.plant_desk_store.specs.{IsDurablyAt}
+use Rattle.plant_text_answers.specs.{text_of_answer}
+use Rattle.plant_text.specs.{is_unknown, with_lf, AppendsPrefix}
 use Rattle.desk_program.specs.Faults.{desk_fault}
 use Rattle.desk_program.specs.Runs.{AdoptedIfHonest, WasRefused}
 use Rattle.desk_program.specs.declared.fault.Fault.{Fault}

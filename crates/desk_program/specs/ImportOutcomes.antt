@@ -2,21 +2,13 @@
 use Rattle.std.specs.Prelude.{◌≡◌, ◌⊎◌, ℕ, List, Bool, true, false, Option, Result, Ok, Err}
 use Rattle.std.specs.Io.KnownBytes.{Appends}
 use Rattle.sqlite.specs.State as store
-use Rattle.plant_base.specs.Inputs.{Agrees}
-use Rattle.plant_base.specs.State.{State, newest_schema}
-use Rattle.plant_base.specs.{OrderRow}
-use Rattle.plant_desk.specs.Keepers.{States}
+use Rattle.plant_base.specs.{Agrees, State, newest_schema, OrderRow}
+use Rattle.plant_desk.specs.{States}
 use Rattle.plant_messages.specs.declared.reply.DeskFault.TheVariants as desk
-use Rattle.plant_desk_store.specs.DeskStates.{Represents, HasCrashStates}
-use Rattle.plant_orders.specs.Importing.{import}
-use Rattle.plant_orders.specs.Orders.{orders_of}
-use Rattle.plant_orders.specs.FaultsOfFiles.{csv_text, FaultOfFile}
-use Rattle.plant_orders.specs.{CsvFault, ImportMetadata, OrdersFault}
+use Rattle.plant_desk_store.specs.{Represents, HasCrashStates}
+use Rattle.plant_orders.specs.{import, orders_of, csv_text, FaultOfFile, CsvFault, ImportMetadata, OrdersFault}
 use Rattle.plant_orders.specs.declared.source.OrdersFault.TheVariants as none
-use Rattle.plant_text.specs.Session.{command}
-use Rattle.plant_text.specs.Turns.{TurnEnds, FaultWritten}
-use Rattle.plant_text.specs.Writes.{with_lf, AppendsPrefix}
-use Rattle.plant_text.specs.{TurnError}
+use Rattle.plant_text.specs.{command, TurnEnds, FaultWritten, with_lf, AppendsPrefix, TurnError}
 use Rattle.desk_program.specs.Faults.{outcome_of_turn}
 use Rattle.desk_program.specs.Runs.{AdoptedIfHonest, WasRefused}
 use Rattle.desk_program.specs.declared.fault.Fault.{Fault}

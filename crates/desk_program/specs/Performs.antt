@@ -1,7 +1,7 @@
 -- What is written as the program does what its arguments ask for, and the exit status.
 use Rattle.std.specs.Prelude.{◌≡◌, ◌⊎◌, ℕ, List, Bool, true, false, Option, Result, Ok, Err, string_bytes}
 use Rattle.std.specs.Io.KnownBytes.{Appends}
-use Rattle.plant_text.specs.Writes.{with_lf, AppendsPrefix}
+use Rattle.plant_text.specs.{with_lf, AppendsPrefix}
 use Rattle.desk_program.specs.Faults.{status_of, NothingBut}
 use Rattle.desk_program.specs.Texts.{ready_text, good_text, fault_text}
 use Rattle.desk_program.specs.declared.fault.Fault.{Fault}

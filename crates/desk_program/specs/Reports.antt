@@ -2,9 +2,9 @@
 use Rattle.std.specs.Prelude.{◌≡◌, ◌⊎◌, ℕ, List, Bool, false, Option, Result, Ok, Err}
 use Rattle.std.specs.Io.KnownBytes.{Appends}
 use Rattle.sqlite.specs.State as store
-use Rattle.plant_base.specs.State.{State, newest_schema}
-use Rattle.plant_desk_store.specs.DeskStates.{IsDurablyAt}
-use Rattle.plant_text.specs.Writes.{with_lf, AppendsPrefix}
+use Rattle.plant_base.specs.{State, newest_schema}
+use Rattle.plant_desk_store.specs.{IsDurablyAt}
+use Rattle.plant_text.specs.{with_lf, AppendsPrefix}
 use Rattle.desk_program.specs.Faults.{IsPrintFault, NothingBut}
 use Rattle.desk_program.specs.Runs.{AdoptedIfHonest, IsRefused}
 use Rattle.desk_program.specs.Texts.{ready_text, good_text}

@@ -3,15 +3,10 @@ use Rattle.std.specs.Prelude.{◌≡◌, ◌⊎◌, ℕ, List, Bool, Option, Res
 use Rattle.std.specs.Io.KnownBytes.{Consumes}
 use Rattle.sqlite.specs.State as store
 use Rattle.sqlite.specs.State.{HasCleanDisk}
-use Rattle.plant_base.specs.State.{State, newest_schema}
-use Rattle.plant_desk.specs.Keepers.{States}
-use Rattle.plant_desk_store.specs.Adopting.{IsNewlyOpened, AdoptedFrom}
-use Rattle.plant_desk_store.specs.Calls.{HasRefused}
-use Rattle.plant_desk_store.specs.DeskStates.{Represents, HasCrashStates}
-use Rattle.plant_desk_store.specs.{AdoptFault}
-use Rattle.plant_text.specs.Session.{Ends}
-use Rattle.plant_text.specs.CrashStates.{CrashStatesOfRun}
-use Rattle.plant_text.specs.{RunEnd}
+use Rattle.plant_base.specs.{State, newest_schema}
+use Rattle.plant_desk.specs.{States}
+use Rattle.plant_desk_store.specs.{IsNewlyOpened, AdoptedFrom, HasRefused, Represents, HasCrashStates, AdoptFault}
+use Rattle.plant_text.specs.{Ends, CrashStatesOfRun, RunEnd}
 use Rattle.desk_program.specs.Faults.{adopt_fault, outcome_of}
 use Rattle.desk_program.specs.declared.fault.Fault.{Fault}
 

@@ -2,9 +2,8 @@
 ghost use Rattle.std.specs.Prelude.{◌≡◌, ◌≢◌, false, Err, IfOk, IfErr, MatchResult};
 ghost use Rattle.sqlite.specs.Held.{state};
 ghost use Rattle.sqlite.specs.State.{HasCleanDisk};
-ghost use Rattle.plant_desk_store.specs.Adopting.{IsNewlyOpened, AdoptedFrom};
-ghost use Rattle.plant_base.specs.State.{State};
-ghost use Rattle.plant_desk_store.specs.DeskStates.{IsDurablyAt, Represents};
+ghost use Rattle.plant_desk_store.specs.{IsNewlyOpened, AdoptedFrom, IsDurablyAt, Represents};
+ghost use Rattle.plant_base.specs.{State};
 ghost use Rattle.desk_program.specs.Faults.{adopt_fault};
 ghost use Rattle.desk_program.specs.Runs.{IsRefused, WasHonest};
 

@@ -2,15 +2,15 @@
 ghost use Rattle.std.specs.Prelude.{◌≡◌, false, IfOk, Some, string_bytes};
 ghost use Rattle.sqlite.specs.Held.{state};
 ghost use Rattle.sqlite.specs.State.{HasCleanDisk};
-ghost use Rattle.plant_base.specs.State.{State, newest_schema};
-ghost use Rattle.plant_trace.specs.Nodes.{node_text};
-ghost use Rattle.plant_answers.specs.Answers.{answer};
-ghost use Rattle.plant_desk.specs.Keepers.{IsSameDesk};
-ghost use Rattle.plant_desk_store.specs.DeskStates.{IsDurablyAt};
-ghost use Rattle.plant_text_answers.specs.Answers.{text_of_answer};
-ghost use Rattle.plant_text.specs.Writes.{with_lf};
-ghost use Rattle.desk_program.specs.AnswersWritten.{answer_lines};
-ghost use Rattle.desk_program.specs.AnswersWritten.{AnswerPrinted, AnswerWritten, AskedWritten, AskGives};
+ghost use Rattle.plant_base.specs.{State, newest_schema};
+ghost use Rattle.plant_trace.specs.{node_text};
+ghost use Rattle.plant_answers.specs.{answer};
+ghost use Rattle.plant_desk.specs.{IsSameDesk};
+ghost use Rattle.plant_desk_store.specs.{IsDurablyAt};
+ghost use Rattle.plant_text_answers.specs.{text_of_answer};
+ghost use Rattle.plant_text.specs.{with_lf};
+ghost use Rattle.desk_program.specs.AnswersWritten.{answer_lines, AnswerPrinted, AnswerWritten};
+ghost use Rattle.desk_program.specs.AnswersWritten.{AskedWritten, AskGives};
 ghost use Rattle.desk_program.specs.Runs.{WasHonest};
 
 use crate::adopting::{Performed, adopt, performed_of};

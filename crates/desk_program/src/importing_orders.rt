@@ -2,13 +2,13 @@
 ghost use Rattle.std.specs.Prelude.{◌≡◌, Bool, false, IfSome};
 ghost use Rattle.sqlite.specs.Held.{state};
 ghost use Rattle.sqlite.specs.State.{HasCleanDisk};
-ghost use Rattle.plant_base.specs.State.{State};
-ghost use Rattle.plant_desk.specs.Keepers.{IsSameDesk};
-ghost use Rattle.plant_desk_store.specs.DeskStates.{IsDurablyAt, HasCrashStates, Represents};
-ghost use Rattle.plant_base.specs.State.{newest_schema};
-ghost use Rattle.plant_orders.specs.Orders.{orders_of};
-ghost use Rattle.desk_program.specs.ImportOutcomes.{CsvFaultWritten, FileEnds, ImportEnds, ImportGives};
-ghost use Rattle.desk_program.specs.ImportOutcomes.{MemoryFaultWritten, NoOrdersWritten, OrdersTaken};
+ghost use Rattle.plant_base.specs.{State, newest_schema};
+ghost use Rattle.plant_desk.specs.{IsSameDesk};
+ghost use Rattle.plant_desk_store.specs.{IsDurablyAt, HasCrashStates, Represents};
+ghost use Rattle.plant_orders.specs.{orders_of};
+ghost use Rattle.desk_program.specs.ImportOutcomes.{CsvFaultWritten, FileEnds, ImportEnds};
+ghost use Rattle.desk_program.specs.ImportOutcomes.{ImportGives, MemoryFaultWritten};
+ghost use Rattle.desk_program.specs.ImportOutcomes.{NoOrdersWritten, OrdersTaken};
 ghost use Rattle.desk_program.specs.Runs.{WasHonest};
 
 use crate::adopting::{Performed, adopt, performed_of};

@@ -1,6 +1,6 @@
 //! The lines that the program writes, in a room of fixed size: they take no memory.
 ghost use Rattle.std.specs.Prelude.{◌≡◌, ◌+◌, ◌≤◌, ◌++◌, length, decimal};
-ghost use Rattle.plant_orders.specs.FaultsOfFiles.{csv_text};
+ghost use Rattle.plant_orders.specs.{csv_text};
 ghost use Rattle.desk_program.specs.Texts as spec;
 
 use crate::fault::Fault;

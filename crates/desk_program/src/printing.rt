@@ -1,7 +1,7 @@
 //! Lines on standard output.
 ghost use Rattle.std.specs.Prelude.{◌≡◌, OnOk, IfErr};
 ghost use Rattle.std.specs.Io.KnownBytes.{Appends};
-ghost use Rattle.plant_text.specs.Writes.{with_lf, AppendsPrefix};
+ghost use Rattle.plant_text.specs.{with_lf, AppendsPrefix};
 
 use crate::fault::Fault;
 use crate::lines::ShortLine;

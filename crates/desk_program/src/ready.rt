@@ -3,11 +3,10 @@ ghost use Rattle.std.specs.Prelude.{◌≡◌, false, IfOk, IfErr, OnOk, MatchRe
 ghost use Rattle.std.specs.Io.KnownBytes.{Appends};
 ghost use Rattle.sqlite.specs.Held.{state};
 ghost use Rattle.sqlite.specs.State.{HasCleanDisk};
-ghost use Rattle.plant_base.specs.State.{State, newest_schema};
-ghost use Rattle.plant_desk.specs.Keepers.{IsSameDesk};
-ghost use Rattle.plant_desk_store.specs.Adopting.{IsNewlyOpened, AdoptedFrom};
-ghost use Rattle.plant_desk_store.specs.DeskStates.{IsDurablyAt};
-ghost use Rattle.plant_text.specs.Writes.{with_lf};
+ghost use Rattle.plant_base.specs.{State, newest_schema};
+ghost use Rattle.plant_desk.specs.{IsSameDesk};
+ghost use Rattle.plant_desk_store.specs.{IsNewlyOpened, AdoptedFrom, IsDurablyAt};
+ghost use Rattle.plant_text.specs.{with_lf};
 ghost use Rattle.desk_program.specs.Texts.{ready_text};
 ghost use Rattle.desk_program.specs.Faults.{IsPrintFault};
 ghost use Rattle.desk_program.specs.Performs.{IsReady, Printed, Unprinted};

@@ -1,8 +1,8 @@
 //! How far a keeper is.
 ghost use Rattle.std.specs.Prelude.{◌≡◌, ◌≢◌, false, IfOk, IfErr};
 ghost use Rattle.desk_program.specs.Faults.{IsPrintFault};
-ghost use Rattle.plant_base.specs.State.{State};
-ghost use Rattle.plant_desk.specs.Keepers.{IsSameDesk};
+ghost use Rattle.plant_base.specs.{State};
+ghost use Rattle.plant_desk.specs.{IsSameDesk};
 ghost use Rattle.desk_program.specs.Faults as spec;
 
 use crate::fault::Fault;

@@ -1,11 +1,10 @@
 -- The connection of a token, with something to be read on it.
-use Rattle.std.proofs.Common.{◌≡◌, ◌<◌, ◌≤◌, ℕ, ◌==◌, zero, suc, Bool, true, false, List, [], ◌∷◌, length, slice_index_or, Option, Some, None, inl, inr, refl, ap, ◌∙◌, lt-ltb, arith}
-use Rattle.std.specs.Prelude.{slice_set}
+use Rattle.std.proofs.Common.{◌≡◌, ◌<◌, ◌≤◌, ℕ, ◌==◌, zero, suc, Bool, true, false, List, [], ◌∷◌, length, slice_index_or, Option, Some, None, inl, inr, refl, ap, ◌∙◌, lt-ltb, arith, slice_set}
 use Rattle.std.specs.List.{position_or_len}
 use Rattle.std.proofs.lemmas.Bool.{cases_lt}
 use Rattle.std.proofs.lemmas.List.Quantifiers.{position-Some}
 use Rattle.std.proofs.lemmas.List.Sums.{fails_before_first}
-use Rattle.desk_server.specs.Waiting.{marked, position_of}
+use Rattle.desk_server.specs.{marked, position_of}
 use Rattle.desk_server.specs.declared.waiting.Waiter.{Waiter}
 
 set_at : (ws : List Waiter) (token i : ℕ) (d : Waiter) → i < length ws → ((slice_index_or ws i d).token == token) ≡ true

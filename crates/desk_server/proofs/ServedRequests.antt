@@ -1,25 +1,20 @@
 -- From what came of one request to what came of many.
-use Rattle.std.proofs.Common.{◌≡◌, ℕ, ◌+◌, ◌≤◌, Bool, true, false, List, [], ◌∷◌, ◌++◌, length, Option, Result, Ok, Err, refl, sym, ap, ◌∙◌, inl, inr, arith}
-use Rattle.std.proofs.lemmas.List.{length-append}
+use Rattle.std.proofs.Common.{◌≡◌, ℕ, ◌+◌, ◌≤◌, Bool, true, false, List, [], ◌∷◌, ◌++◌, length, Option, Result, Ok, Err, refl, sym, ap, ◌∙◌, inl, inr, arith, length-append}
 use Rattle.sqlite.specs.Held.{state}
 use Rattle.sqlite.specs.State.{HasCleanDisk}
 use Rattle.sqlite_trees.specs.declared.store.Store.{Ghosts}
-use Rattle.plant_desk_store.specs.DeskStates.{Represents, HasCrashStates}
-use Rattle.plant_desk_store.specs.{Desk}
-use Rattle.plant_base.specs.State.{State}
-use Rattle.plant_desk.specs.Keepers.{States}
+use Rattle.plant_desk_store.specs.{Represents, HasCrashStates, Desk}
+use Rattle.plant_base.specs.{State}
+use Rattle.plant_desk.specs.{States}
 use Rattle.plant_messages.specs.{DeskFault}
 use Rattle.plant_messages.specs.declared.reply.DeskFault.TheVariants.{Store, Memory, Shut}
-use Rattle.plant_text.specs.CrashStates.{RepresentsDurably, RepresentsEither}
-use Rattle.plant_text.specs.Session.{Entry, nothing, bad, command, question, check, after, fold, CrashStatesOfFault, CrashStatesOfStoreFault}
+use Rattle.plant_text.specs.{RepresentsDurably, RepresentsEither, Entry, nothing, bad, command, question, check, after, fold, CrashStatesOfFault, CrashStatesOfStoreFault}
 use Rattle.plant_text.proofs.RunCrashStates.{CrashStateIsOwn}
 use Rattle.plant_http_requests.specs.{Job, Profile}
-use Rattle.plant_http.specs.Answers.{Out}
-use Rattle.plant_http.specs.Serving.{entry_of, AnswersBy, Performs, Serves}
-use Rattle.plant_http.specs.{ServeFault, Served}
+use Rattle.plant_http.specs.{Out, entry_of, AnswersBy, Performs, Serves, ServeFault, Served}
 use Rattle.plant_http.specs.declared.serve.Served.TheVariants.{Answered, Nothing}
 use Rattle.plant_http.specs.declared.serve.ServeFault.TheVariants as end
-use Rattle.desk_server.specs.Serving.{Asked, entries, HasServed, ServesAtMost, IsSameStore}
+use Rattle.desk_server.specs.{Asked, entries, HasServed, ServesAtMost, IsSameStore}
 
 -- ---- one connection
 

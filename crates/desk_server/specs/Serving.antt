@@ -4,16 +4,12 @@ use Rattle.sqlite.specs.Effect.{Database}
 use Rattle.sqlite.specs.Held.{state}
 use Rattle.sqlite.specs.State.{HasCleanDisk}
 use Rattle.sqlite_trees.specs.declared.store.Store.{Ghosts}
-use Rattle.plant_base.specs.State.{State, newest_schema}
-use Rattle.plant_desk.specs.Keepers.{States, IsSameDesk}
-use Rattle.plant_desk_store.specs.DeskStates.{Represents, HasCrashStates, HasForeignTables}
-use Rattle.plant_desk_store.specs.{Desk}
-use Rattle.plant_text.specs.CrashStates.{RepresentsDurably, RepresentsEither}
-use Rattle.plant_text.specs.Session.{Entry, fold}
-use Rattle.plant_http_requests.specs.Jobs.{JobOf}
-use Rattle.plant_http_requests.specs.{Job, Profile}
-use Rattle.plant_http.specs.Serving.{entry_of}
-use Rattle.plant_http.specs.{ServeFault, Served}
+use Rattle.plant_base.specs.{State, newest_schema}
+use Rattle.plant_desk.specs.{States, IsSameDesk}
+use Rattle.plant_desk_store.specs.{Represents, HasCrashStates, HasForeignTables, Desk}
+use Rattle.plant_text.specs.{RepresentsDurably, RepresentsEither, Entry, fold}
+use Rattle.plant_http_requests.specs.{JobOf, Job, Profile}
+use Rattle.plant_http.specs.{entry_of, ServeFault, Served}
 use Rattle.plant_http.specs.declared.serve.Served.TheVariants.{Answered, Nothing}
 use Rattle.desk_server.specs.declared.fault.ServingFault.{ServingFault}
 use Rattle.desk_server.specs.declared.fault.ServingFault.TheVariants as fault

@@ -1,6 +1,5 @@
 -- What is done next with the connections that wait.
-use Rattle.std.specs.Prelude.{⊤, ◌≡◌, ◌<◌, ◌≤◌, ◌+◌, ◌-◌, ◌⊎◌, ℕ, ◌==◌, Bool, true, false, List, [], ◌∷◌, length, if◌then◌else◌, Option, Some, None, slice_get}
-use Rattle.std.specs.List.{position}
+use Rattle.std.specs.Prelude.{⊤, ◌≡◌, ◌<◌, ◌≤◌, ◌+◌, ◌-◌, ◌⊎◌, ℕ, ◌==◌, Bool, true, false, List, [], ◌∷◌, length, if◌then◌else◌, Option, Some, None, slice_get, position}
 use Rattle.desk_server.specs.declared.waiting.Waiter.{Waiter}
 use Rattle.desk_server.specs.declared.waiting.Step.{Step}
 use Rattle.desk_server.specs.declared.waiting.Step.TheVariants as step

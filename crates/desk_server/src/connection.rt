@@ -1,8 +1,8 @@
 //! One connection.
 ghost use Rattle.std.specs.Prelude.{◌≡◌, ◌*◌, true, false};
 ghost use Rattle.std.specs.Duration.{as_nanos};
-ghost use Rattle.plant_base.specs.State.{State};
-ghost use Rattle.plant_desk.specs.Keepers.{IsSameDesk};
+ghost use Rattle.plant_base.specs.{State};
+ghost use Rattle.plant_desk.specs.{IsSameDesk};
 ghost use Rattle.desk_server.specs.Serving.{HasServed, status_of};
 
 use crate::deadline::Timed;

@@ -1,5 +1,6 @@
 //! Connections, one after the other.
-ghost use Rattle.std.specs.Prelude.{◌≡◌, ◌≢◌, false, true, ◌<◌, ◌≤◌, length, Ok, Err, IfErr, IfOk, OnErr, OnOk};
+ghost use Rattle.std.specs.Prelude.{◌≡◌, ◌≢◌, false, true, ◌<◌, ◌≤◌, length, Ok, Err, IfErr, IfOk};
+ghost use Rattle.std.specs.Prelude.{OnErr, OnOk};
 ghost use Rattle.sqlite.specs.Held.{state};
 ghost use Rattle.sqlite.specs.State.{HasCleanDisk};
 ghost use Rattle.desk_server.specs.Serving.{EndsServing, EndsStep, IsSameStore, ServesAtMost};

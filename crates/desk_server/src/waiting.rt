@@ -1,7 +1,9 @@
 //! Connections that were taken, on which no byte has come so far as is known, and what is done next with them.
-ghost use Rattle.std.specs.Prelude.{◌≡◌, ◌<◌, ◌≤◌, ◌++◌, [], ◌∷◌, length, None, IfOk, IfSome, vec_capacity, slice_index_or};
+ghost use Rattle.std.specs.Prelude.{◌≡◌, ◌<◌, ◌≤◌, ◌++◌, [], ◌∷◌, length, None, IfOk, IfSome};
+ghost use Rattle.std.specs.Prelude.{vec_capacity, slice_index_or};
 ghost use Rattle.std.specs.List.{remove};
-ghost use Rattle.desk_server.specs.Waiting.{FitsStep, IsNext, first_with_bytes, marked, position_of, waited};
+ghost use Rattle.desk_server.specs.Waiting.{FitsStep, IsNext, first_with_bytes, marked};
+ghost use Rattle.desk_server.specs.Waiting.{position_of, waited};
 
 use crate::log::Arrival;
 use std::alloc::{AllocError, Global};

@@ -1,12 +1,9 @@
 -- The edges of a picture begin and end at its nodes.
-use Rattle.std.proofs.Common.{◌≡◌, ◌∙◌, ℕ, Bool, true, false, cond, List, [], ◌∷◌, ◌++◌, Option, Some, None, Result, Ok, Err, map, refl, sym, ap, subst, inl, inr, ◌⊎◌, ⊎_elim, Contains}
-use Rattle.std.specs.Prelude.{IfOk, ◌==◌}
-use Rattle.std.specs.List.{All, list_any}
+use Rattle.std.proofs.Common.{◌≡◌, ◌∙◌, ℕ, Bool, true, false, cond, List, [], ◌∷◌, ◌++◌, Option, Some, None, Result, Ok, Err, map, refl, sym, ap, subst, inl, inr, ◌⊎◌, ⊎_elim, Contains, IfOk, ◌==◌, All, is_eq, nat_cmp, Ordering, Less, Equal, Greater}
+use Rattle.std.specs.List.{list_any}
 use Rattle.std.specs.Map.{lookup, values_of}
 use Rattle.std.specs.BTreeMap.{insert_entry, is_at}
-use Rattle.std.specs.Ordering.{is_eq, match_ordering, nat_cmp}
-use Rattle.std.specs.declared.cmp.Ordering.{Ordering}
-use Rattle.std.specs.declared.cmp.Ordering.TheVariants.{Less, Equal, Greater}
+use Rattle.std.specs.Ordering.{match_ordering}
 use Rattle.std.proofs.lemmas.Bool.{or_cases}
 use Rattle.std.proofs.lemmas.List.Elements.{All-cons, All-head, All-nil, All-push, All-tail, Contains-append_left, Contains-append_right}
 use Rattle.std.proofs.lemmas.Map.Lookups.{exact_bytes}
@@ -15,8 +12,7 @@ use Rattle.plant_trace.specs.{Node}
 use Rattle.plant_trace.specs.declared.node.Node.TheVariants.{Lot, Batch}
 use Rattle.plant_trace.proofs.LeadsIsReach.{first_in, rest_in}
 use Rattle.genealogy_graph.specs.contracts.model.PictureLotPartialEq.TheImpl.{ghosts as equal}
-use Rattle.genealogy_graph.specs.Ends.{nodes_in, HasEnds, IsBetween}
-use Rattle.genealogy_graph.specs.United.{◌>>=◌, batches_from, edge_in, edges_from, edges_in, id_cmp, lot_noted, lot_unit, lots_from, measured, noted_where, or_else, picture_of, picture_with, unit_at, Edges, Lots, ReportsAs}
+use Rattle.genealogy_graph.specs.{nodes_in, HasEnds, IsBetween, ◌>>=◌, batches_from, edge_in, edges_from, edges_in, id_cmp, lot_noted, lot_unit, lots_from, measured, noted_where, or_else, picture_of, picture_with, unit_at, Edges, Lots, ReportsAs}
 use Rattle.genealogy_graph.specs.declared.model.Picture.{Picture}
 use Rattle.genealogy_graph.specs.declared.model.PictureEdge.{PictureEdge}
 use Rattle.genealogy_graph.specs.declared.model.PictureLot.{PictureLot}

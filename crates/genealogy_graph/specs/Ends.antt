@@ -1,6 +1,5 @@
 -- The nodes of a picture, at which its edges begin and end.
-use Rattle.std.specs.Prelude.{List, ◌++◌, map, Contains}
-use Rattle.std.specs.List.{All}
+use Rattle.std.specs.Prelude.{List, ◌++◌, map, Contains, All}
 use Rattle.genealogy_graph.specs.declared.model.Picture.{Picture}
 use Rattle.genealogy_graph.specs.declared.model.PictureEdge.{PictureEdge}
 use Rattle.plant_trace.specs.{Node}

@@ -1,6 +1,6 @@
 -- What is wrong with what is reported, in words. Ids are of A to Z, 0 to 9 and `-`, so none of them needs a mark around it.
 use Rattle.std.specs.Prelude.{ℕ, List, ◌++◌, codes}
-use Rattle.plant_trace.specs.Nodes.{node_text}
+use Rattle.plant_trace.specs.{node_text}
 use Rattle.genealogy_graph.specs.declared.reported.GraphError.{GraphError}
 use Rattle.genealogy_graph.specs.declared.reported.GraphError.TheVariants as graph_error
 

@@ -1,7 +1,8 @@
 //! A picture in DOT.
 ghost use Rattle.std.specs.Prelude.{◌≡◌, IfOk, Some, string_bytes};
-ghost use Rattle.genealogy_graph.specs.Dot.{mark_name, mark_colour, mark_line, borders, stock_text, lot_label, lot_style};
-ghost use Rattle.genealogy_graph.specs.Dot.{lot_line, batch_label, batch_line, ends_text, edge_line, dot_text};
+ghost use Rattle.genealogy_graph.specs.Dot.{mark_name, mark_colour, mark_line, borders, stock_text};
+ghost use Rattle.genealogy_graph.specs.Dot.{lot_label, lot_style, lot_line, batch_label};
+ghost use Rattle.genealogy_graph.specs.Dot.{batch_line, ends_text, edge_line, dot_text};
 
 use crate::model::{Picture, PictureEdge, PictureLot};
 use plant_base::{DisplayItem, Id, Joined};

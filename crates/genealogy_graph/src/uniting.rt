@@ -3,8 +3,10 @@ ghost use Rattle.std.specs.Prelude.{◌≡◌, [], Some, None, IfOk, OnOk, if◌
 ghost use Rattle.std.specs.BTreeSet.{insert_key};
 ghost use Rattle.std.specs.Map.{values_of};
 ghost use Rattle.genealogy_graph.specs.Ends.{HasEnds};
-ghost use Rattle.genealogy_graph.specs.United.{ReportsAs, id_cmp, noted, lots_from, lot_noted, batches_from, edges_from, edge_noted};
-ghost use Rattle.genealogy_graph.specs.United.{unit_at, measured, id_of, edge_in, edges_in, picture_with, picture_of};
+ghost use Rattle.genealogy_graph.specs.United.{ReportsAs, id_cmp, noted, lots_from, lot_noted};
+ghost use Rattle.genealogy_graph.specs.United.{batches_from, edges_from, edge_noted, unit_at};
+ghost use Rattle.genealogy_graph.specs.United.{measured, id_of, edge_in, edges_in, picture_with};
+ghost use Rattle.genealogy_graph.specs.United.{picture_of};
 
 use crate::model::{Picture, PictureEdge, PictureLot};
 use crate::reported::{GraphError, Reported, ReportedEdge, UnitedFault};

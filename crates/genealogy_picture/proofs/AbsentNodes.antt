@@ -2,7 +2,7 @@
 use Rattle.std.proofs.Common.{◌≡◌, ℕ, List, Some, false, refl}
 use Rattle.genealogy_graph.specs.{Picture}
 use Rattle.plant_trace.specs.declared.node.Node.TheVariants.{Lot, Batch}
-use Rattle.genealogy_picture.specs.Drawing.{IsAbsent, has_batch, has_lot}
+use Rattle.genealogy_picture.specs.{IsAbsent, has_batch, has_lot}
 use Rattle.genealogy_picture.specs.declared.ending.DrawError.TheVariants as stop
 use Rattle.genealogy_picture.specs.declared.ending.Refusal.TheVariants as refusal
 

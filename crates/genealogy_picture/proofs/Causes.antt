@@ -1,18 +1,12 @@
 -- For which causes a picture has no text.
-use Rattle.std.proofs.Common.{◌≡◌, ℕ, List, Option, String, IfOk, IfErr, Result, Ok, Err, inl, inr, ◌⊎◌, refl, subst, sym, Contains}
-use Rattle.genealogy_graph.specs.Ends.{HasEnds, IsBetween, nodes_in}
-use Rattle.genealogy_graph.specs.United.{picture_of}
-use Rattle.genealogy_graph.specs.{GraphError, Picture, PictureEdge}
+use Rattle.std.proofs.Common.{◌≡◌, ℕ, List, Option, String, IfOk, IfErr, Result, Ok, Err, inl, inr, ◌⊎◌, refl, subst, sym, Contains, Global, string_bytes}
+use Rattle.genealogy_graph.specs.{HasEnds, IsBetween, nodes_in, picture_of, GraphError, Picture, PictureEdge}
 use Rattle.genealogy_graph.specs.declared.reported.GraphError.TheVariants as graph_error
 use Rattle.genealogy_graph.specs.declared.reported.Reported.{Reported}
 use Rattle.genealogy_graph.proofs.EndsFound.{ends_found}
-use Rattle.genealogy_svg.specs.Layouts.{IsEndOf, nodes_of}
+use Rattle.genealogy_svg.specs.{IsEndOf, nodes_of}
 use Rattle.plant_trace.specs.{Node}
-use Rattle.genealogy_picture.specs.Answers.{◌>>=◌}
-use Rattle.std.specs.declared.alloc.Global.{Global}
-use Rattle.std.specs.Prelude.{string_bytes}
-use Rattle.genealogy_picture.specs.Drawing.{picture_in, whole, Draws, IsLayoutError, IsNoSvg, IsRefused, IsTextError, IsTextOf}
-use Rattle.genealogy_picture.specs.Reading.{reported_of}
+use Rattle.genealogy_picture.specs.{◌>>=◌, picture_in, whole, Draws, IsLayoutError, IsNoSvg, IsRefused, IsTextError, IsTextOf, reported_of}
 use Rattle.genealogy_picture.specs.declared.ending.DrawError.{DrawError}
 use Rattle.genealogy_picture.specs.declared.ending.DrawError.TheVariants as stop
 use Rattle.genealogy_picture.specs.declared.ending.Refusal.{Refusal}

@@ -4,8 +4,8 @@ use Rattle.std.specs.declared.io.Error.{Error}
 use Rattle.std.specs.declared.io.ErrorKind.{ErrorKind}
 use Rattle.std.specs.declared.io.ErrorKind.TheVariants as io
 use Rattle.std.specs.IoError.{error_kind}
-use Rattle.plant_base.specs.Inputs.{Agrees}
-use Rattle.genealogy_picture.specs.Drawing.{IsRefused, draw_error_of_kind, read_count}
+use Rattle.plant_base.specs.{Agrees}
+use Rattle.genealogy_picture.specs.{IsRefused, draw_error_of_kind, read_count}
 use Rattle.genealogy_picture.specs.declared.ending.DrawError.{DrawError}
 use Rattle.genealogy_picture.specs.declared.words.Format.{Format}
 use Rattle.plant_trace.specs.{Node}

@@ -1,11 +1,11 @@
 -- What a line reports, by what its bytes read as.
-use Rattle.std.proofs.Common.{◌≡◌, ℕ, List, Bool, true, false, Option, Some, None, Err, refl, cond, ap}
-use Rattle.std.specs.Str.{IsUtf8, is_utf8}
+use Rattle.std.proofs.Common.{◌≡◌, ℕ, List, Bool, true, false, Option, Some, None, Err, refl, cond, ap, IsUtf8}
+use Rattle.std.specs.Str.{is_utf8}
 use Rattle.std.proofs.lemmas.Str.{IsUtf8-from_is_utf8, is_utf8-from_IsUtf8}
 use Rattle.serde_json.specs.Data.{Data}
 use Rattle.serde_json.specs.Read.{read}
 use Rattle.genealogy_graph.specs.declared.reported.Reported.{Reported}
-use Rattle.genealogy_picture.specs.Answers.{answer_into, is_blank, line_into, text_into}
+use Rattle.genealogy_picture.specs.{answer_into, is_blank, line_into, text_into}
 use Rattle.genealogy_picture.specs.declared.answers.LineError.TheVariants as line_error
 
 pub at_value : (t : Reported) (line : List ℕ) (d : Data) → is_blank line ≡ false → IsUtf8 line → read line ≡ Some d → line_into t line ≡ answer_into t d

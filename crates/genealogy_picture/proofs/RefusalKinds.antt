@@ -5,8 +5,7 @@ use Rattle.clap.specs.Kinds.{HasKind, IsAmong, Kinds}
 use Rattle.clap.specs.Words.{kind_of}
 use Rattle.clap.specs.declared.error.Error.{Error}
 use Rattle.clap.specs.declared.error.kind.ErrorKind.{ErrorKind}
-use Rattle.desk_cli.specs.Meaning.{IsFaultOf, IsRefusalOf, asks_help, is_mistake}
-use Rattle.desk_cli.specs.{WordsFault}
+use Rattle.desk_cli.specs.{IsFaultOf, IsRefusalOf, asks_help, is_mistake, WordsFault}
 use Rattle.desk_cli.specs.declared.meaning.WordsFault.TheVariants.{Usage, Help, Memory}
 
 -- a kind among these passes a test: so does one of them

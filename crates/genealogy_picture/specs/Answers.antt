@@ -1,6 +1,6 @@
 -- What the lines of an input report.
-use Rattle.std.specs.Prelude.{◌≡◌, ℕ, ◌+◌, ◌==◌, ◌||◌, List, [], ◌∷◌, ◌++◌, length, Bool, if◌then◌else◌, codes, decimal, Option, Some, None, option_and_then, is_some, Result, Ok, Err, ⊤}
-use Rattle.std.specs.Str.{is_utf8, bytes_eq}
+use Rattle.std.specs.Prelude.{◌≡◌, ℕ, ◌+◌, ◌==◌, ◌||◌, List, [], ◌∷◌, ◌++◌, length, Bool, if◌then◌else◌, codes, decimal, Option, Some, None, option_and_then, is_some, Result, Ok, Err, ⊤, bytes_eq}
+use Rattle.std.specs.Str.{is_utf8}
 use Rattle.serde_json.specs.Data.{Data, Items, no_items, item}
 use Rattle.serde_json.specs.Find.{get, as_array}
 use Rattle.serde_json.specs.Read.{read}

@@ -1,26 +1,20 @@
 -- The picture of an input, and its text.
-use Rattle.std.specs.Prelude.{◌≡◌, ◌⊎◌, ℕ, Bool, false, List, Contains, Option, Some, Result, Ok, Err, String, string_bytes, ⊤}
+use Rattle.std.specs.Prelude.{◌≡◌, ◌⊎◌, ℕ, Bool, false, List, Contains, Option, Some, Result, Ok, Err, String, string_bytes, ⊤, bytes_eq}
 use Rattle.std.specs.List.{list_any}
-use Rattle.std.specs.Str.{bytes_eq}
 use Rattle.std.specs.declared.alloc.Global.{Global}
 use Rattle.std.specs.declared.io.Error.{Error}
 use Rattle.std.specs.declared.io.ErrorKind.{ErrorKind}
 use Rattle.std.specs.declared.io.ErrorKind.TheVariants as io
 use Rattle.std.specs.IoError.{error_kind}
-use Rattle.genealogy_graph.specs.{GraphError, Picture, UnitedFault}
+use Rattle.genealogy_graph.specs.{GraphError, Picture, UnitedFault, dot_text, picture_of}
 use Rattle.genealogy_graph.specs.declared.reported.UnitedFault.TheVariants as united
 use Rattle.genealogy_graph.specs.declared.reported.GraphError.TheVariants as graph_error
-use Rattle.genealogy_graph.specs.Dot.{dot_text}
-use Rattle.genealogy_svg.specs.{Drawing, LayoutFault}
+use Rattle.genealogy_svg.specs.{Drawing, LayoutFault, IsEndOf, IsLaidOut, nodes_of, HasCircle, svg_text}
 use Rattle.genealogy_svg.specs.declared.drawing.LayoutFault.TheVariants as layout
-use Rattle.genealogy_svg.specs.Layouts.{IsEndOf, IsLaidOut, nodes_of}
-use Rattle.genealogy_svg.specs.Layers.{HasCircle}
-use Rattle.genealogy_svg.specs.Svg.{svg_text}
 use Rattle.plant_trace.specs.{Node}
 use Rattle.plant_trace.specs.declared.node.Node.TheVariants.{Lot, Batch}
 use Rattle.genealogy_picture.specs.declared.words.Format.{Format}
 use Rattle.genealogy_picture.specs.declared.words.Format.TheVariants.{Dot, Svg}
-use Rattle.genealogy_graph.specs.United.{picture_of}
 use Rattle.genealogy_picture.specs.declared.ending.Refusal.{Refusal}
 use Rattle.genealogy_picture.specs.declared.ending.Refusal.TheVariants as refusal
 use Rattle.genealogy_picture.specs.declared.ending.DrawError.{DrawError}

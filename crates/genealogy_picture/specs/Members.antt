@@ -2,7 +2,7 @@
 use Rattle.std.specs.Prelude.{ℕ, suc, ◌==◌, List, Bool, false, if◌then◌else◌, codes, Option, Some, None, option_map, option_and_then, is_some}
 use Rattle.serde_json.specs.Data.{Data, Members, no_members, member}
 use Rattle.serde_json.specs.Find.{get, as_bool, as_number, as_u64, as_str, as_object}
-use Rattle.plant_base.specs.Values.{is_id, is_unit, only}
+use Rattle.plant_base.specs.{is_id, is_unit, only}
 use Rattle.genealogy_graph.specs.{PictureLot, ReportedEdge}
 use Rattle.plant_trace.specs.{Node}
 use Rattle.plant_trace.specs.declared.node.Node.TheVariants as node

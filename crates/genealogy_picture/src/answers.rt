@@ -2,7 +2,8 @@
 ghost use Rattle.std.specs.Prelude.{◌≡◌, Some, false, true, option_map};
 ghost use Rattle.serde_json.specs.Errors.{IsMemory};
 ghost use Rattle.serde_json.specs.View.{view, items_view};
-ghost use Rattle.genealogy_picture.specs.Answers.{Reports, line_error_text, node_into, nodes_into, edge_into, edges_into, parts_into, answer_into};
+ghost use Rattle.genealogy_picture.specs.Answers.{Reports, line_error_text, node_into, nodes_into};
+ghost use Rattle.genealogy_picture.specs.Answers.{edge_into, edges_into, parts_into, answer_into};
 ghost use Rattle.genealogy_picture.specs.Answers.{is_blank, line_into, list_at};
 
 use crate::gathered::Gathered;

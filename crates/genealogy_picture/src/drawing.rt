@@ -1,14 +1,17 @@
 //! The picture of an input.
-ghost use Rattle.std.specs.Prelude.{◌≡◌, ℕ, List, None, Some, false, IfErr, IfOk, IfSome, string_bytes};
-ghost use Rattle.plant_base.specs.Inputs.{Agrees};
+ghost use Rattle.std.specs.Prelude.{◌≡◌, ℕ, List, None, Some, false, IfErr, IfOk, IfSome};
+ghost use Rattle.std.specs.Prelude.{string_bytes};
+ghost use Rattle.plant_base.specs.{Agrees};
 ghost use Rattle.std.specs.IoError.{error_kind};
 ghost use Rattle.genealogy_picture.specs.Reading.{ReportsAs};
-ghost use Rattle.genealogy_svg.specs.Layouts.{IsLaidOut};
-ghost use Rattle.genealogy_picture.specs.Drawing.{of_whole, picture_in, of_layout, IsLayoutError, IsTextError, IsTextOf, Draws, IsAbsent, has_batch, has_lot};
+ghost use Rattle.genealogy_svg.specs.{IsLaidOut};
+ghost use Rattle.genealogy_picture.specs.Drawing.{of_whole, picture_in, of_layout, IsLayoutError};
+ghost use Rattle.genealogy_picture.specs.Drawing.{IsTextError, IsTextOf, Draws, IsAbsent};
+ghost use Rattle.genealogy_picture.specs.Drawing.{has_batch, has_lot, draw_error_of_kind};
+ghost use Rattle.genealogy_picture.specs.Drawing.{read_count};
 ghost use Rattle.genealogy_picture.specs.Words.{names};
 ghost use Rattle.genealogy_picture.specs.declared.words.Format.TheVariants.{Svg};
 ghost use Rattle.plant_trace.specs.declared.node.Node.TheVariants.{Lot, Batch};
-ghost use Rattle.genealogy_picture.specs.Drawing.{draw_error_of_kind, read_count};
 
 use crate::ending::{DrawError, Refusal};
 use crate::reading::reported_of;

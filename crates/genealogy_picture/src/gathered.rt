@@ -1,6 +1,7 @@
 //! What the answers reported so far.
 ghost use Rattle.std.specs.Prelude.{◌≡◌, OnOk};
-ghost use Rattle.genealogy_picture.specs.Gathering.{nothing, with_lot, with_batch, with_node, with_edge};
+ghost use Rattle.genealogy_picture.specs.Gathering.{nothing, with_lot, with_batch, with_node};
+ghost use Rattle.genealogy_picture.specs.Gathering.{with_edge};
 
 use crate::members::ReportedNode;
 use genealogy_graph::{PictureLot, Reported, ReportedEdge};

@@ -1,9 +1,10 @@
 //! The nodes and the edges of an answer, as JSON values.
 ghost use Rattle.std.specs.Prelude.{◌≡◌};
 ghost use Rattle.serde_json.specs.View.{view};
-ghost use Rattle.plant_base.specs.Values.{is_id, is_unit, only};
-ghost use Rattle.genealogy_picture.specs.Members.{has_members, id_at, unit_at, number_at, flag_at, lot_in, lot_of, batch_of, node_of};
-ghost use Rattle.genealogy_picture.specs.Members.{end_in, end_of, end_at, edge_in, edge_of};
+ghost use Rattle.plant_base.specs.{is_id, is_unit, only};
+ghost use Rattle.genealogy_picture.specs.Members.{has_members, id_at, unit_at, number_at, flag_at};
+ghost use Rattle.genealogy_picture.specs.Members.{lot_in, lot_of, batch_of, node_of, end_in};
+ghost use Rattle.genealogy_picture.specs.Members.{end_of, end_at, edge_in, edge_of};
 
 use genealogy_graph::{PictureLot, ReportedEdge};
 use plant_base::{Id, Unit};

@@ -1,6 +1,7 @@
 //! What all lines of an input report.
 ghost use Rattle.std.specs.Prelude.{◌≡◌, IfOk};
-ghost use Rattle.genealogy_picture.specs.Reading.{start, numbered, line_ended, taken, read_from, reported_of, ReportsAs};
+ghost use Rattle.genealogy_picture.specs.Reading.{start, numbered, line_ended, taken, read_from};
+ghost use Rattle.genealogy_picture.specs.Reading.{reported_of, ReportsAs};
 
 use crate::answers::{LineError, LineFault, line_into};
 use crate::ending::{DrawError, Refusal};

@@ -1,8 +1,11 @@
 //! The arguments of the command line.
 ghost use Rattle.std.specs.Prelude.{◌≡◌, IfErr, IfOk, [], codes, false, map, option_map};
-ghost use Rattle.clap.specs.Words.{app_of, fault_of, first_of, found_of, matches_of, rows_of, rule_of, with_rule};
-ghost use Rattle.desk_cli.specs.Meaning.{IsRefusalOf, is_set};
-ghost use Rattle.genealogy_picture.specs.Words.{asked_of, bare_app, file_rule, format_of, flag_rule, id_rule, names, picture_app, with_formats, with_nodes};
+ghost use Rattle.clap.specs.Words.{app_of, fault_of, first_of, found_of, matches_of, rows_of};
+ghost use Rattle.clap.specs.Words.{rule_of, with_rule};
+ghost use Rattle.desk_cli.specs.{IsRefusalOf, is_set};
+ghost use Rattle.genealogy_picture.specs.Words.{asked_of, bare_app, file_rule, format_of};
+ghost use Rattle.genealogy_picture.specs.Words.{flag_rule, id_rule, names, picture_app};
+ghost use Rattle.genealogy_picture.specs.Words.{with_formats, with_nodes};
 
 use clap::{Arg, ArgAction, ArgMatches, Command};
 use desk_cli::{WordsFault, refusal_of};

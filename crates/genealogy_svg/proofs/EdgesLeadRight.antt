@@ -1,15 +1,11 @@
 -- Each edge leads to the right.
-use Rattle.std.proofs.Common.{◌≡◌, ◌∙◌, ℕ, ◌+◌, ◌<◌, ◌≤◌, Bool, true, false, cond, List, [], ◌∷◌, ◌++◌, Option, Some, None, Result, Ok, Err, refl, sym, ap, subst, ⊎_elim, max, map, arith, Contains}
-use Rattle.std.specs.Prelude.{filter}
-use Rattle.std.specs.List.{All, fold}
+use Rattle.std.proofs.Common.{◌≡◌, ◌∙◌, ℕ, ◌+◌, ◌<◌, ◌≤◌, Bool, true, false, cond, List, [], ◌∷◌, ◌++◌, Option, Some, None, Result, Ok, Err, refl, sym, ap, subst, ⊎_elim, max, map, arith, Contains, filter, All, fold}
 use Rattle.std.specs.BTreeMap.{get}
 use Rattle.std.proofs.lemmas.Bool.{false≢true}
 use Rattle.std.proofs.lemmas.List.Elements.{All-nil, All-push, All-tail, All-head, All-map, Contains-get_or}
-use Rattle.grouped_rows.specs.Groups.{is_keyed}
+use Rattle.grouped_rows.specs.{is_keyed}
 use Rattle.genealogy_graph.specs.{Picture, PictureEdge}
-use Rattle.plant_trace.specs.Nodes.{node_cmp, node_ties}
-use Rattle.plant_trace.specs.Ranks.{rank_of}
-use Rattle.plant_trace.specs.{Node}
+use Rattle.plant_trace.specs.{node_cmp, node_ties, rank_of, Node}
 use Rattle.plant_trace.proofs.LeadsIsReach.{none_in, first_in, rest_in, first_or_rest}
 use Rattle.plant_trace.proofs.NodeOrder.{node_eq_itself}
 use Rattle.genealogy_svg.specs.declared.drawing.Drawing.{Drawing}
@@ -18,9 +14,7 @@ use Rattle.genealogy_svg.specs.declared.drawing.DrawnEdge.{DrawnEdge}
 use Rattle.genealogy_svg.specs.declared.drawing.DrawnLot.{DrawnLot}
 use Rattle.genealogy_svg.specs.declared.drawing.LayoutFault.{LayoutFault}
 use Rattle.genealogy_svg.specs.declared.drawing.BoxPosition.{BoxPosition}
-use Rattle.genealogy_svg.specs.Layouts.{◌>>=◌, placed, edges_in, IsLaidOut, LeadsRight}
-use Rattle.genealogy_svg.specs.Layers.{edges_to, IsLayered}
-use Rattle.genealogy_svg.specs.Rows.{IsSmall, without_row}
+use Rattle.genealogy_svg.specs.{◌>>=◌, placed, edges_in, IsLaidOut, LeadsRight, edges_to, IsLayered, IsSmall, without_row}
 use Rattle.genealogy_svg.proofs.RowsInTurn.{All-from_map, is_small_or_not}
 
 -- ---- the height is above each layer

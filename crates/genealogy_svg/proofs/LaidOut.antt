@@ -1,9 +1,6 @@
 -- A layout, of its parts.
-use Rattle.std.proofs.Common.{◌≡◌, ℕ, List, Ok, subst, sym}
+use Rattle.std.proofs.Common.{◌≡◌, ℕ, List, Ok, subst, sym, Contains, IsSome, All, BTreeMap}
 use Rattle.std.proofs.lemmas.Bool.{false≢true}
-use Rattle.std.specs.Prelude.{Contains, IsSome}
-use Rattle.std.specs.List.{All}
-use Rattle.std.specs.BTreeMap.{BTreeMap}
 use Rattle.std.proofs.lemmas.List.Elements.{All-contains}
 use Rattle.genealogy_graph.specs.{Picture, PictureEdge}
 use Rattle.plant_trace.specs.{Node}
@@ -11,10 +8,7 @@ use Rattle.genealogy_svg.specs.declared.drawing.Drawing.{Drawing}
 use Rattle.genealogy_svg.specs.declared.drawing.BoxPosition.{BoxPosition}
 use Rattle.genealogy_svg.specs.declared.drawing.LayoutFault.{LayoutFault}
 use Rattle.genealogy_svg.specs.declared.drawing.LayoutFault.TheVariants as fault
-use Rattle.genealogy_svg.specs.Layouts.{nodes_of, drawing_in, IsLaidOut, IsOutside, IsUnpositioned}
-use Rattle.genealogy_svg.specs.Layers.{AreSettled, IsLayered}
-use Rattle.genealogy_svg.specs.Positions.{ArePositioned}
-use Rattle.genealogy_svg.specs.Rows.{HasAmounts}
+use Rattle.genealogy_svg.specs.{nodes_of, drawing_in, IsLaidOut, IsOutside, IsUnpositioned, AreSettled, IsLayered, ArePositioned, HasAmounts}
 
 pub laid_out : (p : Picture) (bare d : Drawing) (layers : BTreeMap Node ℕ) (positions : BTreeMap Node BoxPosition) (nodes named : List Node) (edges : List PictureEdge)
     → nodes ≡ nodes_of p → named ≡ nodes_of p → edges ≡ p.edges → All (IsLayered layers) nodes → AreSettled edges layers → ArePositioned layers named positions

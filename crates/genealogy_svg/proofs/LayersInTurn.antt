@@ -1,17 +1,12 @@
 -- How nodes get their layers, one after the other.
-use Rattle.std.proofs.Common.{◌≡◌, ◌∙◌, ℕ, ◌+◌, Bool, true, false, cond, List, [], ◌∷◌, Some, refl, sym, ap, subst, max}
-use Rattle.std.specs.Prelude.{IsSome, unwrap_or}
-use Rattle.std.specs.List.{All, fold}
-use Rattle.std.specs.Ordering.{is_eq}
-use Rattle.std.specs.BTreeMap.{BTreeMap, get, Updates}
+use Rattle.std.proofs.Common.{◌≡◌, ◌∙◌, ℕ, ◌+◌, Bool, true, false, cond, List, [], ◌∷◌, Some, refl, sym, ap, subst, max, IsSome, unwrap_or, All, fold, is_eq, BTreeMap}
+use Rattle.std.specs.BTreeMap.{get, Updates}
 use Rattle.std.proofs.lemmas.List.Elements.{All-head, All-tail, All-weaker}
 use Rattle.std.proofs.lemmas.Map.Views.{tells_apart}
 use Rattle.genealogy_graph.specs.{PictureEdge}
-use Rattle.plant_trace.specs.Nodes.{node_cmp}
-use Rattle.plant_trace.specs.Ranks.{rank_of}
-use Rattle.plant_trace.specs.{Node}
+use Rattle.plant_trace.specs.{node_cmp, rank_of, Node}
 use Rattle.plant_trace.proofs.NodeOrder.{node_exact}
-use Rattle.genealogy_svg.specs.Layers.{edges_to, height, AreSettled, IsLayered}
+use Rattle.genealogy_svg.specs.{edges_to, height, AreSettled, IsLayered}
 
 -- the same height, where the layers are those of the nodes where edges begin
 height_from : (f g : Node → ℕ) (es : List PictureEdge) (n : ℕ) → All (λ e. f e.from ≡ g e.from) es

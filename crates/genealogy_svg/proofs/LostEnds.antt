@@ -1,11 +1,9 @@
 -- Which nodes are reported as lost: ends of edges.
-use Rattle.std.proofs.Common.{◌≡◌, ℕ, List, [], ◌∷◌, ◌++◌, Option, Some, None, Result, Ok, Err, map, refl, ap, subst, inl, inr, ◌⊎◌, ⊎_elim, arith, Contains}
-use Rattle.std.specs.Prelude.{suc}
-use Rattle.std.specs.BTreeMap.{BTreeMap, get}
+use Rattle.std.proofs.Common.{◌≡◌, ℕ, List, [], ◌∷◌, ◌++◌, Option, Some, None, Result, Ok, Err, map, refl, ap, subst, inl, inr, ◌⊎◌, ⊎_elim, arith, Contains, suc, BTreeMap}
+use Rattle.std.specs.BTreeMap.{get}
 use Rattle.std.proofs.lemmas.List.Elements.{Contains-append_left, Contains-append_right}
 use Rattle.genealogy_graph.specs.{Picture, PictureEdge, PictureLot}
-use Rattle.plant_trace.specs.Nodes.{node_cmp}
-use Rattle.plant_trace.specs.{Node}
+use Rattle.plant_trace.specs.{node_cmp, Node}
 use Rattle.plant_trace.specs.declared.node.Node.TheVariants.{Lot, Batch}
 use Rattle.plant_trace.proofs.LeadsIsReach.{first_in, rest_in}
 use Rattle.genealogy_svg.specs.declared.drawing.BoxPosition.{BoxPosition}
@@ -14,7 +12,7 @@ use Rattle.genealogy_svg.specs.declared.drawing.DrawnEdge.{DrawnEdge}
 use Rattle.genealogy_svg.specs.declared.drawing.DrawnLot.{DrawnLot}
 use Rattle.genealogy_svg.specs.declared.drawing.LayoutFault.{LayoutFault}
 use Rattle.genealogy_svg.specs.declared.drawing.LayoutFault.TheVariants as fault
-use Rattle.genealogy_svg.specs.Layouts.{◌>>=◌, batches_in, drawing_in, edges_in, lots_in, nodes_of, placed, position_at, IsEndOf, IsErrorOf, IsLostEnd, IsOutside}
+use Rattle.genealogy_svg.specs.{◌>>=◌, batches_in, drawing_in, edges_in, lots_in, nodes_of, placed, position_at, IsEndOf, IsErrorOf, IsLostEnd, IsOutside}
 
 -- ---- faults
 

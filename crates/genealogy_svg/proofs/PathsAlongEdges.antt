@@ -1,9 +1,9 @@
 -- Ways along edges.
 use Rattle.std.proofs.Common.{◌≡◌, ℕ, zero, suc, ◌<◌, ◌+◌, List, subst, refl, arith}
 use Rattle.genealogy_graph.specs.{PictureEdge}
-use Rattle.plant_trace.specs.Reach.{Reach, step, more}
-use Rattle.plant_trace.specs.{Node}
-use Rattle.genealogy_svg.specs.Layers.{Leads}
+use Rattle.plant_trace.specs.{step, more, Node}
+use Rattle.plant_trace.specs.Reach.{Reach}
+use Rattle.genealogy_svg.specs.{Leads}
 
 -- a way of so many edges, from the first node to the last
 pub record IsWay (edges : List PictureEdge) (first last : Node) (count : ℕ) : Type 0 where

@@ -1,20 +1,16 @@
 -- How nodes get their positions, one after the other.
-use Rattle.std.proofs.Common.{◌≡◌, ◌∙◌, ℕ, Bool, true, false, cond, List, [], ◌∷◌, ◌++◌, Option, Some, refl, sym, ap, subst, ⊎_elim, Contains}
-use Rattle.std.specs.Prelude.{IsSome}
-use Rattle.std.specs.Ordering.{is_eq}
+use Rattle.std.proofs.Common.{◌≡◌, ◌∙◌, ℕ, Bool, true, false, cond, List, [], ◌∷◌, ◌++◌, Option, Some, refl, sym, ap, subst, ⊎_elim, Contains, IsSome, is_eq, BTreeMap, BTreeSet}
 use Rattle.std.specs.BTreeMap as maps
-use Rattle.std.specs.BTreeMap.{BTreeMap, get}
+use Rattle.std.specs.BTreeMap.{get}
 use Rattle.std.specs.BTreeSet as sets
-use Rattle.std.specs.BTreeSet.{BTreeSet, contains}
+use Rattle.std.specs.BTreeSet.{contains}
 use Rattle.std.proofs.lemmas.Bool.{false≢true}
 use Rattle.std.proofs.lemmas.List.Elements.{Contains-append_left, Contains-push, Contains-push_cases}
 use Rattle.std.proofs.lemmas.Map.Views.{tells_apart}
-use Rattle.plant_trace.specs.Nodes.{node_cmp}
-use Rattle.plant_trace.specs.Ranks.{rank_of}
-use Rattle.plant_trace.specs.{Node}
+use Rattle.plant_trace.specs.{node_cmp, rank_of, Node}
 use Rattle.plant_trace.proofs.NodeOrder.{node_exact}
 use Rattle.genealogy_svg.specs.declared.drawing.BoxPosition.{BoxPosition}
-use Rattle.genealogy_svg.specs.Positions.{position_cmp, ArePositioned}
+use Rattle.genealogy_svg.specs.{position_cmp, ArePositioned}
 
 -- these nodes are placed, and their positions are taken
 pub record Placing (layers : BTreeMap Node ℕ) (nodes : List Node) (taken : BTreeSet BoxPosition) (positions : BTreeMap Node BoxPosition) : Type 0 where

@@ -1,10 +1,7 @@
 -- How amounts get their rows, one after the other.
-use Rattle.std.proofs.Common.{◌≡◌, ◌∙◌, ◌+◌, ◌<◌, ◌≤◌, ◌⊎◌, ℕ, Bool, true, false, cond, List, [], ◌∷◌, ◌++◌, length, get_or, map, Some, Result, Ok, Err, IfOk, refl, sym, ap, subst, inl, inr, arith}
-use Rattle.std.specs.List.{All}
-use Rattle.std.specs.Ordering.{is_eq}
-use Rattle.std.specs.Prelude.{AllPairs}
+use Rattle.std.proofs.Common.{◌≡◌, ◌∙◌, ◌+◌, ◌<◌, ◌≤◌, ◌⊎◌, ℕ, Bool, true, false, cond, List, [], ◌∷◌, ◌++◌, length, get_or, map, Some, Result, Ok, Err, IfOk, refl, sym, ap, subst, inl, inr, arith, All, is_eq, AllPairs, BTreeSet}
 use Rattle.std.specs.BTreeSet as sets
-use Rattle.std.specs.BTreeSet.{BTreeSet, contains}
+use Rattle.std.specs.BTreeSet.{contains}
 use Rattle.std.proofs.lemmas.Bool.{false≢true, cases_lt}
 use Rattle.std.proofs.lemmas.List.{map-append}
 use Rattle.std.proofs.lemmas.List.Elements.{All-nil, All-cons, All-head, All-tail, All-push, All-weaker}
@@ -12,8 +9,7 @@ use Rattle.std.proofs.lemmas.List.Quantifiers.{all_pairs_push}
 use Rattle.genealogy_graph.specs.{Picture}
 use Rattle.genealogy_svg.specs.declared.drawing.BoxPosition.{BoxPosition}
 use Rattle.genealogy_svg.specs.declared.drawing.DrawnEdge.{DrawnEdge}
-use Rattle.genealogy_svg.specs.Positions.{position_cmp}
-use Rattle.genealogy_svg.specs.Rows.{AreApart, HasRow, HaveRows, IsSmall, in_row, without_row}
+use Rattle.genealogy_svg.specs.{position_cmp, AreApart, HasRow, HaveRows, IsSmall, in_row, without_row}
 
 pub is_small_or_not : (p : Picture) → IsSmall p ⊎ (IsSmall p → ⊥)
 is_small_or_not p = by_size (length p.lots + length p.batches) (cases_lt (length p.lots + length p.batches) 81) where

@@ -1,15 +1,13 @@
 -- Layers: a node is one to the right of the rightmost of those that lead to it, so that each edge leads to the right.
-use Rattle.std.specs.Prelude.{◌≡◌, ℕ, ◌+◌, max, Bool, true, List, Some, IsSome, ⊤}
+use Rattle.std.specs.Prelude.{◌≡◌, ℕ, ◌+◌, max, Bool, true, List, Some, IsSome, ⊤, All, fold}
 use Rattle.std.specs.BTreeMap.{BTreeMap, get}
-use Rattle.std.specs.List.{All, list_any, fold}
-use Rattle.grouped_rows.specs.Groups.{rows_of}
+use Rattle.std.specs.List.{list_any}
+use Rattle.grouped_rows.specs.{rows_of}
 use Rattle.genealogy_graph.specs.{PictureEdge}
 use Rattle.genealogy_svg.specs.declared.drawing.LayoutFault.{LayoutFault}
 use Rattle.genealogy_svg.specs.declared.drawing.LayoutFault.TheVariants as fault
-use Rattle.plant_trace.specs.Nodes.{node_cmp, node_eq}
-use Rattle.plant_trace.specs.Ranks.{rank_of}
+use Rattle.plant_trace.specs.{node_cmp, node_eq, rank_of, Node}
 use Rattle.plant_trace.specs.Reach.{Reach}
-use Rattle.plant_trace.specs.{Node}
 
 -- the edges that lead to a node
 abbrev pub edges_to : List PictureEdge → Node → List PictureEdge

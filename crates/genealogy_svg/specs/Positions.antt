@@ -4,9 +4,7 @@ use Rattle.std.specs.BTreeMap.{BTreeMap, get}
 use Rattle.std.specs.declared.cmp.Ordering.{Ordering}
 use Rattle.genealogy_svg.specs.contracts.drawing.BoxPositionOrd.TheImpl.{ghosts as order}
 use Rattle.genealogy_svg.specs.declared.drawing.BoxPosition.{BoxPosition}
-use Rattle.plant_trace.specs.Nodes.{node_cmp}
-use Rattle.plant_trace.specs.Ranks.{rank_of}
-use Rattle.plant_trace.specs.{Node}
+use Rattle.plant_trace.specs.{node_cmp, rank_of, Node}
 
 -- by layers, then from above
 abbrev pub position_cmp : BoxPosition → BoxPosition → Ordering

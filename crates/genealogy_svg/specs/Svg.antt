@@ -1,16 +1,14 @@
 -- A drawing in SVG, which a browser shows. Its texts are made of ids, units and numbers, none of which has a mark of XML (`<`, `&` or a quotation
 -- mark), so nothing in them has to be escaped.
-use Rattle.std.specs.Prelude.{ℕ, ◌+◌, ◌-◌, ◌*◌, max, ◌==◌, Bool, true, false, List, [], ◌++◌, length, Option, Some, None, is_none, if◌then◌else◌, codes, decimal}
-use Rattle.std.specs.List.{flat_map, fold, list_any}
-use Rattle.genealogy_graph.specs.Dot.{mark_colour, mark_name, stock_text}
-use Rattle.genealogy_graph.specs.{PictureLot}
+use Rattle.std.specs.Prelude.{ℕ, ◌+◌, ◌-◌, ◌*◌, max, ◌==◌, Bool, true, false, List, [], ◌++◌, length, Option, Some, None, is_none, if◌then◌else◌, codes, decimal, flat_map, fold}
+use Rattle.std.specs.List.{list_any}
+use Rattle.genealogy_graph.specs.{mark_colour, mark_name, stock_text, PictureLot}
 use Rattle.genealogy_svg.specs.declared.drawing.Drawing.{Drawing}
 use Rattle.genealogy_svg.specs.declared.drawing.DrawnBatch.{DrawnBatch}
 use Rattle.genealogy_svg.specs.declared.drawing.DrawnEdge.{DrawnEdge}
 use Rattle.genealogy_svg.specs.declared.drawing.DrawnLot.{DrawnLot}
 use Rattle.genealogy_svg.specs.declared.drawing.BoxPosition.{BoxPosition}
-use Rattle.plant_trace.specs.Nodes.{node_eq, node_text}
-use Rattle.plant_trace.specs.{Node}
+use Rattle.plant_trace.specs.{node_eq, node_text, Node}
 use Rattle.plant_trace.specs.declared.node.Node.TheVariants.{Lot, Batch}
 
 -- ---- where a box is: it is 180 wide and 56 high, and before each column is a gap of 260, which has the amounts

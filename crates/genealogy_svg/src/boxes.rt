@@ -1,8 +1,9 @@
 //! The boxes of lots and batches.
 ghost use Rattle.std.specs.Prelude.{◌≡◌, ◌≤◌, Some};
-ghost use Rattle.genealogy_svg.specs.Svg.{batch_colour, border, box_text, is_asked, outline, unless_empty, lot_mark, mark_end, lot_title, mark_text, lot_texts, lot_box};
-ghost use Rattle.genealogy_svg.specs.Svg.{batch_title, batch_texts, batch_box};
-ghost use Rattle.genealogy_graph.specs.Dot.{stock_text};
+ghost use Rattle.genealogy_svg.specs.Svg.{batch_colour, border, box_text, is_asked, outline};
+ghost use Rattle.genealogy_svg.specs.Svg.{unless_empty, lot_mark, mark_end, lot_title, mark_text};
+ghost use Rattle.genealogy_svg.specs.Svg.{lot_texts, lot_box, batch_title, batch_texts, batch_box};
+ghost use Rattle.genealogy_graph.specs.{stock_text};
 
 use crate::drawing::{BoxPosition, DrawnBatch, DrawnLot};
 use crate::points::{Point, left_of, middle_of, top_of};

@@ -2,9 +2,7 @@
 ghost use Rattle.std.specs.Prelude.{◌≡◌, ◌↔◌, true, Some, IfOk, IfSome, IsSome, IsTrue, OnOk};
 ghost use Rattle.std.specs.BTreeMap.{get, Updates};
 ghost use Rattle.std.specs.List.{All};
-ghost use Rattle.plant_trace.specs.Nodes.{node_cmp};
-ghost use Rattle.plant_trace.specs.Ranks.{rank_of};
-ghost use Rattle.plant_trace.specs.{Node};
+ghost use Rattle.plant_trace.specs.{node_cmp, rank_of, Node};
 ghost use Rattle.genealogy_svg.specs.Layers.{edges_to, height, leads, AreSettled, IsLayered};
 
 use genealogy_graph::PictureEdge;

@@ -1,6 +1,8 @@
 //! The layout of a picture.
 ghost use Rattle.std.specs.Prelude.{◌≡◌, [], IfErr, IfOk, IsErrOf, Ok};
-ghost use Rattle.genealogy_svg.specs.Layouts.{position_at, nodes_of, lots_in, batches_in, edges_in, drawing_in, IsLaidOut, LeadsRight, IsUnpositioned, IsOutside, IsErrorOf, IsLostEnd};
+ghost use Rattle.genealogy_svg.specs.Layouts.{position_at, nodes_of, lots_in, batches_in, edges_in};
+ghost use Rattle.genealogy_svg.specs.Layouts.{drawing_in, IsLaidOut, LeadsRight, IsUnpositioned};
+ghost use Rattle.genealogy_svg.specs.Layouts.{IsOutside, IsErrorOf, IsLostEnd};
 ghost use Rattle.genealogy_svg.specs.Rows.{HasAmounts};
 ghost use Rattle.std.specs.List.{All};
 ghost use Rattle.genealogy_svg.specs.Layers.{HasCircle};

@@ -1,6 +1,7 @@
 //! Positions as points, in whole numbers, and how they are written.
 ghost use Rattle.std.specs.Prelude.{◌≡◌, ◌<◌, ◌^◌, Some};
-ghost use Rattle.genealogy_svg.specs.Svg.{left_of, top_of, middle_of, row_line, point, way_point, size};
+ghost use Rattle.genealogy_svg.specs.Svg.{left_of, top_of, middle_of, row_line, point, way_point};
+ghost use Rattle.genealogy_svg.specs.Svg.{size};
 
 use crate::drawing::BoxPosition;
 use std::fmt;

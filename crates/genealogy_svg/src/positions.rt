@@ -3,8 +3,7 @@ ghost use Rattle.std.specs.Prelude.{◌≡◌, true, false, Some, IfOk, IfSome, 
 ghost use Rattle.std.specs.BTreeMap.{Updates};
 ghost use Rattle.std.specs.BTreeSet as sets;
 ghost use Rattle.std.specs.BTreeSet.{contains};
-ghost use Rattle.plant_trace.specs.Nodes.{node_cmp};
-ghost use Rattle.plant_trace.specs.Ranks.{rank_of};
+ghost use Rattle.plant_trace.specs.{node_cmp, rank_of};
 ghost use Rattle.genealogy_svg.specs.Positions.{position_cmp, ArePositioned};
 
 use crate::drawing::BoxPosition;

@@ -1,7 +1,9 @@
 //! A drawing in SVG.
 ghost use Rattle.std.specs.Prelude.{◌≡◌, ◌<◌, ◌^◌, IfOk, Some, string_bytes};
-ghost use Rattle.genealogy_svg.specs.Svg.{level, edge_line, amount_text, edge_amount, right_end, lower_end, row_end};
-ghost use Rattle.genealogy_svg.specs.Svg.{width_of, boxes_end, height_of, head, heading, ground, leaves_out, note_of, edge_texts, svg_text};
+ghost use Rattle.genealogy_svg.specs.Svg.{level, edge_line, amount_text, edge_amount, right_end};
+ghost use Rattle.genealogy_svg.specs.Svg.{lower_end, row_end, width_of, boxes_end, height_of, head};
+ghost use Rattle.genealogy_svg.specs.Svg.{heading, ground, leaves_out, note_of, edge_texts};
+ghost use Rattle.genealogy_svg.specs.Svg.{svg_text};
 
 use crate::boxes::{BatchBox, LotBox};
 use crate::drawing::{BoxPosition, Drawing, DrawnEdge};

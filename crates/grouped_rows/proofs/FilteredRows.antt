@@ -1,7 +1,5 @@
 -- What a test leaves of a list.
-use Rattle.std.proofs.Common.{◌≡◌, ◌∙◌, sym, ℕ, zero, suc, ◌-◌, ◌<◌, ◌≤◌, Bool, true, false, List, [], ◌∷◌, length, cond, refl, ap, map, take, drop, get_or, find, Some, None, arith}
-use Rattle.std.specs.Prelude.{filter}
-use Rattle.std.specs.List.{All}
+use Rattle.std.proofs.Common.{◌≡◌, ◌∙◌, sym, ℕ, zero, suc, ◌-◌, ◌<◌, ◌≤◌, Bool, true, false, List, [], ◌∷◌, length, cond, refl, ap, map, take, drop, get_or, find, Some, None, arith, filter, All}
 use Rattle.std.specs.List.Sorted.{IsStableBy, ties}
 use Rattle.std.proofs.lemmas.List.Elements.{All-head, filter_agree, filter_passes}
 

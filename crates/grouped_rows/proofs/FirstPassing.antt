@@ -1,8 +1,6 @@
 -- Whether a test passes an element of a list.
-use Rattle.std.proofs.Common.{◌≡◌, ◌∙◌, sym, ap, Bool, true, false, List, [], ◌∷◌, cond, refl, Some, find, slice_get}
-use Rattle.std.specs.Prelude.{filter, ◌||◌}
+use Rattle.std.proofs.Common.{◌≡◌, ◌∙◌, sym, ap, Bool, true, false, List, [], ◌∷◌, cond, refl, Some, find, slice_get, filter, ◌||◌, is_some}
 use Rattle.std.specs.List.{list_any}
-use Rattle.std.specs.Option.{is_some}
 
 -- some element passes where one is found
 pub some_found : {X : Type 0} (p : X → Bool) (xs : List X) → is_some (find p xs) ≡ list_any p xs

@@ -1,14 +1,11 @@
 -- Where the rows of a key end, looked for among the first of the rows that don't come before it.
-use Rattle.std.proofs.Common.{◌≡◌, ◌∙◌, sym, ap, ℕ, ◌+◌, ◌-◌, ◌<◌, ◌≤◌, true, false, List, length, take, drop, get_or, refl, Option, ◌⊎◌, inl, inr, arith}
+use Rattle.std.proofs.Common.{◌≡◌, ◌∙◌, sym, ap, ℕ, ◌+◌, ◌-◌, ◌<◌, ◌≤◌, true, false, List, length, take, drop, get_or, refl, Option, ◌⊎◌, inl, inr, arith, get_or-drop, get_or-take, length-drop, length-take, Ordering, Less, Equal, Greater, is_le, is_lt}
 use Rattle.std.proofs.lemmas.Bool.{cases_lt}
-use Rattle.std.proofs.lemmas.List.{get_or-drop, get_or-take, length-drop, length-take}
 use Rattle.std.specs.Cmp.{IsTotalOrder}
-use Rattle.std.specs.declared.cmp.Ordering.{Ordering}
-use Rattle.std.specs.declared.cmp.Ordering.TheVariants.{Less, Equal, Greater}
 use Rattle.std.specs.List.Sorted.{IsPartitionedBy}
 use Rattle.std.specs.Option.{option_cmp}
-use Rattle.std.specs.Ordering.{is_le, is_lt, ordering_index}
-use Rattle.grouped_rows.specs.Groups.{EndsAt, Rises, StartsAt, rows_of}
+use Rattle.std.specs.Ordering.{ordering_index}
+use Rattle.grouped_rows.specs.{EndsAt, Rises, StartsAt, rows_of}
 use Rattle.grouped_rows.proofs.BinarySearch.{adjacent, found_between, get_or-any, rising, upto_first}
 
 behind_still : (a b : Ordering) → ordering_index a ≤ ordering_index b → is_le a ≡ false → is_le b ≡ false

@@ -1,18 +1,14 @@
 -- Rows in the order of their keys.
-use Rattle.std.proofs.Common.{◌≡◌, ◌∙◌, sym, subst, ◌+◌, ◌<◌, Bool, true, false, List, [], ◌∷◌, length, refl, ap, map, Option, Some, None, arith}
-use Rattle.std.specs.Prelude.{filter, not, ◌&&◌, IfOk, Result, Ok, Err, Vec}
-use Rattle.std.specs.declared.alloc.Global.{Global}
+use Rattle.std.proofs.Common.{◌≡◌, ◌∙◌, sym, subst, ◌+◌, ◌<◌, Bool, true, false, List, [], ◌∷◌, length, refl, ap, map, Option, Some, None, arith, filter, not, ◌&&◌, IfOk, Result, Ok, Err, Vec, Global, Ordering, Less, Equal, Greater, IsSortedByKey, is_some, is_eq, is_lt}
 use Rattle.std.specs.Bool.{OnTrue}
 use Rattle.std.specs.List.{IsAllAdjacentAnswer}
 use Rattle.std.specs.Cmp.{IsTotalOrder}
-use Rattle.std.specs.declared.cmp.Ordering.{Ordering}
-use Rattle.std.specs.declared.cmp.Ordering.TheVariants.{Less, Equal, Greater}
-use Rattle.std.specs.List.Sorted.{IsSortedByKey, IsStableByKey}
-use Rattle.std.specs.Option.{is_some, option_cmp}
-use Rattle.std.specs.Ordering.{is_eq, is_lt, ordering_reverse}
+use Rattle.std.specs.List.Sorted.{IsStableByKey}
+use Rattle.std.specs.Option.{option_cmp}
+use Rattle.std.specs.Ordering.{ordering_reverse}
 use Rattle.std.proofs.lemmas.Cmp.{alike_right}
 use Rattle.std.proofs.lemmas.List.{get_or-map, length-map}
-use Rattle.grouped_rows.specs.Groups.{Rises, Searchable, is_keyed}
+use Rattle.grouped_rows.specs.{Rises, Searchable, is_keyed}
 use Rattle.grouped_rows.proofs.FilteredRows.{filter_of_map, filter_within, stable_keeps}
 
 -- neither of two keys is less where they compare as equal

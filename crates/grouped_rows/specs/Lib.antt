@@ -1,1 +1,2 @@
 pub mod Groups
+pub use Groups.{EndsAt, Rises, Searchable, StartsAt, is_keyed, rows_of}

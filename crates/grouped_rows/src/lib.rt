@@ -6,7 +6,8 @@ ghost use Rattle.std.specs.Bool.{OnTrue};
 ghost use Rattle.std.specs.List.{list_any};
 ghost use Rattle.std.specs.Option.{is_some, option_cmp};
 ghost use Rattle.std.specs.Ordering.{is_le, is_lt};
-ghost use Rattle.grouped_rows.specs.Groups.{EndsAt, HasRows, StartsAt, Rises, Searchable, is_keyed, rows_of, searched};
+ghost use Rattle.grouped_rows.specs.Groups.{EndsAt, HasRows, StartsAt, Rises, Searchable, is_keyed};
+ghost use Rattle.grouped_rows.specs.Groups.{rows_of, searched};
 
 use std::alloc::{AllocError, Global};
 

@@ -25,7 +25,7 @@ struct FailingKeeper {
 impl Keeper for FailingKeeper {
     ghost use Rattle.std.specs.Prelude.{◌≡◌, true};
     ghost use Rattle.std.proofs.Common.{◌∙◌, sym};
-    ghost use Rattle.plant_base.specs.State.{newest_schema};
+    ghost use Rattle.plant_base.specs.PlantState.{newest_schema};
 
     ghost has_store = { true };
 

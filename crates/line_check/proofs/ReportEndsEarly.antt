@@ -1,19 +1,15 @@
 -- A check that ends early has written a front of the report.
-use Rattle.std.proofs.Common.{◌≡◌, ℕ, ◌<◌, List, [], ◌∷◌, ◌++◌, length, Bool, Option, Some, None, Result, Ok, Err, refl, sym, ap, ◌∙◌, append_assoc, arith, subst}
-use Rattle.std.proofs.lemmas.List.{append-nil, length-append}
-use Rattle.std.specs.Prelude.{IfErr}
+use Rattle.std.proofs.Common.{◌≡◌, ℕ, ◌<◌, List, [], ◌∷◌, ◌++◌, length, Bool, Option, Some, None, Result, Ok, Err, refl, sym, ap, ◌∙◌, append_assoc, arith, subst, append-nil, length-append, IfErr}
 use Rattle.std.specs.Io.KnownBytes.{Appends, Consumes, IsAtEnd, Keeps}
-use Rattle.plant_base.specs.Inputs.{Agrees}
-use Rattle.plant_text.specs.HeldLines.{held_after}
-use Rattle.plant_text.specs.Writes.{AppendsPrefix}
+use Rattle.plant_base.specs.{Agrees}
+use Rattle.plant_text.specs.{held_after, AppendsPrefix}
 use Rattle.plant_text.proofs.HeldLine.{each-append}
 use Rattle.plant_text.proofs.KnownBytes.{Appends-nil, Appends-append}
 use Rattle.desk_cli.specs.{CheckFault}
 use Rattle.desk_cli.specs.declared.check_fault.CheckFault.TheVariants as fault
 use Rattle.line_check.specs.declared.judge.Verdict.{Verdict}
 use Rattle.line_check.specs.declared.lines.Tally.{Tally}
-use Rattle.line_check.specs.Report.{texts, tally_with, tally_after, end_text, no_lines, report, verdicts_after, AppendsFront, AreWrittenAndCounted, EndsEarly}
-use Rattle.line_check.specs.Verdicts.{verdict_of}
+use Rattle.line_check.specs.{texts, tally_with, tally_after, end_text, no_lines, report, verdicts_after, AppendsFront, AreWrittenAndCounted, EndsEarly, verdict_of}
 use Rattle.line_check.proofs.ReportedLines.{input_ends, texts-append, LastReported}
 
 -- ---- fronts

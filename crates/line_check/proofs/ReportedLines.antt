@@ -1,22 +1,18 @@
 -- Lines that were reported, one after the other.
-use Rattle.std.proofs.Common.{◌≡◌, ℕ, ◌+◌, ◌<◌, List, [], ◌∷◌, ◌++◌, length, Bool, true, false, nat_eq, cond, Option, Result, Ok, Err, refl, sym, ap, ◌∙◌, subst, append_assoc, arith}
-use Rattle.std.proofs.lemmas.List.{append-nil, map-append}
+use Rattle.std.proofs.Common.{◌≡◌, ℕ, ◌+◌, ◌<◌, List, [], ◌∷◌, ◌++◌, length, Bool, true, false, nat_eq, cond, Option, Result, Ok, Err, refl, sym, ap, ◌∙◌, subst, append_assoc, arith, append-nil, IfOk}
+use Rattle.std.proofs.lemmas.List.{map-append}
 use Rattle.std.proofs.lemmas.Bool.Decides.{nat_tests}
-use Rattle.std.specs.Prelude.{IfOk}
 use Rattle.std.specs.Io.KnownBytes.{Appends, Consumes, IsAtEnd}
 use Rattle.std.specs.Str.Lines.{lines}
-use Rattle.plant_text.specs.Session.{part_from, ended_lines}
-use Rattle.plant_text.specs.HeldLines.{held_after}
+use Rattle.plant_text.specs.{part_from, ended_lines, held_after, longest_line}
 use Rattle.plant_text.proofs.KnownBytes.{Appends-nil, Appends-append}
 use Rattle.plant_text.proofs.LinesAreStd.{lines_are}
 use Rattle.line_check.specs.declared.judge.Verdict.{Verdict}
 use Rattle.line_check.specs.declared.judge.Verdict.TheVariants as verdict
 use Rattle.line_check.specs.declared.lines.Tally.{Tally}
 use Rattle.desk_cli.specs.{CheckFault}
-use Rattle.line_check.specs.Verdicts.{verdict_of}
-use Rattle.line_check.specs.Report.{verdicts, line_text, texts, tally_with, tally_after, end_text, no_lines, report, some_bad, verdicts_after, AreWrittenAndCounted}
+use Rattle.line_check.specs.{verdict_of, verdicts, line_text, texts, tally_with, tally_after, end_text, no_lines, report, some_bad, verdicts_after, AreWrittenAndCounted}
 use Rattle.line_check.proofs.VerdictOfLine.{verdict_empty, verdict_long}
-use Rattle.plant_text.specs.Lines.{longest_line}
 use Rattle.plant_text.proofs.HeldLine.{each-append, each-prefix, last_as_whole}
 
 -- one verdict counts one line

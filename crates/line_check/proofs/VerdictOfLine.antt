@@ -3,12 +3,11 @@ use Rattle.std.proofs.Common.{◌≡◌, ℕ, ◌<◌, List, length, nat_eq, tru
 use Rattle.std.proofs.lemmas.Bool.Decides.{nat_tests}
 use Rattle.plant_message_schema.specs.{FormatError}
 use Rattle.plant_message_schema.specs.declared.format_errors.FormatError.TheVariants as format_error
-use Rattle.plant_text.specs.{Line}
-use Rattle.plant_text.specs.Lines.{longest_line, line_says}
+use Rattle.plant_text.specs.{Line, longest_line, line_says}
 use Rattle.plant_text.proofs.LineSays.{says_long}
 use Rattle.line_check.specs.declared.judge.Verdict.TheVariants as verdict
 use Rattle.plant_command_errors.specs.declared.reason.Reason.TheVariants as reason
-use Rattle.line_check.specs.Verdicts.{verdict_where, verdict_of}
+use Rattle.line_check.specs.{verdict_where, verdict_of}
 
 pub verdict_empty : (line : List ℕ) → length line ≡ 0 → verdict_of line ≡ verdict.Nothing
 unfolding verdict_of

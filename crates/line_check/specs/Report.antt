@@ -2,10 +2,8 @@
 use Rattle.std.specs.Prelude.{◌≡◌, ℕ, ◌+◌, ◌==◌, List, [], ◌∷◌, ◌++◌, map, Bool, true, false, if◌then◌else◌, codes, decimal, Option}
 use Rattle.std.specs.Str.Lines.{lines}
 use Rattle.std.specs.Io.KnownBytes.{Appends}
-use Rattle.plant_text.specs.HeldLines.{ended_after}
-use Rattle.plant_text.specs.Writes.{with_lf, AppendsPrefix}
-use Rattle.plant_command_errors.specs.Reasons.{reason_text}
-use Rattle.plant_command_errors.specs.{Reason}
+use Rattle.plant_text.specs.{ended_after, with_lf, AppendsPrefix}
+use Rattle.plant_command_errors.specs.{reason_text, Reason}
 use Rattle.desk_cli.specs.{CheckFault}
 use Rattle.desk_cli.specs.declared.check_fault.CheckFault.TheVariants as fault
 use Rattle.line_check.specs.declared.judge.Verdict.{Verdict}

@@ -1,7 +1,6 @@
 -- Where the words of commands and questions are in the lists of them.
 use Rattle.std.specs.Prelude.{ℕ, List, Option, option_and_then, slice_get}
-use Rattle.plant_message_schema.specs.Words.{asked_kind, command_kind}
-use Rattle.plant_message_schema.specs.{AskedKind, CommandKind, ListKind, QuestionKind}
+use Rattle.plant_message_schema.specs.{asked_kind, command_kind, AskedKind, CommandKind, ListKind, QuestionKind}
 use Rattle.plant_message_schema.specs.declared.words.AskedKind.TheVariants as asked
 use Rattle.plant_message_schema.specs.declared.words.CommandKind.TheVariants as c
 use Rattle.plant_message_schema.specs.declared.words.ListKind.TheVariants as list

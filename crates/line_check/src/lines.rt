@@ -1,14 +1,14 @@
 //! The verdicts on the lines of an input.
-ghost use Rattle.std.specs.Prelude.{◌≡◌, ℕ, ◌+◌, ◌<◌, List, [], ◌∷◌, ◌++◌, length, Option, Some, OnOk, IfErr, IfOk};
+ghost use Rattle.std.specs.Prelude.{◌≡◌, ℕ, ◌+◌, ◌<◌, List, [], ◌∷◌, ◌++◌, length, Option, Some};
+ghost use Rattle.std.specs.Prelude.{OnOk, IfErr, IfOk};
 ghost use Rattle.std.specs.Str.Lines.{strip_carriage_return};
 ghost use Rattle.std.specs.Io.KnownBytes.{Appends, Consumes, IsAtEnd};
-ghost use Rattle.plant_base.specs.Inputs.{Agrees};
-ghost use Rattle.plant_text.specs.HeldLines.{held_with, held_after};
-ghost use Rattle.plant_text.specs.Writes.{with_lf};
+ghost use Rattle.plant_base.specs.{Agrees};
+ghost use Rattle.plant_text.specs.{held_with, held_after, with_lf};
 ghost use Rattle.line_check.specs.Verdicts.{verdict_of};
-ghost use Rattle.line_check.specs.Report.{answer_lines, line_text, tally_with, counts_text, end_text, no_lines};
-ghost use Rattle.line_check.specs.Report.{report};
-ghost use Rattle.line_check.specs.Report.{some_bad, texts, verdicts_after, AreWrittenAndCounted, EndsEarly};
+ghost use Rattle.line_check.specs.Report.{answer_lines, line_text, tally_with, counts_text};
+ghost use Rattle.line_check.specs.Report.{end_text, no_lines, report, some_bad, texts};
+ghost use Rattle.line_check.specs.Report.{verdicts_after, AreWrittenAndCounted, EndsEarly};
 
 use crate::hints::{MOST_HINTED, write_hint};
 use crate::judge::{MemoryError, Verdict, judge};

@@ -2,7 +2,7 @@
 use Rattle.std.proofs.Common.{◌≡◌, ◌∙◌, ◌+◌, ◌<◌, ℕ, length, take, get_or, List, [], ◌∷◌, ◌++◌, ap, sym, append-nil, append_assoc}
 use Rattle.std.proofs.lemmas.List.{take_more}
 use Rattle.plant_orders.specs.{NumberedOrder}
-use Rattle.order_check.specs.Verdicts.{conflict_in, conflicts_among}
+use Rattle.order_check.specs.{conflict_in, conflicts_among}
 use Rattle.order_check.specs.declared.conflicts.Conflict.{Conflict}
 
 conflicts_more : (orders some : List NumberedOrder) (o : NumberedOrder) → conflicts_among orders (some ++ o ∷ []) ≡ conflicts_among orders some ++ conflict_in orders o

@@ -2,8 +2,7 @@
 use Rattle.std.specs.Prelude.{ℕ, Bool, true, false, Result, Ok, Err, if◌then◌else◌}
 use Rattle.plant_orders.specs.{OrdersFault}
 use Rattle.plant_orders.specs.declared.source.OrdersFault.TheVariants as orders
-use Rattle.desk_cli.specs.CheckFaults.{fault_status}
-use Rattle.desk_cli.specs.{CheckFault}
+use Rattle.desk_cli.specs.{fault_status, CheckFault}
 use Rattle.desk_cli.specs.declared.check_fault.CheckFault.TheVariants as fault
 
 -- a verdict that couldn't be written isn't returned

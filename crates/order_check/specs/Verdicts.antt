@@ -1,12 +1,10 @@
 -- The verdict on an order file.
 use Rattle.std.specs.Prelude.{ℕ, Bool, List, [], ◌∷◌, ◌++◌, length, codes, decimal, Option, None, Some, find, ◌&&◌, ◌==◌, if◌then◌else◌}
-use Rattle.plant_base.specs.State.{same}
-use Rattle.plant_orders.specs.EveryFault.{faults_of, numbered_orders_of}
-use Rattle.plant_orders.specs.FaultsOfFiles.{csv_text}
-use Rattle.plant_orders.specs.{CsvFault, CsvKind, NumberedOrder}
+use Rattle.plant_base.specs.{same}
+use Rattle.plant_orders.specs.{faults_of, numbered_orders_of, csv_text, CsvFault, CsvKind, NumberedOrder}
 use Rattle.plant_orders.specs.declared.fault.CsvKind.TheVariants as kind
-use Rattle.plant_rules_production.specs.Orders.{is_same_order}
-use Rattle.plant_message_schema.specs.FormatErrors.{shape_error_text}
+use Rattle.plant_rules_production.specs.{is_same_order}
+use Rattle.plant_message_schema.specs.{shape_error_text}
 use Rattle.plant_message_schema.specs.declared.members.Member.TheVariants as member
 use Rattle.plant_message_schema.specs.declared.format_errors.ShapeError.TheVariants as shape_error
 use Rattle.order_check.specs.declared.reason.Reason.{Reason}

@@ -1,6 +1,6 @@
 //! Orders of a file whose id an earlier one has, with other values: an import of the file would be refused.
 ghost use Rattle.std.specs.Prelude.{◌≡◌, ◌++◌, IfOk, OnOk, Some};
-ghost use Rattle.plant_rules_production.specs.Orders.{is_same_order};
+ghost use Rattle.plant_rules_production.specs.{is_same_order};
 ghost use Rattle.order_check.specs.Verdicts.{conflict_in, conflict_text, conflicts_among, first_of};
 
 use plant_base::{Id, OrderRow};

@@ -1,7 +1,7 @@
 //! The verdict on an order file.
 ghost use Rattle.std.specs.Prelude.{◌≡◌, ◌⊎◌, ℕ, List, IfOk, IfErr, Some, codes, decimal};
-ghost use Rattle.plant_base.specs.Inputs.{Agrees};
-ghost use Rattle.plant_orders.specs.EveryFault.{IsExaminedOf};
+ghost use Rattle.plant_base.specs.{Agrees};
+ghost use Rattle.plant_orders.specs.{IsExaminedOf};
 ghost use Rattle.order_check.specs.Verdicts.{count_text, fault_text, is_good, verdict_of};
 
 use crate::conflicts::{Conflict, conflicts_among};

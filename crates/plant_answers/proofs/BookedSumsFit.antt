@@ -1,18 +1,16 @@
 -- What is booked along an edge of a consistent state fits 64 bits: all that left a lot does, and all that entered it.
 use Rattle.std.proofs.Common.{◌≡◌, ℕ, ◌≤◌, ◌<◌, ◌^◌, Bool, true, false, cond, List, Option, refl, sym, ap, arith, ◌∙◌}
 use Rattle.std.proofs.lemmas.List.Sums.{sum_by-le-sum_by}
-use Rattle.plant_base.specs.Edges.{edge_eq}
-use Rattle.plant_base.specs.State.{State, same}
-use Rattle.plant_base.specs.{EdgeKind, EdgeRow, Movement, MovementKind}
+use Rattle.plant_base.specs.{edge_eq, State, same, EdgeKind, EdgeRow, Movement, MovementKind}
 use Rattle.plant_base.specs.declared.rows.EdgeKind.TheVariants.{LotToBatch, BatchToLot, LotToLot}
 use Rattle.plant_base.specs.declared.rows.MovementKind.TheVariants.{Consumed, Produced, Split, Merged}
 use Rattle.plant_base.proofs.KeyOrders.{same_itself}
 use Rattle.plant_base.proofs.PutKeepsOrder.{all_weaker}
-use Rattle.plant_stock.specs.Stock.{goes_to, comes_from, entered, left}
-use Rattle.plant_view.specs.Genealogy.{edge_row_by}
+use Rattle.plant_stock.specs.{goes_to, comes_from, entered, left}
+use Rattle.plant_view.specs.{edge_row_by}
 use Rattle.plant_view.specs.DecisionInvariant.{DecisionInvariant}
 use Rattle.plant_view.proofs.SumsOverSublots.{of_place, total}
-use Rattle.plant_answers.specs.Genealogy.{amount_of, booked_along, is_made}
+use Rattle.plant_answers.specs.{amount_of, booked_along, is_made}
 use Rattle.plant_answers.proofs.SumsByEdge.{edge_exact}
 use Rattle.plant_answers.proofs.TotalStockFits.{bounded}
 

@@ -1,35 +1,27 @@
 -- What is booked node by node is what all movements book along the edges between the nodes.
-use Rattle.std.proofs.Common.{◌≡◌, ◌∙◌, ℕ, ◌+◌, ◌<◌, ◌^◌, Bool, true, false, cond, List, [], ◌∷◌, map, filter, Option, Some, None, refl, sym, subst, ap, arith, ⊎_elim, Contains}
-use Rattle.std.specs.Prelude.{◌&&◌, ◌||◌, sum_by}
-use Rattle.std.specs.List.{AllByRecursion, filter_map, flat_map, cons_option}
+use Rattle.std.proofs.Common.{◌≡◌, ◌∙◌, ℕ, ◌+◌, ◌<◌, ◌^◌, Bool, true, false, cond, List, [], ◌∷◌, map, filter, Option, Some, None, refl, sym, subst, ap, arith, ⊎_elim, Contains, ◌&&◌, ◌||◌, sum_by, filter_map, flat_map, Less}
+use Rattle.std.specs.List.{AllByRecursion, cons_option}
 use Rattle.std.specs.List.Sorted.{IsStrictlySortedBy}
-use Rattle.std.specs.declared.cmp.Ordering.TheVariants.{Less}
 use Rattle.std.proofs.lemmas.Bool.{false≢true, and_parts, and_right, and_from}
 use Rattle.std.proofs.lemmas.Cmp.{tied_itself}
 use Rattle.std.proofs.lemmas.List.Folds.{Any-from_list_any}
 use Rattle.std.proofs.lemmas.List.Kept.{IsStrictlySortedBy-filter}
 use Rattle.std.proofs.lemmas.List.Sums.{sum_by-cons, sum_by-append}
-use Rattle.plant_base.specs.Edges.{edge_eq, edge_order, edge_total}
-use Rattle.plant_base.specs.State.{State, same}
-use Rattle.plant_base.specs.{EdgeKind, EdgeRow, Movement, MovementKind}
+use Rattle.plant_base.specs.{edge_eq, edge_order, edge_total, State, same, EdgeKind, EdgeRow, Movement, MovementKind}
 use Rattle.plant_base.specs.declared.rows.EdgeKind.TheVariants as edge
 use Rattle.plant_base.specs.declared.rows.MovementKind.TheVariants.{Consumed, Produced, Split, Merged}
 use Rattle.plant_base.proofs.EdgeIsItsKey.{one_edge}
 use Rattle.plant_base.proofs.KeyOrders.{same_itself}
 use Rattle.plant_base.proofs.PutKeepsOrder.{map_alike}
-use Rattle.plant_trace.specs.Nodes.{node_cmp, node_eq, node_total}
-use Rattle.plant_trace.specs.{Node}
+use Rattle.plant_trace.specs.{node_cmp, node_eq, node_total, Node}
 use Rattle.plant_trace.specs.declared.node.Node.TheVariants as node
 use Rattle.plant_trace.proofs.LeadsIsReach.{none_in}
 use Rattle.plant_trace.proofs.NodeOrder.{node_eq_exact}
-use Rattle.plant_view.specs.Genealogy.{batch_by, edge_row_by, edge_row_of, edge_rows, ends_by}
-use Rattle.plant_view.specs.Rows.{put_all}
-use Rattle.plant_view.specs.Views.{is_named, movements_of}
+use Rattle.plant_view.specs.{batch_by, edge_row_by, edge_row_of, edge_rows, ends_by, put_all, is_named, movements_of}
 use Rattle.plant_view.proofs.Membership.{all_in, filter_in, filter_from, flat_in, flat_from, map_in, map_from, one_list, put_all_from, sorted_put_all}
 use Rattle.plant_view.proofs.RowsInTurn.{all_of, filtered_passes}
-use Rattle.plant_worklists.specs.Worklists.{movements_into, other_lot}
-use Rattle.plant_answers.specs.Booked.{Fits, booked_at, booked_if, bookings_around, counted, movements_at, summed, reported_at, reported_by, total_along}
-use Rattle.plant_answers.specs.Genealogy.{amount_of, booked_along, booked_edge, edges_between, is_among, is_between, is_made}
+use Rattle.plant_worklists.specs.{movements_into, other_lot}
+use Rattle.plant_answers.specs.{Fits, booked_at, booked_if, bookings_around, counted, movements_at, summed, reported_at, reported_by, total_along, amount_of, booked_along, booked_edge, edges_between, is_among, is_between, is_made}
 use Rattle.plant_messages.specs.{BookedEdge}
 use Rattle.plant_answers.proofs.SumsByEdge.{edge_exact, booked_pair, totalled}
 use Rattle.plant_answers.proofs.NarrowedMovements.{reported_of}

@@ -2,9 +2,8 @@
 use Rattle.std.proofs.Common.{◌≡◌, ◌∙◌, List, ℕ, Bool, true, false, cond, Option, Some, None, IfSome, refl, sym, ap}
 use Rattle.plant_base.proofs.FindIsFirst.{found_passes}
 use Rattle.plant_base.proofs.KeyOrders.{same_id}
-use Rattle.plant_base.specs.State.{State, definition_at, same}
-use Rattle.plant_base.specs.{Definition}
-use Rattle.plant_answers.specs.KnownLots.{last_one}
+use Rattle.plant_base.specs.{State, definition_at, same, Definition}
+use Rattle.plant_answers.specs.{last_one}
 
 pub of_its_id : (s : State) (id : List ℕ) (found : Option Definition) → found ≡ definition_at s id → IfSome found (λ d. definition_at s d.id ≡ Some d)
 of_its_id s id None e = tt

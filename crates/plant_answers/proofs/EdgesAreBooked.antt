@@ -1,22 +1,16 @@
 -- The edges between nodes are just those that movements make, with what they book.
-use Rattle.std.proofs.Common.{◌≡◌, true, List, [], filter, refl, sym, subst, ⊎_elim, Contains}
-use Rattle.std.specs.List.{filter_map}
+use Rattle.std.proofs.Common.{◌≡◌, true, List, [], filter, refl, sym, subst, ⊎_elim, Contains, filter_map}
 use Rattle.std.specs.List.Sorted.{IsStrictlySortedBy}
 use Rattle.std.proofs.lemmas.List.Folds.{Any-from_list_any, list_any-from_Any}
 use Rattle.std.proofs.lemmas.List.Kept.{IsStrictlySortedBy-filter}
-use Rattle.plant_base.specs.Edges.{edge_order, edge_total}
-use Rattle.plant_base.specs.State.{State}
-use Rattle.plant_base.specs.{EdgeRow}
+use Rattle.plant_base.specs.{edge_order, edge_total, State, EdgeRow}
 use Rattle.plant_base.proofs.EdgeIsItsKey.{one_edge}
-use Rattle.plant_trace.specs.Nodes.{node_eq}
-use Rattle.plant_trace.specs.{Direction, Node}
+use Rattle.plant_trace.specs.{node_eq, Direction, Node}
 use Rattle.plant_trace.proofs.LeadsIsReach.{none_in}
 use Rattle.plant_trace.proofs.NodeOrder.{node_eq_exact, node_eq_itself}
-use Rattle.plant_view.specs.Genealogy.{edge_row_of, edge_rows, ends_of}
+use Rattle.plant_view.specs.{edge_row_of, edge_rows, ends_of}
 use Rattle.plant_view.proofs.Membership.{all_in, filter_in, filter_from, map_in, map_from, map_sorted, put_all_from, sorted_put_all}
-use Rattle.plant_answers.specs.Surroundings.{nodes_around}
-use Rattle.plant_answers.specs.Genealogy.{booked_edge, edges_between, is_among, is_between}
-use Rattle.plant_answers.specs.AnswerLaws.{IsBooked, booked_order}
+use Rattle.plant_answers.specs.{nodes_around, booked_edge, edges_between, is_among, is_between, IsBooked, booked_order}
 use Rattle.plant_messages.specs.{BookedEdge}
 use Rattle.plant_answers.proofs.GoodsAreReached.{around_lists}
 use Rattle.plant_answers.proofs.PickedRows.{picked_in, picked_from}

@@ -1,9 +1,8 @@
 -- A row of a batch that was found.
 use Rattle.std.proofs.Common.{◌≡◌, ◌∙◌, Option, Some, None, option_map, sym, ap}
-use Rattle.plant_base.specs.State.{State}
-use Rattle.plant_base.specs.{Batch, BatchRow}
-use Rattle.plant_view.specs.Tables.{batch_row}
-use Rattle.plant_answers.specs.Answering.{IsRowOf}
+use Rattle.plant_base.specs.{State, Batch, BatchRow}
+use Rattle.plant_view.specs.{batch_row}
+use Rattle.plant_answers.specs.{IsRowOf}
 
 pub row_found : (s : State) (r : BatchRow) (o : Option Batch) → Some r ≡ option_map (batch_row s.control_lines s.events) o → IsRowOf s r × (o ≡ Some r.batch)
 row_found s r None e = absurd (cc)

@@ -1,16 +1,12 @@
 -- The turns of the loops that gather what is booked.
-use Rattle.std.proofs.Common.{◌≡◌, ◌∙◌, ℕ, ◌+◌, ◌<◌, Bool, true, false, cond, List, [], ◌∷◌, ◌++◌, Option, option_to_list, length, take, get_or, refl, sym, ap, append_assoc}
-use Rattle.std.specs.Prelude.{◌||◌}
-use Rattle.std.specs.BTreeSet.{BTreeSet, contains, Updates}
-use Rattle.std.specs.List.{filter_map, flat_map, list_any}
-use Rattle.std.specs.Ordering.{is_eq}
+use Rattle.std.proofs.Common.{◌≡◌, ◌∙◌, ℕ, ◌+◌, ◌<◌, Bool, true, false, cond, List, [], ◌∷◌, ◌++◌, Option, option_to_list, length, take, get_or, refl, sym, ap, append_assoc, ◌||◌, BTreeSet, filter_map, flat_map, is_eq, append-nil}
+use Rattle.std.specs.BTreeSet.{contains, Updates}
+use Rattle.std.specs.List.{list_any}
 use Rattle.std.proofs.lemmas.List.{take_more}
 use Rattle.std.proofs.lemmas.List.Concat.{flat_map-append}
-use Rattle.std.proofs.lemmas.List.{append-nil}
 use Rattle.std.proofs.lemmas.List.Folds.{list_any_more}
-use Rattle.plant_trace.specs.Nodes.{node_cmp, node_eq, node_ties}
-use Rattle.plant_trace.specs.{Node}
-use Rattle.plant_answers.specs.Booked.{IsSetOf}
+use Rattle.plant_trace.specs.{node_cmp, node_eq, node_ties, Node}
+use Rattle.plant_answers.specs.{IsSetOf}
 use Rattle.plant_answers.proofs.NarrowedMovements.{reported_more}
 
 -- a node more in a set

@@ -1,26 +1,18 @@
 -- The nodes around a lot or batch, and the lots among them that have stock, are those that the least relation reaches.
-use Rattle.std.proofs.Common.{◌≡◌, ◌∙◌, ◌<◌, ℕ, Bool, true, false, nat_lt, List, Option, Some, None, inl, inr, ⊎_elim, refl, sym, subst, ap, arith, Contains}
-use Rattle.std.specs.Prelude.{if◌then◌else◌}
+use Rattle.std.proofs.Common.{◌≡◌, ◌∙◌, ◌<◌, ℕ, Bool, true, false, nat_lt, List, Option, Some, None, inl, inr, ⊎_elim, refl, sym, subst, ap, arith, Contains, if◌then◌else◌, Less}
 use Rattle.std.specs.List.Sorted.{IsStrictlySortedBy}
 use Rattle.std.proofs.lemmas.Bool.Decides.{nat_tests}
-use Rattle.std.specs.declared.cmp.Ordering.TheVariants.{Less}
-use Rattle.plant_base.specs.State.{State, same, id_cmp, lot_at, put}
-use Rattle.plant_base.specs.{Lot}
+use Rattle.plant_base.specs.{State, same, id_cmp, lot_at, put, Lot}
 use Rattle.plant_base.proofs.FindIsFirst.{found_passes}
 use Rattle.plant_base.proofs.KeyOrders.{same_id}
 use Rattle.plant_base.proofs.PutKeepsOrder.{sorted_put}
-use Rattle.plant_trace.specs.Nodes.{node_cmp, node_total}
-use Rattle.plant_trace.specs.Reach.{Lists}
-use Rattle.plant_trace.specs.{Direction, Node}
+use Rattle.plant_trace.specs.{node_cmp, node_total, Lists, Direction, Node}
 use Rattle.plant_trace.specs.declared.direction.Direction.TheVariants.{Forward}
 use Rattle.plant_trace.specs.declared.node.Node.TheVariants as node
 use Rattle.plant_trace.proofs.NodeOrder.{node_exact}
-use Rattle.plant_view.specs.Genealogy.{edges_of}
+use Rattle.plant_view.specs.{edges_of}
 use Rattle.plant_view.proofs.Membership.{put_in, put_from, put_stays}
-use Rattle.plant_answers.specs.Surroundings.{nodes_around, stocked_if, stocked_at, lots_standing}
-use Rattle.plant_answers.specs.AnswerLaws.{IsAround, StandsFrom, standing_order}
-use Rattle.plant_answers.specs.Traces.{trace_of}
-use Rattle.plant_answers.specs.Worklists.{if_stocked, standing_lot}
+use Rattle.plant_answers.specs.{nodes_around, stocked_if, stocked_at, lots_standing, IsAround, StandsFrom, standing_order, trace_of, if_stocked, standing_lot}
 use Rattle.plant_messages.specs.{StandingLot}
 use Rattle.plant_answers.proofs.PickedRows.{picked_in, picked_from, picked_sorted}
 use Rattle.plant_answers.proofs.ReachedIsTrace.{trace_lists}

@@ -1,16 +1,13 @@
 -- The movements of a batch, and the scraps of a lot, say of these what all movements do.
-use Rattle.std.proofs.Common.{◌≡◌, ◌∙◌, ℕ, ◌+◌, ◌<◌, Bool, true, false, cond, if◌then◌else◌, List, [], ◌∷◌, ◌++◌, Option, Some, None, option_to_list, length, take, filter, get_or, sum_by, refl, sym, ap, arith}
-use Rattle.std.specs.Prelude.{◌&&◌}
-use Rattle.std.specs.List.{filter_map, cons_option}
+use Rattle.std.proofs.Common.{◌≡◌, ◌∙◌, ℕ, ◌+◌, ◌<◌, Bool, true, false, cond, if◌then◌else◌, List, [], ◌∷◌, ◌++◌, Option, Some, None, option_to_list, length, take, filter, get_or, sum_by, refl, sym, ap, arith, ◌&&◌, filter_map}
+use Rattle.std.specs.List.{cons_option}
 use Rattle.std.proofs.lemmas.List.{take_more}
 use Rattle.std.proofs.lemmas.List.Elements.{filter_map-append}
 use Rattle.std.proofs.lemmas.List.Sums.{sum_by-cons}
-use Rattle.plant_base.specs.State.{State, same}
-use Rattle.plant_base.specs.{Movement, MovementKind}
+use Rattle.plant_base.specs.{State, same, Movement, MovementKind}
 use Rattle.plant_base.specs.declared.rows.MovementKind.TheVariants.{Consumed, Produced}
-use Rattle.plant_view.specs.Genealogy.{batch_by}
-use Rattle.plant_view.specs.Views.{is_named, is_scrap, movements_of, scraps_of}
-use Rattle.plant_answers.specs.BatchViews.{is_consumed_by, is_produced_by, consumption, production, booking_in, scrapped_of}
+use Rattle.plant_view.specs.{batch_by, is_named, is_scrap, movements_of, scraps_of}
+use Rattle.plant_answers.specs.{is_consumed_by, is_produced_by, consumption, production, booking_in, scrapped_of}
 
 -- ---- rows of which nothing is reported
 

@@ -1,28 +1,22 @@
 -- The nodes around a lot or batch that is there are there in a consistent state, and all are reported.
-use Rattle.std.proofs.Common.{◌≡◌, ◌∙◌, ℕ, true, List, [], ◌∷◌, map, Option, Some, None, is_some, refl, sym, subst, ap, ⊎_elim}
-use Rattle.std.specs.Prelude.{⊤, ◌==◌, ◌&&◌, is_none, option_map}
-use Rattle.std.specs.List.{AllByRecursion, filter_map, cons_option}
+use Rattle.std.proofs.Common.{◌≡◌, ◌∙◌, ℕ, true, List, [], ◌∷◌, map, Option, Some, None, is_some, refl, sym, subst, ap, ⊎_elim, ◌==◌, ◌&&◌, is_none, option_map, filter_map}
+use Rattle.std.specs.Prelude.{⊤}
+use Rattle.std.specs.List.{AllByRecursion, cons_option}
 use Rattle.std.proofs.lemmas.Bool.{false≢true}
-use Rattle.plant_base.specs.State.{State, same, definition_at, lot_at, place_at}
-use Rattle.plant_base.specs.{Definition, Lot, MovementKind, Place}
+use Rattle.plant_base.specs.{State, same, definition_at, lot_at, place_at, Definition, Lot, MovementKind, Place}
 use Rattle.plant_base.specs.declared.rows.MovementKind.TheVariants.{Consumed, Produced, Split, Merged}
 use Rattle.plant_base.specs.declared.refusal.Refusal.TheVariants.{UnknownLot}
 use Rattle.plant_base.proofs.FindIsFirst.{found_keeps, found_passes}
 use Rattle.plant_base.proofs.KeyOrders.{same_id, same_key}
-use Rattle.plant_stock.specs.Stock.{goes_to, comes_from}
-use Rattle.plant_trace.specs.Reach.{HasEdge, IsReached}
-use Rattle.plant_trace.specs.{Direction, Node}
+use Rattle.plant_stock.specs.{goes_to, comes_from}
+use Rattle.plant_trace.specs.{HasEdge, IsReached, Direction, Node}
 use Rattle.plant_trace.specs.declared.direction.Direction.TheVariants.{Forward, Back}
 use Rattle.plant_trace.specs.declared.node.Node.TheVariants as node
 use Rattle.plant_trace.proofs.AddingKeepsAcyclic.{first_edge, last_edge}
-use Rattle.plant_view.specs.Genealogy.{edge_by, edge_of, edges_of}
-use Rattle.plant_view.specs.Refusals.{refuse}
-use Rattle.plant_view.specs.DecisionInvariant.{DecisionInvariant, IsThere}
+use Rattle.plant_view.specs.{edge_by, edge_of, edges_of, refuse, IsThere}
+use Rattle.plant_view.specs.DecisionInvariant.{DecisionInvariant}
 use Rattle.plant_view.proofs.Membership.{all_at, all_from}
-use Rattle.plant_answers.specs.Surroundings.{nodes_around}
-use Rattle.plant_answers.specs.Genealogy.{lot_node, named, node_answer, node_if}
-use Rattle.plant_answers.specs.AnswerLaws.{IsAround}
-use Rattle.plant_answers.specs.Traces.{missing}
+use Rattle.plant_answers.specs.{nodes_around, lot_node, named, node_answer, node_if, IsAround, missing}
 use Rattle.plant_messages.specs.{NodeAnswer}
 use Rattle.plant_messages.specs.declared.genealogy.NodeAnswer.TheVariants as known
 use Rattle.plant_answers.proofs.GoodsAreReached.{around_lists}

@@ -1,11 +1,8 @@
 -- A list of the nodes that a start reaches is the trace.
-use Rattle.std.proofs.Common.{◌≡◌, true, List, [], map, filter}
-use Rattle.std.specs.Prelude.{Contains}
+use Rattle.std.proofs.Common.{◌≡◌, true, List, [], map, filter, Contains}
 use Rattle.std.specs.List.Sorted.{IsStrictlySortedBy}
 use Rattle.std.proofs.lemmas.List.Elements.{Contains-append_left, Contains-append_right, All-contains, All-from_recursion, recursion_from_All, filter_passes}
-use Rattle.plant_trace.specs.Nodes.{node_cmp, node_total}
-use Rattle.plant_trace.specs.Reach.{IsReached, Lists}
-use Rattle.plant_trace.specs.{Direction, Node}
+use Rattle.plant_trace.specs.{node_cmp, node_total, IsReached, Lists, Direction, Node}
 use Rattle.plant_trace.specs.declared.direction.Direction.TheVariants.{Forward, Back}
 use Rattle.plant_trace.proofs.AddingKeepsAcyclic.{first_edge, last_edge}
 use Rattle.plant_trace.proofs.LeadsIsReach.{leads_where_reached}
@@ -13,7 +10,7 @@ use Rattle.plant_trace.proofs.SortedNodes.{Lists-unique}
 use Rattle.plant_trace.proofs.NodeOrder.{node_exact}
 use Rattle.plant_view.proofs.MappedContains.{mapped_in, filtered_in, come}
 use Rattle.plant_view.proofs.RowsInTurn.{sorted_put_all, all_put_all}
-use Rattle.plant_answers.specs.Traces.{is_reached, ends, trace_along}
+use Rattle.plant_answers.specs.{is_reached, ends, trace_along}
 
 -- ---- what is reached
 

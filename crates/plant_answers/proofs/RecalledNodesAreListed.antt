@@ -1,18 +1,14 @@
 -- A list of what a recall reaches is the one that is answered.
-use Rattle.std.proofs.Common.{◌≡◌, ℕ, List, []}
+use Rattle.std.proofs.Common.{◌≡◌, ℕ, List, [], ⊎_elim}
 use Rattle.std.specs.List.Sorted.{IsStrictlySortedBy}
-use Rattle.plant_trace.specs.Nodes.{node_cmp, node_total}
-use Rattle.plant_trace.specs.Reach.{Lists}
-use Rattle.plant_trace.specs.Recalls.{IsRecalled}
-use Rattle.plant_trace.specs.{Node}
+use Rattle.plant_trace.specs.{node_cmp, node_total, Lists, IsRecalled, Node}
 use Rattle.plant_trace.proofs.LeadsIsReach.{none_in}
 use Rattle.plant_trace.proofs.SortedNodes.{Lists-unique}
 use Rattle.plant_trace.proofs.NodeOrder.{node_exact}
-use Rattle.plant_view.specs.Recalls.{nodes_from}
+use Rattle.plant_view.specs.{nodes_from}
 use Rattle.plant_view.proofs.MarkChanges.{nodes_iff}
 use Rattle.plant_view.proofs.Membership.{all_in, put_all_from, sorted_put_all}
-use Rattle.plant_answers.specs.RecallAnswers.{reached_list}
-use Rattle.std.proofs.Common.{⊎_elim}
+use Rattle.plant_answers.specs.{reached_list}
 
 pub reached_lists : (pairs : List (Node × Node)) (lot : List ℕ) → Lists (IsRecalled pairs lot) (reached_list pairs lot)
 unfolding IsStrictlySortedBy reached_list

@@ -1,10 +1,8 @@
 -- Sums of what is booked, edge by edge, as a map has them.
-use Rattle.std.proofs.Common.{◌≡◌, ◌∙◌, ℕ, ◌+◌, ◌≤◌, ◌<◌, ◌^◌, Bool, true, false, cond, List, [], ◌∷◌, ◌++◌, length, take, get_or, map, Option, Some, None, refl, sym, subst, ap, arith, ⊎_elim, Contains}
-use Rattle.std.specs.Prelude.{◌||◌, min, unwrap_or, IsSome}
-use Rattle.std.specs.BTreeMap.{BTreeMap, Updates, get, keys}
+use Rattle.std.proofs.Common.{◌≡◌, ◌∙◌, ℕ, ◌+◌, ◌≤◌, ◌<◌, ◌^◌, Bool, true, false, cond, List, [], ◌∷◌, ◌++◌, length, take, get_or, map, Option, Some, None, refl, sym, subst, ap, arith, ⊎_elim, Contains, ◌||◌, min, unwrap_or, IsSome, BTreeMap, is_eq}
+use Rattle.std.specs.BTreeMap.{Updates, get, keys}
 use Rattle.std.specs.List.{AllByRecursion}
 use Rattle.std.specs.List.Sorted.{IsStrictlySortedBy}
-use Rattle.std.specs.Ordering.{is_eq}
 use Rattle.std.proofs.lemmas.Bool.{false≢true}
 use Rattle.std.proofs.lemmas.Cmp.{tied_itself}
 use Rattle.std.proofs.lemmas.List.{take_more}
@@ -12,13 +10,12 @@ use Rattle.std.proofs.lemmas.List.Elements.{All-weaker, recursion_from_All}
 use Rattle.std.proofs.lemmas.List.Folds.{list_any-append, Any-from_list_any, list_any-from_Any}
 use Rattle.std.proofs.lemmas.List.Sums.{sum_by-cons, sum_by_push, sum_by-take-le}
 use Rattle.std.proofs.lemmas.Map.Views.{All-found, btree_map_contains_key_iff, tells_apart}
-use Rattle.plant_base.specs.Edges.{edge_eq, edge_order, edge_ties, edge_total}
-use Rattle.plant_base.specs.{EdgeRow}
+use Rattle.plant_base.specs.{edge_eq, edge_order, edge_ties, edge_total, EdgeRow}
 use Rattle.plant_base.proofs.EdgeIsItsKey.{one_edge}
 use Rattle.plant_trace.proofs.LeadsIsReach.{none_in}
-use Rattle.plant_view.specs.Rows.{put_all}
+use Rattle.plant_view.specs.{put_all}
 use Rattle.plant_view.proofs.Membership.{all_in, map_in, map_from, one_list, put_all_from, sorted_put_all}
-use Rattle.plant_answers.specs.Booked.{Fits, counted, is_booked, sum_at, sum_with, summed, total_along}
+use Rattle.plant_answers.specs.{Fits, counted, is_booked, sum_at, sum_with, summed, total_along}
 use Rattle.plant_messages.specs.{BookedEdge}
 use Rattle.std.proofs.Math.Bool.{or-true, or-false}
 

@@ -1,19 +1,16 @@
 -- The stock of a lot is no more than what one sublot may hold, as many times as a lot has sublots.
-use Rattle.std.proofs.Common.{◌≡◌, ◌∙◌, ℕ, ◌+◌, ◌*◌, ◌≤◌, ◌<◌, ◌^◌, true, false, cond, List, [], ◌∷◌, filter, sum_by, refl, sym, ap, arith, inl, inr}
+use Rattle.std.proofs.Common.{◌≡◌, ◌∙◌, ℕ, ◌+◌, ◌*◌, ◌≤◌, ◌<◌, ◌^◌, true, false, cond, List, [], ◌∷◌, filter, sum_by, refl, sym, ap, arith, inl, inr, nat_cmp, Less, Equal, Greater}
 use Rattle.std.specs.List.{AllByRecursion}
 use Rattle.std.specs.List.Sorted.{IsStrictlySortedBy}
 use Rattle.std.specs.Cmp.{nat_cmp_is}
-use Rattle.std.specs.Ordering.{nat_cmp, ordering_then}
-use Rattle.std.specs.declared.cmp.Ordering.TheVariants.{Less, Equal, Greater}
+use Rattle.std.specs.Ordering.{ordering_then}
 use Rattle.std.proofs.lemmas.Cmp.{tied_itself, nat_list_cmp_total}
 use Rattle.std.proofs.lemmas.List.Sums.{sum_by-cons}
-use Rattle.plant_base.specs.Values.{greatest_amount, greatest_sublot}
-use Rattle.plant_base.specs.State.{State, same, id_cmp, place_order}
-use Rattle.plant_base.specs.{Place, Sublot}
+use Rattle.plant_base.specs.{greatest_amount, greatest_sublot, State, same, id_cmp, place_order, Place, Sublot}
 use Rattle.plant_base.proofs.KeyOrders.{same_id}
 use Rattle.plant_base.proofs.PutKeepsOrder.{all_weaker}
 use Rattle.plant_view.specs.DecisionInvariant.{DecisionInvariant}
-use Rattle.plant_view.specs.Tables.{sublot_row, sublots_of}
+use Rattle.plant_view.specs.{sublot_row, sublots_of}
 use Rattle.std.proofs.lemmas.Bool.{cases_order}
 use Rattle.plant_view.proofs.RowsInTurn.{all_of}
 use Rattle.plant_view.proofs.TestsAndSums.{sum_map}

@@ -2,20 +2,13 @@
 use Rattle.std.specs.Prelude.{◌≡◌, ◌<◌, ◌↔◌, ◌⊎◌, ℕ, true, false, List, [], pos, Some, None, map, Contains}
 use Rattle.std.specs.List.Sorted.{IsStrictlySortedBy}
 use Rattle.std.specs.declared.cmp.Ordering.{Ordering}
-use Rattle.plant_base.specs.Edges.{edge_order}
-use Rattle.plant_base.specs.Recalls.{is_open, mark_order}
-use Rattle.plant_base.specs.State.{State, newest_schema, id_cmp, lot_at, recall_at}
-use Rattle.plant_base.specs.{Lot, Mark, Movement, Place, Recall}
-use Rattle.plant_stock.specs.Stock.{stock}
-use Rattle.plant_trace.specs.Reach.{IsReached, Lists}
-use Rattle.plant_trace.specs.Recalls.{IsRecalled}
-use Rattle.plant_trace.specs.{Direction, Node}
+use Rattle.plant_base.specs.{edge_order, is_open, mark_order, State, newest_schema, id_cmp, lot_at, recall_at, Lot, Mark, Movement, Place, Recall}
+use Rattle.plant_stock.specs.{stock}
+use Rattle.plant_trace.specs.{IsReached, Lists, IsRecalled, Direction, Node}
 use Rattle.plant_trace.specs.declared.direction.Direction.TheVariants.{Forward}
 use Rattle.plant_trace.specs.declared.node.Node.TheVariants as node
-use Rattle.plant_view.specs.Genealogy.{edge_row_of, edges_of, ends_of}
-use Rattle.plant_view.specs.Recalls.{Reaches, node_of}
+use Rattle.plant_view.specs.{edge_row_of, edges_of, ends_of, Reaches, node_of, state_without_kept, tables_of, IsWholeIn, sublot_row}
 use Rattle.plant_view.specs.DecisionInvariant.{DecisionInvariant}
-use Rattle.plant_view.specs.Tables.{state_without_kept, tables_of, IsWholeIn, sublot_row}
 use Rattle.plant_answers.specs.Answers.{answer}
 use Rattle.plant_answers.specs.Genealogy.{amount_of, named}
 use Rattle.plant_answers.specs.Traces.{missing}

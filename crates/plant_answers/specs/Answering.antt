@@ -1,10 +1,7 @@
 -- What is found for an answer about a batch.
-use Rattle.std.specs.Prelude.{◌≡◌, ℕ, List, map}
-use Rattle.std.specs.List.{filter_map}
-use Rattle.plant_base.specs.State.{State, control_lines_of}
-use Rattle.plant_base.specs.{BatchRow}
-use Rattle.plant_view.specs.Tables.{batch_row}
-use Rattle.plant_view.specs.Views.{events_of}
+use Rattle.std.specs.Prelude.{◌≡◌, ℕ, List, map, filter_map}
+use Rattle.plant_base.specs.{State, control_lines_of, BatchRow}
+use Rattle.plant_view.specs.{batch_row, events_of}
 use Rattle.plant_answers.specs.BatchViews.{measured_line, consumption, production}
 use Rattle.plant_answers.specs.declared.batch_answers.FoundBatch.{FoundBatch}
 use Rattle.plant_answers.specs.declared.bookings.BatchBookings.{BatchBookings}

@@ -1,7 +1,6 @@
 -- What a question is answered.
 use Rattle.std.specs.Prelude.{ℕ, List, Option, Some, None, option_map}
-use Rattle.plant_base.specs.State.{State, definition_at, recipe_at, lot_at, job_at, batch_at, batch_of, recall_at}
-use Rattle.plant_base.specs.{Job}
+use Rattle.plant_base.specs.{State, definition_at, recipe_at, lot_at, job_at, batch_at, batch_of, recall_at, Job}
 use Rattle.plant_base.specs.declared.refusal.Refusal.TheVariants.{UnknownOrder}
 use Rattle.plant_answers.specs.Surroundings.{answer_stands}
 use Rattle.plant_answers.specs.BatchLines.{answer_batch_lines}

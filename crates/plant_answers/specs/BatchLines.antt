@@ -1,13 +1,10 @@
 -- The control recipe of a batch, and what was booked of each line.
-use Rattle.std.specs.Prelude.{ℕ, ◌-◌, ◌^◌, min, List, Option, Some, None, map}
-use Rattle.std.specs.List.{filter_map}
-use Rattle.plant_base.specs.State.{State, control_lines_of}
+use Rattle.std.specs.Prelude.{ℕ, ◌-◌, ◌^◌, min, List, Option, Some, None, map, filter_map}
+use Rattle.plant_base.specs.{State, control_lines_of, Batch, RecipeLine}
 use Rattle.plant_base.specs.declared.refusal.Refusal.TheVariants.{UnknownBatch}
-use Rattle.plant_base.specs.{Batch, RecipeLine}
 use Rattle.plant_base.specs.declared.rows.RecipeLine.TheVariants.{In, Out, Parameter, Phase}
 use Rattle.plant_answers.specs.BatchViews.{consumption, measured_line, production}
-use Rattle.plant_messages.specs.Booked.{booked_of}
-use Rattle.plant_messages.specs.{Answer, BatchLines, BookedLine, Booking, MeasuredLine}
+use Rattle.plant_messages.specs.{booked_of, Answer, BatchLines, BookedLine, Booking, MeasuredLine}
 use Rattle.plant_messages.specs.declared.question.Answer.TheVariants as A
 
 -- a number, as far as 64 bits hold it

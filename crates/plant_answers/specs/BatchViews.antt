@@ -1,13 +1,10 @@
 -- What is known of a batch.
-use Rattle.std.specs.Prelude.{ℕ, Bool, false, ◌&&◌, if◌then◌else◌, List, Option, Some, None, option_map, find, map, filter, sum_by}
-use Rattle.std.specs.List.{filter_map}
-use Rattle.plant_base.specs.State.{State, same, definition_at, recipe_at, job_at, lot_at, control_lines_of}
+use Rattle.std.specs.Prelude.{ℕ, Bool, false, ◌&&◌, if◌then◌else◌, List, Option, Some, None, option_map, find, map, filter, sum_by, filter_map}
+use Rattle.plant_base.specs.{State, same, definition_at, recipe_at, job_at, lot_at, control_lines_of, Batch, ControlLine, Definition, Header, Job, Lot, Movement, MovementKind, Recipe, RecipeLine}
 use Rattle.plant_base.specs.declared.refusal.Refusal.TheVariants.{UnknownRecipe, UnknownOrder, UnknownBatch}
-use Rattle.plant_base.specs.{Batch, ControlLine, Definition, Header, Job, Lot, Movement, MovementKind, Recipe, RecipeLine}
 use Rattle.plant_base.specs.declared.rows.MovementKind.TheVariants.{Consumed, Produced}
 use Rattle.plant_base.specs.declared.rows.RecipeLine.TheVariants.{In, Out, Parameter, Phase}
-use Rattle.plant_view.specs.Tables.{progress_at}
-use Rattle.plant_view.specs.Views.{is_scrap}
+use Rattle.plant_view.specs.{progress_at, is_scrap}
 use Rattle.plant_messages.specs.{Answer, BatchView, Booking, MeasuredLine}
 use Rattle.plant_answers.specs.declared.bookings.Side.TheVariants as side
 use Rattle.plant_messages.specs.declared.question.Answer.TheVariants as A

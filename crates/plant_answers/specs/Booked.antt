@@ -1,18 +1,13 @@
 -- What the movements of nodes book along the edges between them, edge by edge.
-use Rattle.std.specs.Prelude.{◌≡◌, ◌+◌, ◌<◌, ◌^◌, ℕ, Bool, ◌&&◌, if◌then◌else◌, List, [], Option, Some, None, map, min, sum_by, unwrap_or}
-use Rattle.std.specs.List.{filter_map, flat_map, list_any}
+use Rattle.std.specs.Prelude.{◌≡◌, ◌+◌, ◌<◌, ◌^◌, ℕ, Bool, ◌&&◌, if◌then◌else◌, List, [], Option, Some, None, map, min, sum_by, unwrap_or, filter_map, flat_map}
+use Rattle.std.specs.List.{list_any}
 use Rattle.std.specs.BTreeSet.{BTreeSet, contains}
-use Rattle.plant_base.specs.Edges.{edge_eq, edge_order}
-use Rattle.plant_base.specs.State.{State}
-use Rattle.plant_base.specs.{EdgeKind, EdgeRow, Movement}
+use Rattle.plant_base.specs.{edge_eq, edge_order, State, EdgeKind, EdgeRow, Movement}
 use Rattle.plant_base.specs.declared.rows.EdgeKind.TheVariants as edge
-use Rattle.plant_trace.specs.Nodes.{node_cmp, node_eq}
-use Rattle.plant_trace.specs.{Node}
+use Rattle.plant_trace.specs.{node_cmp, node_eq, Node}
 use Rattle.plant_trace.specs.declared.node.Node.TheVariants as node
-use Rattle.plant_view.specs.Genealogy.{edge_row_of}
-use Rattle.plant_view.specs.Rows.{put_all}
-use Rattle.plant_view.specs.Views.{movements_of}
-use Rattle.plant_worklists.specs.Worklists.{movements_into}
+use Rattle.plant_view.specs.{edge_row_of, put_all, movements_of}
+use Rattle.plant_worklists.specs.{movements_into}
 use Rattle.plant_answers.specs.Genealogy.{is_between, is_among}
 use Rattle.plant_messages.specs.{BookedEdge}
 

@@ -1,8 +1,7 @@
 -- What the content of a command begins with: lines of its moment, its operator, its note and its word.
 use Rattle.std.specs.Prelude.{ℕ, Bool, List, [], ◌∷◌, Option, Some, None, ◌==◌, option_and_then}
 use Rattle.std.specs.List.{before_first, after_first}
-use Rattle.plant_base.specs.Digits.{digits_of}
-use Rattle.plant_base.specs.Values.{is_moment, is_text, only}
+use Rattle.plant_base.specs.{digits_of, is_moment, is_text, only}
 use Rattle.plant_messages.specs.{CommandHead}
 
 abbrev pub is_lf : ℕ → Bool

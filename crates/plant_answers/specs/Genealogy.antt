@@ -1,15 +1,10 @@
 -- The genealogy around a lot or batch: its nodes, and the edges between them with what was booked along each.
-use Rattle.std.specs.Prelude.{ℕ, Bool, false, ◌&&◌, if◌then◌else◌, List, Option, Some, None, option_map, filter, map, sum_by}
-use Rattle.std.specs.List.{filter_map, list_any}
-use Rattle.plant_base.specs.Edges.{edge_eq}
-use Rattle.plant_base.specs.State.{State, definition_at, lot_at}
-use Rattle.plant_base.specs.{Definition, EdgeRow, Lot, Movement, Refusal}
-use Rattle.plant_trace.specs.Nodes.{node_eq}
-use Rattle.plant_trace.specs.{Direction, Node}
+use Rattle.std.specs.Prelude.{ℕ, Bool, false, ◌&&◌, if◌then◌else◌, List, Option, Some, None, option_map, filter, map, sum_by, filter_map}
+use Rattle.std.specs.List.{list_any}
+use Rattle.plant_base.specs.{edge_eq, State, definition_at, lot_at, Definition, EdgeRow, Lot, Movement, Refusal}
+use Rattle.plant_trace.specs.{node_eq, Direction, Node}
 use Rattle.plant_trace.specs.declared.node.Node.TheVariants as node
-use Rattle.plant_view.specs.Genealogy.{edge_row_of, edge_rows, ends_of}
-use Rattle.plant_view.specs.Recalls.{is_blocked}
-use Rattle.plant_view.specs.Refusals.{is_held}
+use Rattle.plant_view.specs.{edge_row_of, edge_rows, ends_of, is_blocked, is_held}
 use Rattle.plant_answers.specs.Surroundings.{nodes_around}
 use Rattle.plant_answers.specs.LotAnswers.{lot_answer}
 use Rattle.plant_messages.specs.{Answer, BookedEdge, Genealogy, LotNode, NodeAnswer}

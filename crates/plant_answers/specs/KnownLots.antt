@@ -1,10 +1,9 @@
 -- What was read ahead of lots that are asked for one after another is of the state.
 use Rattle.std.specs.Prelude.{◌≡◌, ℕ, true, false, if◌then◌else◌, List, Option, Some, None, IfSome}
-use Rattle.plant_base.specs.State.{State, definition_at, lot_at, same}
-use Rattle.plant_base.specs.{Definition, Lot}
+use Rattle.plant_base.specs.{State, definition_at, lot_at, same, Definition, Lot}
 use Rattle.plant_trace.specs.{Node}
 use Rattle.plant_trace.specs.declared.node.Node.TheVariants as node
-use Rattle.plant_worklists.specs.Prefetching.{IsValidHoldPrefetch, IsValidLotPrefetch, IsValidSublotPrefetch, prefetched_holds, prefetched_lots, prefetched_sublots, unread}
+use Rattle.plant_worklists.specs.{IsValidHoldPrefetch, IsValidLotPrefetch, IsValidSublotPrefetch, prefetched_holds, prefetched_lots, prefetched_sublots, unread}
 use Rattle.plant_answers.specs.declared.known_lots.KnownLots.{KnownLots}
 
 pub record AreKnown (s : State) (known : KnownLots) : Type 0 where

@@ -13,3 +13,18 @@ pub mod RecallAnswers
 pub mod Traces
 pub mod Worklists
 pub mod RecipeAnswers
+pub use Answering.{IsFoundOf, IsRowOf}
+unfoldable pub use Answers.{answer}
+pub use Surroundings.{answer_stands, lots_standing, nodes_around, stocked_at, stocked_if}
+pub use BatchViews.{booked_on, booking_in, consumption, is_consumed_by, is_produced_by, measured_line, production}
+unfoldable pub use BatchViews.{scrapped_of}
+pub use Booked.{Fits, IsSetOf, booked_at, booked_if, bookings_around, counted, is_booked, movements_at, reported_at, reported_by, sum_at, sum_with, summed, total_along}
+pub use Genealogy.{amount_of, answer_edges, booked_along, booked_edge, edges_between, genealogy_around, is_among, is_between, is_made, lot_node, named, node_answer, node_if}
+pub use AnswerLaws.{IsAround, IsBooked, StandsFrom, booked_order, standing_order}
+pub use KnownLots.{AreKnown, after_definition, after_lot, after_row, last_one}
+pub use LotAnswers.{answer_lot, lot_answer}
+pub use RecallAnswers.{answer_recall, recall_answer}
+unfoldable pub use RecallAnswers.{reached_list}
+pub use Traces.{answer_trace, ends, is_reached, missing, trace_along, trace_of}
+pub use Worklists.{if_stocked, open_batch, standing_lot}
+pub use RecipeAnswers.{recipe_line}

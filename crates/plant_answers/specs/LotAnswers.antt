@@ -1,10 +1,8 @@
 -- What is answered of a lot.
 use Rattle.std.specs.Prelude.{Option, Some, None, sum_by}
-use Rattle.plant_base.specs.State.{State}
-use Rattle.plant_base.specs.{Lot}
+use Rattle.plant_base.specs.{State, Lot}
 use Rattle.plant_base.specs.declared.refusal.Refusal.TheVariants.{UnknownLot}
-use Rattle.plant_view.specs.Refusals.{is_held}
-use Rattle.plant_view.specs.Tables.{sublots_of}
+use Rattle.plant_view.specs.{is_held, sublots_of}
 use Rattle.plant_messages.specs.{Answer, LotAnswer}
 use Rattle.plant_messages.specs.declared.question.Answer.TheVariants as A
 

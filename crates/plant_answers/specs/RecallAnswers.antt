@@ -1,14 +1,9 @@
 -- What is answered of a recall.
 use Rattle.std.specs.Prelude.{ℕ, List, [], Option, Some, None, if◌then◌else◌}
-use Rattle.plant_base.specs.Recalls.{is_open}
-use Rattle.plant_base.specs.State.{State}
+use Rattle.plant_base.specs.{is_open, State, Recall}
 use Rattle.plant_base.specs.declared.refusal.Refusal.TheVariants.{UnknownRecall}
-use Rattle.plant_base.specs.{Recall}
-use Rattle.plant_trace.specs.Nodes.{node_cmp}
-use Rattle.plant_trace.specs.{Node}
-use Rattle.plant_view.specs.Genealogy.{edges_of}
-use Rattle.plant_view.specs.Recalls.{nodes_from}
-use Rattle.plant_view.specs.Rows.{put_all}
+use Rattle.plant_trace.specs.{node_cmp, Node}
+use Rattle.plant_view.specs.{edges_of, nodes_from, put_all}
 use Rattle.plant_messages.specs.{Answer, RecallAnswer}
 use Rattle.plant_messages.specs.declared.question.Answer.TheVariants as A
 

@@ -1,8 +1,7 @@
 -- What is known of a definition, and of a version of a master recipe.
 use Rattle.std.specs.Prelude.{Option, Some, None, map}
-use Rattle.plant_base.specs.State.{State, master_lines_of}
+use Rattle.plant_base.specs.{State, master_lines_of, Definition, MasterLine, Recipe}
 use Rattle.plant_base.specs.declared.refusal.Refusal.TheVariants.{UnknownDefinition, UnknownRecipe}
-use Rattle.plant_base.specs.{Definition, MasterLine, Recipe}
 use Rattle.plant_answers.specs.BatchViews.{material_of, unit_among}
 use Rattle.plant_messages.specs.{Answer, RecipeAnswer, RecipeLineAnswer}
 use Rattle.plant_messages.specs.declared.question.Answer.TheVariants as A

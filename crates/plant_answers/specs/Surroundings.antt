@@ -1,10 +1,7 @@
 -- What lies around a lot or batch in the genealogy, and where its goods are.
-use Rattle.std.specs.Prelude.{List, Option, Some, None}
-use Rattle.std.specs.List.{filter_map}
-use Rattle.plant_base.specs.State.{State, lot_at, put}
-use Rattle.plant_base.specs.{Lot, Refusal}
-use Rattle.plant_trace.specs.Nodes.{node_cmp}
-use Rattle.plant_trace.specs.{Direction, Node}
+use Rattle.std.specs.Prelude.{List, Option, Some, None, filter_map}
+use Rattle.plant_base.specs.{State, lot_at, put, Lot, Refusal}
+use Rattle.plant_trace.specs.{node_cmp, Direction, Node}
 use Rattle.plant_trace.specs.declared.direction.Direction.TheVariants.{Forward}
 use Rattle.plant_trace.specs.declared.node.Node.TheVariants as node
 use Rattle.plant_answers.specs.Traces.{trace_of}

@@ -1,14 +1,10 @@
 -- What is answered of a worklist.
-use Rattle.std.specs.Prelude.{ℕ, ◌-◌, true, false, List, Option, Some, None, length, map, nat_lt, option_map, slice_get, if◌then◌else◌}
-use Rattle.std.specs.List.{filter_map}
-use Rattle.plant_base.specs.State.{State, class_at, control_lines_of, definition_at, lot_at}
+use Rattle.std.specs.Prelude.{ℕ, ◌-◌, true, false, List, Option, Some, None, length, map, nat_lt, option_map, slice_get, if◌then◌else◌, filter_map}
+use Rattle.plant_base.specs.{State, class_at, control_lines_of, definition_at, lot_at, BatchRow, Class, Definition, JobState, Lot, Receipt, RecipeLine, RecipeState}
 use Rattle.plant_base.specs.declared.refusal.Refusal.TheVariants.{UnknownClass, UnknownDefinition, UnknownLot}
-use Rattle.plant_base.specs.{BatchRow, Class, Definition, JobState, Lot, Receipt, RecipeLine, RecipeState}
 use Rattle.plant_base.specs.declared.rows.RecipeLine.TheVariants.{In, Out, Parameter, Phase}
-use Rattle.plant_view.specs.Recalls.{is_blocked}
-use Rattle.plant_worklists.specs.Pages.{page_of}
-use Rattle.plant_worklists.specs.Worklists.{orders_in, orders_by_due, receipts_by_number, batches_in, lots_of, holds_on, recalls_in, classes_after, definitions_in, recipes_in, ledger_of, all_holds}
-use Rattle.plant_worklists.specs.{DueCursor, HoldCursor, MovementCursor, Page, RecipeCursor, Worklist}
+use Rattle.plant_view.specs.{is_blocked}
+use Rattle.plant_worklists.specs.{page_of, orders_in, orders_by_due, receipts_by_number, batches_in, lots_of, holds_on, recalls_in, classes_after, definitions_in, recipes_in, ledger_of, all_holds, DueCursor, HoldCursor, MovementCursor, Page, RecipeCursor, Worklist}
 use Rattle.plant_worklists.specs.declared.list.Worklist.TheVariants as list
 use Rattle.plant_answers.specs.CommandHeads.{head_of}
 use Rattle.plant_answers.specs.LotAnswers.{lot_answer}

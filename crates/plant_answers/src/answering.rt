@@ -1,6 +1,6 @@
 // What a question is answered, over any view of the state.
 ghost use Rattle.std.specs.Prelude.{◌≡◌, ℕ, List, IfOk};
-ghost use Rattle.plant_base.specs.State.{State, newest_schema, job_at, batch_of};
+ghost use Rattle.plant_base.specs.{State, newest_schema, job_at, batch_of};
 ghost use Rattle.plant_trace.specs.ReadOnly.{ReadOnly};
 ghost use Rattle.plant_view.specs.DecisionInvariant.{DecisionInvariant};
 ghost use Rattle.plant_answers.specs.Answers.{answer, answer_order};

@@ -1,7 +1,7 @@
 // The nodes around a lot or batch in the genealogy.
 ghost use Rattle.std.specs.Prelude.{◌≡◌, ◌<◌, IfOk, vec_len, vec_capacity};
-ghost use Rattle.plant_base.specs.State.{put};
-ghost use Rattle.plant_trace.specs.Nodes.{node_cmp};
+ghost use Rattle.plant_base.specs.{put};
+ghost use Rattle.plant_trace.specs.{node_cmp};
 ghost use Rattle.plant_trace.specs.ReadOnly.{ReadOnly};
 ghost use Rattle.plant_answers.specs.Surroundings.{nodes_around};
 

@@ -1,12 +1,13 @@
 // What is answered of a batch.
 ghost use Rattle.std.specs.Prelude.{◌≡◌, IfOk, map};
-ghost use Rattle.plant_base.specs.State.{State, batch_at, job_at, recipe_at, control_lines_of};
+ghost use Rattle.plant_base.specs.{State, batch_at, job_at, recipe_at, control_lines_of};
 ghost use Rattle.plant_trace.specs.ReadOnly.{ReadOnly};
 ghost use Rattle.plant_view.specs.DecisionInvariant.{DecisionInvariant};
-ghost use Rattle.plant_view.specs.Tables.{progress_at};
+ghost use Rattle.plant_view.specs.{progress_at};
 ghost use Rattle.plant_answers.specs.Answering.{IsRowOf, IsFoundOf};
-ghost use Rattle.plant_answers.specs.BatchViews.{material_of, unit_among, measured_line, batch_view};
-ghost use Rattle.plant_answers.specs.BatchViews.{answer_batch, answer_planned, answer_headed};
+ghost use Rattle.plant_answers.specs.BatchViews.{material_of, unit_among, measured_line};
+ghost use Rattle.plant_answers.specs.BatchViews.{batch_view, answer_batch, answer_planned};
+ghost use Rattle.plant_answers.specs.BatchViews.{answer_headed};
 
 use crate::bookings::{BatchBookings, bookings_of};
 use plant_base::{

@@ -1,12 +1,13 @@
 // What is answered of the lines of a batch.
 ghost use Rattle.std.specs.Prelude.{◌≡◌, IfOk, map, ℕ, List};
-ghost use Rattle.plant_base.specs.State.{State, batch_at, control_lines_of};
+ghost use Rattle.plant_base.specs.{State, batch_at, control_lines_of};
 ghost use Rattle.plant_trace.specs.ReadOnly.{ReadOnly};
 ghost use Rattle.plant_view.specs.DecisionInvariant.{DecisionInvariant};
-ghost use Rattle.plant_messages.specs.Booked.{booked_of};
+ghost use Rattle.plant_messages.specs.{booked_of};
 ghost use Rattle.plant_answers.specs.Answering.{AreBookingsOf};
 ghost use Rattle.plant_answers.specs.BatchViews.{measured_line};
-ghost use Rattle.plant_answers.specs.BatchLines.{answer_batch_lines, batch_lines, booked_in, booked_line, booked_lines, in_64_bits};
+ghost use Rattle.plant_answers.specs.BatchLines.{answer_batch_lines, batch_lines, booked_in};
+ghost use Rattle.plant_answers.specs.BatchLines.{booked_line, booked_lines, in_64_bits};
 
 use crate::batch_answers::measured_lines;
 use crate::bookings::{BatchBookings, bookings_of};

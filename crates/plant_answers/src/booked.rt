@@ -3,12 +3,12 @@ ghost use Rattle.std.specs.Prelude.{◌≡◌, ◌++◌, List, IfOk, OnOk, Some,
 ghost use Rattle.std.specs.BTreeMap.{Updates, get, keys};
 ghost use Rattle.std.specs.List.{filter_map};
 ghost use Rattle.std.specs.List.Sorted.{IsStrictlySortedBy};
-ghost use Rattle.plant_base.specs.Edges.{edge_order};
-ghost use Rattle.plant_trace.specs.Nodes.{node_cmp};
+ghost use Rattle.plant_base.specs.{edge_order};
+ghost use Rattle.plant_trace.specs.{node_cmp, Node};
 ghost use Rattle.plant_trace.specs.ReadOnly.{ReadOnly};
-ghost use Rattle.plant_trace.specs.{Node};
 ghost use Rattle.plant_view.specs.DecisionInvariant.{DecisionInvariant};
-ghost use Rattle.plant_answers.specs.Booked.{Fits, IsSetOf, booked_at, bookings_around, movements_at, sum_with, summed, reported_at};
+ghost use Rattle.plant_answers.specs.Booked.{Fits, IsSetOf, booked_at, bookings_around};
+ghost use Rattle.plant_answers.specs.Booked.{movements_at, sum_with, summed, reported_at};
 ghost use Rattle.plant_answers.specs.Genealogy.{edges_between};
 
 use crate::bookings::push_found;

@@ -3,8 +3,9 @@ ghost use Rattle.std.specs.Prelude.{◌≡◌, ◌++◌, IfOk, OnOk, option_to_l
 ghost use Rattle.std.specs.List.{filter_map};
 ghost use Rattle.plant_trace.specs.ReadOnly.{ReadOnly};
 ghost use Rattle.plant_answers.specs.Answering.{AreBookingsOf};
-ghost use Rattle.plant_answers.specs.BatchViews.{is_consumed_by, is_produced_by, scrapped_of, booking};
-ghost use Rattle.plant_answers.specs.BatchViews.{definition_of, booking_in, consumption, production, booked_on};
+ghost use Rattle.plant_answers.specs.BatchViews.{is_consumed_by, is_produced_by, scrapped_of};
+ghost use Rattle.plant_answers.specs.BatchViews.{booking, definition_of, booking_in, consumption};
+ghost use Rattle.plant_answers.specs.BatchViews.{production, booked_on};
 
 use plant_base::{Definition, Id, Lot, Movement, MovementKind};
 use plant_messages::Booking;

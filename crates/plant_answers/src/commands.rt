@@ -1,9 +1,8 @@
 // What is answered of commands, from their receipts.
 ghost use Rattle.std.specs.Prelude.{◌≡◌, IfOk, map};
-ghost use Rattle.plant_base.specs.Values.{is_text, only};
+ghost use Rattle.plant_base.specs.{is_text, only};
 ghost use Rattle.plant_trace.specs.ReadOnly.{ReadOnly};
-ghost use Rattle.plant_worklists.specs.Pages.{page_of};
-ghost use Rattle.plant_worklists.specs.Worklists.{receipts_by_number};
+ghost use Rattle.plant_worklists.specs.{page_of, receipts_by_number};
 ghost use Rattle.plant_answers.specs.CommandHeads.{behind, head_of, line_in, moment_in, word_in};
 ghost use Rattle.plant_answers.specs.Worklists.{answer_commands, booked_command, command_page};
 

@@ -14,7 +14,7 @@ use std::alloc::Global;
 /// A lot or node of which a row may be reported.
 pub(crate) trait RowOf<R>: Sized {
     ghost use Rattle.std.specs.Prelude.{◌≡◌, Option, IfOk};
-    ghost use Rattle.plant_base.specs.State.{State};
+    ghost use Rattle.plant_base.specs.{State};
     ghost use Rattle.plant_trace.specs.ReadOnly.{ReadOnly};
     ghost use Rattle.plant_view.specs.DecisionInvariant.{DecisionInvariant};
     ghost use Rattle.plant_answers.specs.KnownLots.{AreKnown};

@@ -1,12 +1,13 @@
 // What is answered of the genealogy around a lot or batch.
 ghost use Rattle.std.specs.Prelude.{◌≡◌, IfOk, option_map};
-ghost use Rattle.plant_base.specs.State.{State, definition_at};
-ghost use Rattle.plant_base.specs.{Lot};
+ghost use Rattle.plant_base.specs.{State, definition_at, Lot};
 ghost use Rattle.plant_trace.specs.ReadOnly.{ReadOnly};
-ghost use Rattle.plant_view.specs.Recalls.{is_blocked};
+ghost use Rattle.plant_view.specs.{is_blocked};
 ghost use Rattle.plant_view.specs.DecisionInvariant.{DecisionInvariant};
-ghost use Rattle.plant_answers.specs.Genealogy.{answer_edges, genealogy_around, lot_node, node_answer, node_if};
-ghost use Rattle.plant_answers.specs.KnownLots.{AreKnown, after_definition, after_lot, after_node, after_node_if};
+ghost use Rattle.plant_answers.specs.Genealogy.{answer_edges, genealogy_around, lot_node};
+ghost use Rattle.plant_answers.specs.Genealogy.{node_answer, node_if};
+ghost use Rattle.plant_answers.specs.KnownLots.{AreKnown, after_definition, after_lot, after_node};
+ghost use Rattle.plant_answers.specs.KnownLots.{after_node_if};
 ghost use Rattle.plant_answers.specs.LotAnswers.{lot_answer};
 ghost use Rattle.plant_answers.specs.Traces.{missing};
 ghost use Rattle.plant_messages.specs.declared.genealogy.NodeAnswer.TheVariants as node;

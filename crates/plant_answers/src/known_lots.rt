@@ -1,9 +1,10 @@
 // What is known of many lots, which are asked for one after another by their ids.
 ghost use Rattle.std.specs.Prelude.{◌≡◌, IfOk, IsSome};
-ghost use Rattle.plant_base.specs.State.{State, definition_at, lot_at};
+ghost use Rattle.plant_base.specs.{State, definition_at, lot_at};
 ghost use Rattle.plant_trace.specs.ReadOnly.{ReadOnly};
 ghost use Rattle.plant_view.specs.DecisionInvariant.{DecisionInvariant};
-ghost use Rattle.plant_answers.specs.KnownLots.{AreKnown, after_definition, after_lot, after_row, last_one, nothing_known};
+ghost use Rattle.plant_answers.specs.KnownLots.{AreKnown, after_definition, after_lot, after_row};
+ghost use Rattle.plant_answers.specs.KnownLots.{last_one, nothing_known};
 ghost use Rattle.plant_answers.specs.LotAnswers.{lot_answer};
 
 use crate::lot_answers::answer_of_lot;

@@ -1,7 +1,9 @@
 //! Laws of answers and tables, each as the contract of a function that does nothing.
 
-ghost use Rattle.plant_answers.specs.AnswerLaws.{TracesListReached, ColumnIsStock, TablesRepresentState};
-ghost use Rattle.plant_answers.specs.AnswerLaws.{RecallsListReached, MarksAreThePairs, StandsListReached, EdgesAreBooked, NodesAreReached};
+ghost use Rattle.plant_answers.specs.AnswerLaws.{TracesListReached, ColumnIsStock};
+ghost use Rattle.plant_answers.specs.AnswerLaws.{TablesRepresentState, RecallsListReached};
+ghost use Rattle.plant_answers.specs.AnswerLaws.{MarksAreThePairs, StandsListReached};
+ghost use Rattle.plant_answers.specs.AnswerLaws.{EdgesAreBooked, NodesAreReached};
 
 /// A trace lists exactly what the least relation reaches that is closed under recorded consumption, production, split
 /// and merge.

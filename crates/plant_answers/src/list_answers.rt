@@ -1,12 +1,13 @@
 // What is answered of a worklist.
 ghost use Rattle.std.specs.Prelude.{◌≡◌, ℕ, true, false, List, Option, IfOk};
-ghost use Rattle.plant_base.specs.State.{State, class_at, lot_at};
+ghost use Rattle.plant_base.specs.{State, class_at, lot_at};
 ghost use Rattle.plant_trace.specs.ReadOnly.{ReadOnly};
 ghost use Rattle.plant_view.specs.DecisionInvariant.{DecisionInvariant};
-ghost use Rattle.plant_worklists.specs.Pages.{page_of};
-ghost use Rattle.plant_worklists.specs.Worklists.{orders_in, holds_on, recalls_in, classes_after, definitions_in, ledger_of};
-ghost use Rattle.plant_answers.specs.Worklists.{answer_list, answer_holds, answer_definitions, answer_recipes, answer_ledger, answer_all_holds, answer_by_due};
-ghost use Rattle.plant_worklists.specs.{MovementCursor};
+ghost use Rattle.plant_worklists.specs.{page_of, orders_in, holds_on, recalls_in, classes_after};
+ghost use Rattle.plant_worklists.specs.{definitions_in, ledger_of, MovementCursor};
+ghost use Rattle.plant_answers.specs.Worklists.{answer_list, answer_holds, answer_definitions};
+ghost use Rattle.plant_answers.specs.Worklists.{answer_recipes, answer_ledger, answer_all_holds};
+ghost use Rattle.plant_answers.specs.Worklists.{answer_by_due};
 ghost use Rattle.plant_messages.specs.declared.listed.Listed.TheVariants as listed;
 ghost use Rattle.plant_messages.specs.declared.question.Answer.TheVariants as A;
 

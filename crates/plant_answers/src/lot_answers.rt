@@ -1,10 +1,9 @@
 // What is answered of a lot.
 ghost use Rattle.std.specs.Prelude.{◌≡◌, ◌<◌, ◌^◌, IfOk, sum_by};
-ghost use Rattle.plant_base.specs.State.{State, lot_at};
+ghost use Rattle.plant_base.specs.{State, lot_at};
 ghost use Rattle.plant_trace.specs.ReadOnly.{ReadOnly};
-ghost use Rattle.plant_view.specs.Refusals.{is_held};
+ghost use Rattle.plant_view.specs.{is_held, sublots_of};
 ghost use Rattle.plant_view.specs.DecisionInvariant.{DecisionInvariant};
-ghost use Rattle.plant_view.specs.Tables.{sublots_of};
 ghost use Rattle.plant_answers.specs.LotAnswers.{answer_lot, lot_answer};
 
 use plant_base::{Id, Items, Lot, Refusal, Sublot};

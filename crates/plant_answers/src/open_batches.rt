@@ -2,8 +2,7 @@
 ghost use Rattle.std.specs.Prelude.{◌≡◌, IfOk, map};
 ghost use Rattle.std.specs.List.{filter_map};
 ghost use Rattle.plant_trace.specs.ReadOnly.{ReadOnly};
-ghost use Rattle.plant_worklists.specs.Pages.{page_of};
-ghost use Rattle.plant_worklists.specs.Worklists.{batches_in};
+ghost use Rattle.plant_worklists.specs.{page_of, batches_in};
 ghost use Rattle.plant_answers.specs.Worklists.{batch_page, open_batch, opened, phase_of};
 ghost use Rattle.plant_messages.specs.declared.listed.Listed.TheVariants as listed;
 ghost use Rattle.plant_messages.specs.declared.question.Answer.TheVariants as A;

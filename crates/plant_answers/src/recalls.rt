@@ -1,8 +1,8 @@
 // What is answered of a recall.
 ghost use Rattle.std.specs.Prelude.{◌≡◌, IfOk};
-ghost use Rattle.plant_base.specs.State.{State, recall_at};
+ghost use Rattle.plant_base.specs.{State, recall_at};
 ghost use Rattle.plant_trace.specs.ReadOnly.{ReadOnly};
-ghost use Rattle.plant_view.specs.Genealogy.{edges_of};
+ghost use Rattle.plant_view.specs.{edges_of};
 ghost use Rattle.plant_answers.specs.RecallAnswers.{answer_recall, nodes_of, reached_list};
 
 use plant_base::{Id, Items, Recall, Refusal};

@@ -1,8 +1,9 @@
 // What is answered of a definition, and of a version of a master recipe.
 ghost use Rattle.std.specs.Prelude.{◌≡◌, IfOk, map};
-ghost use Rattle.plant_base.specs.State.{definition_at, recipe_at, master_lines_of};
+ghost use Rattle.plant_base.specs.{definition_at, recipe_at, master_lines_of};
 ghost use Rattle.plant_trace.specs.ReadOnly.{ReadOnly};
-ghost use Rattle.plant_answers.specs.RecipeAnswers.{answer_definition, answer_recipe, recipe_answer, recipe_line};
+ghost use Rattle.plant_answers.specs.RecipeAnswers.{answer_definition, answer_recipe};
+ghost use Rattle.plant_answers.specs.RecipeAnswers.{recipe_answer, recipe_line};
 
 use crate::batch_answers::{material_of, unit_among};
 use plant_base::{Definition, Id, Items, MasterLine, Recipe, Refusal};

@@ -2,7 +2,8 @@
 ghost use Rattle.std.specs.Prelude.{◌≡◌, IfOk};
 ghost use Rattle.plant_trace.specs.ReadOnly.{ReadOnly};
 ghost use Rattle.plant_view.specs.DecisionInvariant.{DecisionInvariant};
-ghost use Rattle.plant_answers.specs.Surroundings.{answer_stands, lots_standing, stocked_at, stocked_if};
+ghost use Rattle.plant_answers.specs.Surroundings.{answer_stands, lots_standing, stocked_at};
+ghost use Rattle.plant_answers.specs.Surroundings.{stocked_if};
 ghost use Rattle.plant_answers.specs.KnownLots.{AreKnown, after_stocked_at, after_stocked_if};
 ghost use Rattle.plant_answers.specs.Traces.{missing};
 

@@ -1,11 +1,10 @@
 // What is answered of the lots of a definition.
 ghost use Rattle.std.specs.Prelude.{◌≡◌, ◌-◌, ℕ, List, Option, IfOk, length, option_map, slice_get};
-ghost use Rattle.plant_base.specs.State.{State, definition_at};
+ghost use Rattle.plant_base.specs.{State, definition_at};
 ghost use Rattle.plant_trace.specs.ReadOnly.{ReadOnly};
 ghost use Rattle.plant_view.specs.DecisionInvariant.{DecisionInvariant};
-ghost use Rattle.plant_view.specs.Recalls.{is_blocked};
-ghost use Rattle.plant_worklists.specs.Pages.{page_of};
-ghost use Rattle.plant_worklists.specs.Worklists.{lots_of};
+ghost use Rattle.plant_view.specs.{is_blocked};
+ghost use Rattle.plant_worklists.specs.{page_of, lots_of};
 ghost use Rattle.plant_answers.specs.KnownLots.{after_stocked};
 ghost use Rattle.plant_answers.specs.Worklists.{answer_lots, lot_page, if_stocked, stocked_lot};
 

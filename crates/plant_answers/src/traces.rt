@@ -1,7 +1,7 @@
 // What is answered of a trace.
 ghost use Rattle.std.specs.Prelude.{◌≡◌, IfOk, None, not};
 ghost use Rattle.plant_trace.specs.ReadOnly.{ReadOnly};
-ghost use Rattle.plant_view.specs.Refusals.{refuse};
+ghost use Rattle.plant_view.specs.{refuse};
 ghost use Rattle.plant_answers.specs.Traces.{trace_of, missing, answer_trace};
 
 use plant_base::{Items, Refusal};

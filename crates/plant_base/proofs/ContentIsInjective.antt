@@ -1,18 +1,13 @@
 -- Two envelopes have equal content exactly where they are equal but for the reference.
-use Rattle.std.proofs.Common.{◌≡◌, ◌∙◌, ◌/◌, ◌%◌, ◌<◌, ℕ, zero, suc, Bool, true, false, List, [], ◌∷◌, ◌++◌, length, decimal, mod-lt, refl, sym, ap, arith}
-use Rattle.std.specs.Prelude.{◌&&◌, ◌==◌, IsTrue, if◌then◌else◌}
-use Rattle.std.specs.List.{list_all, AllByRecursion, flat_map}
+use Rattle.std.proofs.Common.{◌≡◌, ◌∙◌, ◌/◌, ◌%◌, ◌<◌, ℕ, zero, suc, Bool, true, false, List, [], ◌∷◌, ◌++◌, length, decimal, mod-lt, refl, sym, ap, arith, ◌&&◌, ◌==◌, IsTrue, if◌then◌else◌, flat_map}
+use Rattle.std.specs.List.{list_all, AllByRecursion}
 use Rattle.std.specs.Str.Parse.{digits_value}
 use Rattle.std.specs.Fmt.{digit_glyph, digits_onto, digits}
 use Rattle.std.proofs.lemmas.Fmt.{decimal_is_IsNumeral}
 use Rattle.std.proofs.ByRecursion.{All-append}
 use Rattle.std.proofs.lemmas.List.Elements.{recursion_from_All}
 use Rattle.std.proofs.lemmas.Bool.Decides.{nat_tests}
-use Rattle.plant_base.specs.Values.{is_id_byte, is_text_byte, is_unit_byte, is_id, is_text, is_unit}
-use Rattle.plant_base.specs.Dates.{is_due_byte, is_due, is_yes, due_day_of}
-use Rattle.plant_base.specs.Words.{word_name}
-use Rattle.plant_base.specs.WellFormedCommands.{HasValues, HasBodyValues, HasPartValues, HasLineValues, HasOrderValues}
-use Rattle.plant_base.specs.Content.{part_lines, recipe_line_lines, order_lines, body_lines, content_lines, content_of, ContentIsInjective, lines_text, is_content, is_there}
+use Rattle.plant_base.specs.{is_id_byte, is_text_byte, is_unit_byte, is_id, is_text, is_unit, is_due_byte, is_due, is_yes, due_day_of, word_name, HasValues, HasBodyValues, HasPartValues, HasLineValues, HasOrderValues, part_lines, recipe_line_lines, order_lines, body_lines, content_lines, content_of, ContentIsInjective, lines_text, is_content, is_there}
 use Rattle.plant_base.proofs.LinesCutAgain.{is_line, both, cut, cut_lines, lines_bytes}
 use Rattle.plant_base.proofs.ContentReadBack.{body_in, body_back, small_moment}
 use Rattle.plant_base.specs.declared.states.Word.{Word}

@@ -1,16 +1,11 @@
 -- A command is read again from the lines of its content.
-use Rattle.std.proofs.Common.{◌≡◌, ◌∙◌, ◌<◌, ◌^◌, ℕ, false, List, [], ◌∷◌, cond, codes, decimal, refl, ap, arith}
-use Rattle.std.specs.Prelude.{if◌then◌else◌, IsTrue}
-use Rattle.std.specs.List.{AllByRecursion, flat_map}
+use Rattle.std.proofs.Common.{◌≡◌, ◌∙◌, ◌<◌, ◌^◌, ℕ, false, List, [], ◌∷◌, cond, codes, decimal, refl, ap, arith, if◌then◌else◌, IsTrue, flat_map}
+use Rattle.std.specs.List.{AllByRecursion}
 use Rattle.std.specs.Str.Parse.{digits_value}
 use Rattle.std.proofs.lemmas.Fmt.{decimal_is_IsNumeral}
 use Rattle.std.proofs.lemmas.List.Elements.{recursion_from_All}
 use Rattle.std.proofs.lemmas.Bool.Decides.{nat_tests}
-use Rattle.plant_base.specs.State.{same}
-use Rattle.plant_base.specs.Values.{is_amount, is_moment}
-use Rattle.plant_base.specs.Words.{word_name}
-use Rattle.plant_base.specs.WellFormedCommands.{HasBodyValues, HasPartValues, HasLineValues, HasOrderValues}
-use Rattle.plant_base.specs.Content.{part_lines, recipe_line_lines, order_lines, body_lines, HasNumbers, HasPartNumbers, HasOrderNumbers}
+use Rattle.plant_base.specs.{same, is_amount, is_moment, word_name, HasBodyValues, HasPartValues, HasLineValues, HasOrderValues, part_lines, recipe_line_lines, order_lines, body_lines, HasNumbers, HasPartNumbers, HasOrderNumbers}
 use Rattle.plant_base.specs.declared.states.Word.{Word}
 use Rattle.plant_base.specs.declared.states.Word.TheVariants as word
 use Rattle.plant_base.specs.declared.rows.RecipeLine.{RecipeLine}

@@ -1,11 +1,8 @@
 -- Edges with equal keys are equal: an edge is all key.
-use Rattle.std.proofs.Common.{◌≡◌, ◌∙◌, ℕ, List, refl, ap}
+use Rattle.std.proofs.Common.{◌≡◌, ◌∙◌, ℕ, List, refl, ap, nat_cmp, is_eq, Ordering, Less, Equal, Greater}
 use Rattle.std.specs.Cmp.Lexicographic.{texts_ties}
-use Rattle.std.specs.Ordering.{nat_cmp, ordering_then, is_eq}
-use Rattle.std.specs.declared.cmp.Ordering.{Ordering}
-use Rattle.std.specs.declared.cmp.Ordering.TheVariants.{Less, Equal, Greater}
-use Rattle.plant_base.specs.Edges.{edge_kind_number, edge_order}
-use Rattle.plant_base.specs.State.{id_cmp}
+use Rattle.std.specs.Ordering.{ordering_then}
+use Rattle.plant_base.specs.{edge_kind_number, edge_order, id_cmp}
 use Rattle.plant_base.specs.declared.rows.EdgeRow.{EdgeRow}
 use Rattle.plant_base.specs.declared.rows.EdgeKind.{EdgeKind}
 use Rattle.plant_base.specs.declared.rows.EdgeKind.TheVariants.{LotToBatch, BatchToLot, LotToLot}

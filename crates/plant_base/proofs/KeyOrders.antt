@@ -1,16 +1,13 @@
 -- Keys: their orders and their tests.
-use Rattle.std.proofs.Common.{◌≡◌, ◌∙◌, ℕ, true, false, List, is_some, find, sym, refl, ap}
-use Rattle.std.specs.Prelude.{◌==◌, ◌&&◌}
+use Rattle.std.proofs.Common.{◌≡◌, ◌∙◌, ℕ, true, false, List, is_some, find, sym, refl, ap, ◌==◌, ◌&&◌, nat_cmp, is_eq, eqb-true, eq-eqb, Equal}
 use Rattle.std.specs.Cmp.{IsTotalOrder, both_tied, unsigned_ties}
 use Rattle.std.specs.Cmp.Lexicographic.{slice_cmp, texts_ties, same_text}
-use Rattle.std.specs.Ordering.{nat_cmp, is_eq}
 use Rattle.std.proofs.lemmas.Cmp.{then_total, on_total, nat_list_cmp_total, nat_cmp_total, nat_list_eq_equiv, eq_by_cmp_equiv}
-use Rattle.std.proofs.lemmas.Bool.{false≢true, eqb-true, eq-eqb}
-use Rattle.plant_base.specs.State.{same, put, id_cmp, place_order, lot_order}
+use Rattle.std.proofs.lemmas.Bool.{false≢true}
+use Rattle.plant_base.specs.{same, put, id_cmp, place_order, lot_order}
 use Rattle.plant_base.proofs.PutKeepsOrder.{found_still}
 use Rattle.plant_base.specs.declared.rows.Place.{Place}
 use Rattle.plant_base.specs.declared.rows.Lot.{Lot}
-use Rattle.std.specs.declared.cmp.Ordering.TheVariants.{Equal}
 
 pub same_id : (a b : List ℕ) → same a b ≡ true → a ≡ b
 same_id a b e = same_text a b (sym e)

@@ -1,12 +1,11 @@
 -- Texts compare as their rooms do, and where the rooms are equal by their lengths.
-use Rattle.std.proofs.Common.{◌≡◌, ℕ, zero, suc, ◌+◌, ◌-◌, List, [], ◌∷◌, ◌++◌, length, take, replicate, refl, sym, ap, ◌∙◌, arith}
-use Rattle.std.proofs.lemmas.List.{length-append, length-replicate}
+use Rattle.std.proofs.Common.{◌≡◌, ℕ, zero, suc, ◌+◌, ◌-◌, List, [], ◌∷◌, ◌++◌, length, take, replicate, refl, sym, ap, ◌∙◌, arith, length-append, nat_cmp, Less, Equal, Greater}
+use Rattle.std.proofs.lemmas.List.{length-replicate}
 use Rattle.std.proofs.lemmas.Bool.Decides.{nat_tests}
 use Rattle.std.specs.Cmp.{nat_cmp_is}
 use Rattle.std.specs.Cmp.Lexicographic.{slice_cmp}
-use Rattle.std.specs.Ordering.{nat_cmp, ordering_then}
-use Rattle.std.specs.declared.cmp.Ordering.TheVariants.{Less, Equal, Greater}
-use Rattle.plant_base.specs.ShortTexts.{IsPadded, length_back, padded_back}
+use Rattle.std.specs.Ordering.{ordering_then}
+use Rattle.plant_base.specs.{IsPadded, length_back, padded_back}
 use Rattle.plant_base.proofs.BytesCompareAsNumbers.{then_assoc}
 
 zero_first : (k : ℕ) → nat_cmp 0 (suc k) ≡ Less

@@ -1,13 +1,11 @@
 -- What `put` does to ascending rows.
-use Rattle.std.proofs.Common.{◌≡◌, Bool, true, false, cond, Some, find, is_some, List, [], ◌++◌, ◌∷◌, map, refl, sym, ap, ◌∙◌}
+use Rattle.std.proofs.Common.{◌≡◌, Bool, true, false, cond, Some, find, is_some, List, [], ◌++◌, ◌∷◌, map, refl, sym, ap, ◌∙◌, is_eq, Ordering, Less, Equal, Greater}
 use Rattle.std.specs.List.{AllByRecursion}
 use Rattle.std.specs.List.Sorted.{IsStrictlySortedBy}
 use Rattle.std.specs.Cmp.{IsTotalOrder}
-use Rattle.std.specs.Ordering.{match_ordering, is_eq, ordering_reverse}
-use Rattle.std.specs.declared.cmp.Ordering.{Ordering}
-use Rattle.std.specs.declared.cmp.Ordering.TheVariants.{Less, Equal, Greater}
+use Rattle.std.specs.Ordering.{match_ordering, ordering_reverse}
 use Rattle.std.proofs.lemmas.Bool.{false≢true}
-use Rattle.plant_base.specs.State.{put}
+use Rattle.plant_base.specs.{put}
 use Rattle.plant_base.proofs.FindIsFirst.{found_keeps}
 
 pub all_weaker : {R : Type 0} (P Q : R → Type 0) → ((r : R) → P r → Q r) → (rs : List R) → AllByRecursion P rs → AllByRecursion Q rs

@@ -1,12 +1,13 @@
 -- Recalls, and the marks that the desk keeps of what they reach.
-use Rattle.std.proofs.Common.{◌≡◌, ◌∙◌, ℕ, Bool, ◌&&◌, is_none, refl, sym, ap, Some}
+use Rattle.std.specs.Prelude.{◌≡◌, ℕ, Bool, ◌&&◌, is_none, refl, Some}
+use Rattle.std.proofs.Common.{◌∙◌, sym, ap}
 use Rattle.std.specs.Cmp.{IsTotalOrder, IsPartialOrder, po}
 use Rattle.std.specs.Cmp.Lexicographic.{nat_list_cmp_total, texts_ties}
 use Rattle.std.specs.Ordering.{nat_cmp, ordering_then, is_eq}
 use Rattle.std.specs.declared.cmp.Ordering.{Ordering}
 use Rattle.std.specs.declared.cmp.Ordering.TheVariants.{Less, Equal, Greater}
 use Rattle.std.proofs.lemmas.Cmp.{then_total, on_total, nat_cmp_total}
-use Rattle.plant_base.specs.State.{id_cmp}
+use Rattle.plant_base.specs.PlantState.{id_cmp}
 use Rattle.plant_base.specs.contracts.rows.MarkKindPartialEq.TheImpl.{ghosts as equal_kind}
 use Rattle.plant_base.specs.contracts.rows.MarkPartialEq.TheImpl.{ghosts as equal}
 use Rattle.plant_base.specs.declared.rows.Recall.{Recall}

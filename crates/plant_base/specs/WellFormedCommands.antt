@@ -3,7 +3,7 @@ use Rattle.std.specs.Prelude.{ℕ, Bool, true, false, ◌&&◌, ◌==◌, not, n
 use Rattle.std.specs.List.{list_all, list_any}
 use Rattle.plant_base.specs.Values.{is_id, is_text, is_unit, is_amount, is_moment, greatest_sublot, greatest_version, greatest_priority, greatest_phase}
 use Rattle.plant_base.specs.Dates.{is_due}
-use Rattle.plant_base.specs.State.{same}
+use Rattle.plant_base.specs.PlantState.{same}
 use Rattle.plant_base.specs.declared.states.Word.{Word}
 use Rattle.plant_base.specs.declared.states.Word.TheVariants.{Done}
 use Rattle.plant_base.specs.declared.rows.Header.{Header}

@@ -1,22 +1,14 @@
 -- A command that is refused for an item has one that fails.
-use Rattle.std.proofs.Common.{◌≡◌, ◌∙◌, ℕ, ◌+◌, true, false, Bool, cond, List, [], ◌∷◌, Option, Some, None, is_some, is_none, refl, ap, subst}
-use Rattle.std.specs.Prelude.{not, ◌&&◌, ◌||◌, nat_lt, if◌then◌else◌}
+use Rattle.std.proofs.Common.{◌≡◌, ◌∙◌, ℕ, ◌+◌, true, false, Bool, cond, List, [], ◌∷◌, Option, Some, None, is_some, is_none, refl, ap, subst, not, ◌&&◌, ◌||◌, nat_lt, if◌then◌else◌}
 use Rattle.std.specs.List.{list_any, list_all, position_from}
-use Rattle.plant_base.specs.Content.{content_of}
-use Rattle.plant_base.specs.Values.{greatest_amount}
-use Rattle.plant_base.specs.State.{State, same, definition_at, recipe_at, lot_at, place_at}
-use Rattle.plant_base.specs.{AddRecipe, Command, Definition, Envelope, ImportOrders, Merge, Part, Receipt, RecipeLine, Refusal}
+use Rattle.plant_base.specs.{content_of, greatest_amount, State, same, definition_at, recipe_at, lot_at, place_at, AddRecipe, Command, Definition, Envelope, ImportOrders, Merge, Part, Receipt, RecipeLine, Refusal}
 use Rattle.plant_base.specs.declared.refusal.Refusal.TheVariants.{BadForm, MomentBack, Exists, UnknownDefinition, UnknownRecipe, UnknownLot, UnknownSublot, TooLittle, TooMuch, Held, OrderConflict, SizeOutOfRange, MixedMaterials, TooMany, RefReused, Recalled}
 use Rattle.plant_base.specs.declared.command.Command.TheVariants as body
-use Rattle.plant_view.specs.Production.{is_known}
-use Rattle.plant_view.specs.Refusals.{refuse, at_limit}
-use Rattle.plant_rules_production.specs.Orders.{wrong_import_orders}
-use Rattle.plant_rules_production.specs.Recipes.{wrong_add_recipe}
-use Rattle.plant_rules.specs.Merging.{is_short, is_some_held, is_some_blocked, is_mixed, wrong_parts, wrong_merge}
-use Rattle.plant_rules.specs.Wrong.{is_whole, wrong, wrong_body, wrong_there, kept_for, decoded}
-use Rattle.plant_stock.specs.Stock.{total_of}
-use Rattle.plant_causes.specs.Causes.{first_failing, is_bad_order, is_bad_part, is_missing, is_for_a_line, item_of}
-use Rattle.plant_causes.specs.CauseLaws.{is_for_an_order, is_for_a_part, is_for_an_item}
+use Rattle.plant_view.specs.{is_known, refuse, at_limit}
+use Rattle.plant_rules_production.specs.{wrong_import_orders, wrong_add_recipe}
+use Rattle.plant_rules.specs.{is_short, is_some_held, is_some_blocked, is_mixed, wrong_parts, wrong_merge, is_whole, wrong, wrong_body, wrong_there, kept_for, decoded}
+use Rattle.plant_stock.specs.{total_of}
+use Rattle.plant_causes.specs.{first_failing, is_bad_order, is_bad_part, is_missing, is_for_a_line, item_of, is_for_an_order, is_for_a_part, is_for_an_item}
 
 -- ---- the refusals of a condition
 

@@ -1,15 +1,11 @@
 -- What a check says, by the first condition that the command fails.
-use Rattle.std.proofs.Common.{◌≡◌, ◌∙◌, ℕ, true, Option, Some, None, ap}
-use Rattle.std.specs.Prelude.{not, if◌then◌else◌}
-use Rattle.plant_base.specs.Content.{content_of}
-use Rattle.plant_base.specs.State.{State, same}
-use Rattle.plant_base.specs.{Envelope, Receipt, Refusal}
+use Rattle.std.proofs.Common.{◌≡◌, ◌∙◌, ℕ, true, Option, Some, None, ap, not, if◌then◌else◌}
+use Rattle.plant_base.specs.{content_of, State, same, Envelope, Receipt, Refusal}
 use Rattle.plant_base.specs.declared.refusal.Refusal.TheVariants.{BadForm, RefReused}
 use Rattle.plant_base.proofs.KeyOrders.{same_itself}
-use Rattle.plant_view.specs.Refusals.{refuse}
-use Rattle.plant_rules.specs.Step.{IsRepeated}
-use Rattle.plant_rules.specs.Wrong.{is_whole, wrong, wrong_there, kept_for, decoded}
-use Rattle.plant_causes.specs.Causes.{checked, checked_by, item_of}
+use Rattle.plant_view.specs.{refuse}
+use Rattle.plant_rules.specs.{IsRepeated, is_whole, wrong, wrong_there, kept_for, decoded}
+use Rattle.plant_causes.specs.{checked, checked_by, item_of}
 use Rattle.plant_causes.specs.declared.checking.Checked.TheVariants.{Accepted, Refused}
 
 pub checked_accepted : (s : State) (e : Envelope) → wrong s e ≡ None → checked s e ≡ Accepted

@@ -1,13 +1,10 @@
 -- The item that is reported is the first that fails.
-use Rattle.std.proofs.Common.{◌≡◌, ℕ, ◌+◌, Bool, true, false, cond, List, [], ◌∷◌, ◌++◌, length, Some, None, refl, ap, arith}
-use Rattle.std.specs.Prelude.{not, if◌then◌else◌}
+use Rattle.std.proofs.Common.{◌≡◌, ℕ, ◌+◌, Bool, true, false, cond, List, [], ◌∷◌, ◌++◌, length, Some, None, refl, ap, arith, not, if◌then◌else◌}
 use Rattle.std.specs.List.{AllByRecursion, position_from}
-use Rattle.plant_base.specs.State.{State}
-use Rattle.plant_base.specs.{AddRecipe, ImportOrders, Merge, RecipeLine, Refusal}
+use Rattle.plant_base.specs.{State, AddRecipe, ImportOrders, Merge, RecipeLine, Refusal}
 use Rattle.plant_base.specs.declared.command.Command.TheVariants as body
-use Rattle.plant_view.specs.Production.{is_known}
-use Rattle.plant_causes.specs.Causes.{first_failing, is_bad_order, is_bad_part, is_for_a_line, item_of}
-use Rattle.plant_causes.specs.FirstItems.{IsFirstFailing}
+use Rattle.plant_view.specs.{is_known}
+use Rattle.plant_causes.specs.{first_failing, is_bad_order, is_bad_part, is_for_a_line, item_of, IsFirstFailing}
 
 -- the same where the list is counted from k
 record IsFirstFrom {X : Type 0} (k : ℕ) (fails : X → Bool) (items : List X) (number : ℕ) : Type 0 where

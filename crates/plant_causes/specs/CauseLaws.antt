@@ -1,10 +1,9 @@
 -- Which refusals are for an item of the command's list.
 use Rattle.std.specs.Prelude.{◌≡◌, Bool, true, false, Some, is_some}
-use Rattle.plant_base.specs.State.{State}
-use Rattle.plant_base.specs.{Command, Envelope, Refusal}
+use Rattle.plant_base.specs.{State, Command, Envelope, Refusal}
 use Rattle.plant_base.specs.declared.refusal.Refusal.TheVariants.{UnknownRecipe, UnknownLot, UnknownSublot, TooLittle, Held, OrderConflict, SizeOutOfRange, MixedMaterials, Recalled}
 use Rattle.plant_base.specs.declared.command.Command.TheVariants as body
-use Rattle.plant_rules.specs.Wrong.{wrong}
+use Rattle.plant_rules.specs.{wrong}
 use Rattle.plant_causes.specs.Causes.{is_for_a_line, item_of}
 
 abbrev pub is_for_an_order : Refusal → Bool

@@ -1,16 +1,12 @@
 -- What would become of a command, and which item of its list is the cause where it would be refused.
 use Rattle.std.specs.Prelude.{ℕ, Bool, false, not, ◌||◌, List, Option, Some, None, is_some, is_none, nat_lt, if◌then◌else◌}
 use Rattle.std.specs.List.{position_from}
-use Rattle.plant_base.specs.State.{State, same, definition_at, recipe_at, job_at, lot_at, place_at}
-use Rattle.plant_base.specs.{AddRecipe, Command, Envelope, OrderRow, Part, Refusal}
+use Rattle.plant_base.specs.{State, same, definition_at, recipe_at, job_at, lot_at, place_at, AddRecipe, Command, Envelope, OrderRow, Part, Refusal}
 use Rattle.plant_base.specs.declared.refusal.Refusal.TheVariants.{UnknownDefinition, UnknownRecipe, UnknownLot, UnknownSublot, TooLittle, Held, OrderConflict, SizeOutOfRange, MixedMaterials, Recalled}
 use Rattle.plant_base.specs.declared.command.Command.TheVariants as body
-use Rattle.plant_view.specs.Production.{is_known, is_size_of_recipe}
-use Rattle.plant_view.specs.Recalls.{is_blocked}
-use Rattle.plant_view.specs.Refusals.{sublot_standing, is_held}
-use Rattle.plant_rules_production.specs.Orders.{conflicts}
-use Rattle.plant_rules.specs.Merging.{def_at, def_of_parts}
-use Rattle.plant_rules.specs.Wrong.{wrong}
+use Rattle.plant_view.specs.{is_known, is_size_of_recipe, is_blocked, sublot_standing, is_held}
+use Rattle.plant_rules_production.specs.{conflicts}
+use Rattle.plant_rules.specs.{def_at, def_of_parts, wrong}
 use Rattle.plant_causes.specs.declared.checking.Checked.{Checked}
 use Rattle.plant_causes.specs.declared.checking.Checked.TheVariants.{Accepted, Refused}
 

@@ -1,10 +1,9 @@
 -- What the number of an item says.
 use Rattle.std.specs.Prelude.{◌≡◌, ℕ, ◌+◌, Bool, true, false, not, List, ◌∷◌, ◌++◌, length, Some}
 use Rattle.std.specs.List.{AllByRecursion}
-use Rattle.plant_base.specs.State.{State}
-use Rattle.plant_base.specs.{AddRecipe, ImportOrders, Merge, RecipeLine, Refusal}
+use Rattle.plant_base.specs.{State, AddRecipe, ImportOrders, Merge, RecipeLine, Refusal}
 use Rattle.plant_base.specs.declared.command.Command.TheVariants as body
-use Rattle.plant_view.specs.Production.{is_known}
+use Rattle.plant_view.specs.{is_known}
 use Rattle.plant_causes.specs.Causes.{is_bad_order, is_bad_part, item_of}
 
 -- the item of this number, counted from 1, fails, and none before it does

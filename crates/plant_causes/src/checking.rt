@@ -1,11 +1,9 @@
 //! Commands, checked and not executed.
 ghost use Rattle.std.specs.Prelude.{◌≡◌, IfOk};
-ghost use Rattle.plant_base.specs.State.{State};
-ghost use Rattle.plant_base.specs.{Envelope};
+ghost use Rattle.plant_base.specs.{State, Envelope};
 ghost use Rattle.plant_trace.specs.ReadOnly.{ReadOnly};
 ghost use Rattle.plant_view.specs.DecisionInvariant.{DecisionInvariant};
-ghost use Rattle.plant_rules.specs.Step.{IsDecision};
-ghost use Rattle.plant_rules.specs.Wrong.{wrong};
+ghost use Rattle.plant_rules.specs.{IsDecision, wrong};
 ghost use Rattle.plant_causes.specs.Causes.{checked};
 
 use crate::items::item_of;

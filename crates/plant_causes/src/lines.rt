@@ -1,7 +1,7 @@
 //! Which line is the cause that a recipe is refused.
 ghost use Rattle.std.specs.Prelude.{◌≡◌, IfOk, not};
 ghost use Rattle.plant_trace.specs.ReadOnly.{ReadOnly};
-ghost use Rattle.plant_view.specs.Production.{is_known};
+ghost use Rattle.plant_view.specs.{is_known};
 ghost use Rattle.plant_causes.specs.Causes.{first_failing, is_for_a_line, item_of};
 ghost use Rattle.plant_base.specs.declared.command.Command.TheVariants as body;
 

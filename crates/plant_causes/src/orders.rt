@@ -1,9 +1,9 @@
 //! Which order is the cause that an import is refused.
 ghost use Rattle.std.specs.Prelude.{◌≡◌, IfOk, is_none, not, find};
-ghost use Rattle.plant_base.specs.State.{recipe_at, job_at, same};
+ghost use Rattle.plant_base.specs.{recipe_at, job_at, same};
 ghost use Rattle.plant_trace.specs.ReadOnly.{ReadOnly};
-ghost use Rattle.plant_view.specs.Production.{is_size_of_recipe};
-ghost use Rattle.plant_rules_production.specs.Orders.{conflicts, differs, is_same_order, order_named};
+ghost use Rattle.plant_view.specs.{is_size_of_recipe};
+ghost use Rattle.plant_rules_production.specs.{conflicts, differs, is_same_order, order_named};
 ghost use Rattle.plant_causes.specs.Causes.{first_failing, is_bad_order};
 
 use grouped_rows::{Grouped, Grouping};

@@ -1,13 +1,12 @@
 //! Which part is the cause that a merge is refused.
 ghost use Rattle.std.specs.Prelude.{◌≡◌, ◌≤◌, ℕ, List, IfOk, length, not};
-ghost use Rattle.plant_base.specs.State.{State, same};
+ghost use Rattle.plant_base.specs.{State, same};
 ghost use Rattle.plant_trace.specs.ReadOnly.{ReadOnly};
 ghost use Rattle.plant_view.specs.DecisionInvariant.{DecisionInvariant};
-ghost use Rattle.plant_view.specs.Refusals.{sublot_standing};
-ghost use Rattle.plant_view.specs.Views.{IsSublotOf};
-ghost use Rattle.plant_rules.specs.Merging.{def_of_parts};
-ghost use Rattle.plant_rules.specs.Splitting.{def_of};
-ghost use Rattle.plant_causes.specs.Causes.{first_failing, is_bad_part, is_missing, is_other, is_short_of};
+ghost use Rattle.plant_view.specs.{sublot_standing, IsSublotOf};
+ghost use Rattle.plant_rules.specs.{def_of_parts, def_of};
+ghost use Rattle.plant_causes.specs.Causes.{first_failing, is_bad_part, is_missing, is_other};
+ghost use Rattle.plant_causes.specs.Causes.{is_short_of};
 
 use plant_base::{Lot, Part, Refusal, Sublot};
 use plant_view::{View, ViewFault, lookup};

@@ -1,15 +1,13 @@
 -- The rows that book movements bring to a sublot, and take from it, what the movements do.
-use Rattle.std.proofs.Common.{◌≡◌, ◌∙◌, ℕ, ◌+◌, Bool, true, false, cond, List, [], ◌∷◌, map, filter, Option, refl, sym, ap, arith}
-use Rattle.std.specs.Prelude.{sum_by}
+use Rattle.std.proofs.Common.{◌≡◌, ◌∙◌, ℕ, ◌+◌, Bool, true, false, cond, List, [], ◌∷◌, map, filter, Option, refl, sym, ap, arith, sum_by}
 use Rattle.std.proofs.lemmas.List.Sums.{sum_by-cons}
 use Rattle.plant_base.specs.{Movement, MovementKind}
 use Rattle.plant_base.specs.declared.rows.MovementKind.TheVariants as kind
-use Rattle.plant_stock.specs.Stock.{goes_to, comes_from, is_sublot_key, entered, left}
+use Rattle.plant_stock.specs.{goes_to, comes_from, is_sublot_key, entered, left}
 use Rattle.plant_stock.specs.Stock as flows
 use Rattle.plant_view.proofs.TestsAndSums.{sum_map}
-use Rattle.plant_tables_columns.specs.Booked.{booked_of, code_of}
-use Rattle.plant_tables_columns.specs.{BookedRow}
-use Rattle.plant_check.specs.Ends.{entered_by, left_by, entries, exits, total_booked}
+use Rattle.plant_tables_columns.specs.{booked_of, code_of, BookedRow}
+use Rattle.plant_check.specs.{entered_by, left_by, entries, exits, total_booked}
 
 -- the columns of a row say where its movement goes, and where it comes from
 ends_booked : (m : Movement) → (entered_by (code_of m.kind) (booked_of m) ≡ goes_to m.kind m.lot m.sub) × (left_by (code_of m.kind) (booked_of m) ≡ comes_from m.kind m.lot m.sub)

@@ -1,15 +1,13 @@
 -- Whether pairs lead round: the test and the least relation agree.
-use Rattle.std.proofs.Common.{◌≡◌, ◌∙◌, Bool, true, false, List, [], ◌∷◌, refl, sym, ap}
-use Rattle.std.specs.Prelude.{◌↔◌, ◌&&◌, not, IsTrue}
+use Rattle.std.proofs.Common.{◌≡◌, ◌∙◌, Bool, true, false, List, [], ◌∷◌, refl, sym, ap, ◌↔◌, ◌&&◌, not, IsTrue}
 use Rattle.std.specs.List.{list_all}
 use Rattle.std.proofs.lemmas.Bool.{false≢true}
 use Rattle.std.proofs.lemmas.List.Elements.{All-contains}
 use Rattle.std.proofs.lemmas.List.Sums.{AllPass-from_list_all}
-use Rattle.plant_trace.specs.Reach.{IsAcyclic, leads}
-use Rattle.plant_trace.specs.{Node}
+use Rattle.plant_trace.specs.{IsAcyclic, leads, Node}
 use Rattle.plant_trace.proofs.AddingKeepsAcyclic.{first_edge}
 use Rattle.plant_trace.proofs.LeadsIsReach.{leads_where_reached}
-use Rattle.plant_check.specs.Broken.{are_acyclic}
+use Rattle.plant_check.specs.{are_acyclic}
 
 -- where no node leads to itself, none of a list does
 none_leads : (pairs ps : List (Node × Node)) → ((x : Node) → leads pairs x x ≡ false) → list_all (λ p. not (leads pairs p.0 p.0)) ps ≡ true

@@ -1,9 +1,8 @@
 -- Lists of edges that are compared row by row.
 use Rattle.std.proofs.Common.{◌≡◌, List, true}
-use Rattle.plant_base.specs.Edges.{edge_order, edge_eq, edge_ties, edge_total}
-use Rattle.plant_base.specs.{EdgeRow}
+use Rattle.plant_base.specs.{edge_order, edge_eq, edge_ties, edge_total, EdgeRow}
 use Rattle.plant_base.proofs.EdgeIsItsKey.{one_edge}
-use Rattle.plant_check.specs.Broken.{are_same_edges}
+use Rattle.plant_check.specs.{are_same_edges}
 use Rattle.plant_check_stock.proofs.SetsOfKeys as sets
 
 pub same_itself : (es : List EdgeRow) → are_same_edges es es ≡ true

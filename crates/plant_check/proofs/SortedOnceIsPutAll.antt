@@ -1,19 +1,15 @@
 -- Rows that are sorted, each kept once, are those that are put one after the other.
-use Rattle.std.proofs.Common.{◌≡◌, ◌∙◌, Bool, true, false, cond, List, [], ◌∷◌, refl, sym, ap}
-use Rattle.std.specs.Prelude.{◌||◌}
-use Rattle.std.specs.BTreeSet.{BTreeSet}
+use Rattle.std.proofs.Common.{◌≡◌, ◌∙◌, Bool, true, false, cond, List, [], ◌∷◌, refl, sym, ap, ◌||◌, BTreeSet, IsPermutation, IsSorted, is_eq, Ordering, Less, Equal, Greater}
 use Rattle.std.specs.BTreeMap.{is_at}
 use Rattle.std.specs.Cmp.{IsTotalOrder}
 use Rattle.std.specs.List.{list_any, dedup, dedup_from}
-use Rattle.std.specs.List.Sorted.{IsPermutation, IsSorted, IsStrictlySortedBy}
-use Rattle.std.specs.Ordering.{is_eq, match_ordering}
-use Rattle.std.specs.declared.cmp.Ordering.{Ordering}
-use Rattle.std.specs.declared.cmp.Ordering.TheVariants.{Less, Equal, Greater}
+use Rattle.std.specs.List.Sorted.{IsStrictlySortedBy}
+use Rattle.std.specs.Ordering.{match_ordering}
 use Rattle.std.proofs.lemmas.List.Kept.{IsStrictlySortedBy-dedup}
 use Rattle.std.proofs.lemmas.List.Sorted.{list_any-IsPermutation}
 use Rattle.std.proofs.lemmas.Map.Lookups.{CmpEqualImpliesEq, btree_set_from_contains}
-use Rattle.plant_base.specs.State.{put}
-use Rattle.plant_view.specs.Rows.{put_all}
+use Rattle.plant_base.specs.{put}
+use Rattle.plant_view.specs.{put_all}
 use Rattle.plant_view.proofs.RowsInTurn.{sorted_put_all}
 
 absorbed : (a b c : Bool) → a ≡ b → (a || c) ≡ (a || (b || c))

@@ -1,31 +1,14 @@
 -- The rules that tables obey which a desk has written, and the first that is broken.
-use Rattle.std.specs.Prelude.{ℕ, Bool, true, not, ◌&&◌, if◌then◌else◌, List, [], ◌∷◌, find, Option, Some, None, is_some}
-use Rattle.std.specs.List.{list_all, filter_map}
+use Rattle.std.specs.Prelude.{ℕ, Bool, true, not, ◌&&◌, if◌then◌else◌, List, [], ◌∷◌, find, Option, Some, None, is_some, filter_map}
+use Rattle.std.specs.List.{list_all}
 use Rattle.std.specs.Cmp.Lexicographic.{pointwise}
-use Rattle.plant_base.specs.Edges.{edge_eq}
-use Rattle.plant_base.specs.{EdgeRow, Movement, Recall}
-use Rattle.plant_trace.specs.Reach.{leads}
-use Rattle.plant_trace.specs.{Node}
-use Rattle.plant_view.specs.Genealogy.{edges_among}
-use Rattle.plant_view.specs.Tables.{edges_in}
-use Rattle.plant_check_plans.specs.Catalogue.{are_classified}
-use Rattle.plant_check_plans.specs.Recipes.{are_recipes}
-use Rattle.plant_check_plans.specs.Orders.{are_orders}
-use Rattle.plant_check_plans.specs.Batches.{are_batches}
-use Rattle.plant_check_plans.specs.Events.{are_events}
-use Rattle.plant_check_stock.specs.Marks.{are_marks}
-use Rattle.plant_check_stock.specs.Movements.{are_movements}
-use Rattle.plant_check_stock.specs.Numbering.{are_numbers}
-use Rattle.plant_check_stock.specs.Recalls.{are_recalls}
-use Rattle.plant_check_stock.specs.Receipts.{are_receipts}
-use Rattle.plant_check_stock.specs.Times.{are_times}
-use Rattle.plant_tables_read.specs.Loading.{contents_loaded}
-use Rattle.plant_tables_read.specs.{Loaded}
-use Rattle.plant_tables_columns.specs.Booked.{movement_from}
-use Rattle.plant_tables_columns.specs.StatedRecalls.{recall_from}
-use Rattle.plant_tables_read.specs.Collecting.{Rows, rows_from}
-use Rattle.plant_tables_columns.specs.TableColumns.{only_meta}
-use Rattle.plant_tables_columns.specs.{BookedRow, StatedRecall}
+use Rattle.plant_base.specs.{edge_eq, EdgeRow, Movement, Recall}
+use Rattle.plant_trace.specs.{leads, Node}
+use Rattle.plant_view.specs.{edges_among, edges_in}
+use Rattle.plant_check_plans.specs.{are_classified, are_recipes, are_orders, are_batches, are_events}
+use Rattle.plant_check_stock.specs.{are_marks, are_movements, are_numbers, are_recalls, are_receipts, are_times}
+use Rattle.plant_tables_read.specs.{contents_loaded, Loaded, Rows, rows_from}
+use Rattle.plant_tables_columns.specs.{movement_from, recall_from, only_meta, BookedRow, StatedRecall}
 use Rattle.plant_check.specs.Ends.{are_stocks}
 use Rattle.plant_check.specs.Lots.{are_lots}
 use Rattle.plant_check.specs.declared.rule.Rule.{Rule}

@@ -1,12 +1,10 @@
 -- Tables that break a rule, in a database.
 use Rattle.std.specs.Prelude.{◌≡◌, ◌⊎◌, ◌<◌, ℕ, ℤ, pos, All, Some}
 use Rattle.sqlite.specs.Effect.{Database}
-use Rattle.plant_base.specs.State.{newest_schema}
-use Rattle.sql_tables.specs.StoredRows.{IsFree}
-use Rattle.plant_tables.specs.DeskTableDefs.{desk_table_defs}
-use Rattle.plant_tables_read.specs.Loading.{AreLoaded}
-use Rattle.plant_tables_read.specs.Version.{IsVersion, HasTablesOf}
-use Rattle.plant_tables_read.specs.{Loaded}
+use Rattle.plant_base.specs.{newest_schema}
+use Rattle.sql_tables.specs.{IsFree}
+use Rattle.plant_tables.specs.{desk_table_defs}
+use Rattle.plant_tables_read.specs.{AreLoaded, IsVersion, HasTablesOf, Loaded}
 use Rattle.plant_check.specs.Broken.{first_broken}
 use Rattle.plant_check.specs.declared.rule.Rule.{Rule}
 use Rattle.plant_check.specs.declared.rule.Rule.TheVariants as rule

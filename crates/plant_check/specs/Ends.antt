@@ -2,7 +2,7 @@
 use Rattle.std.specs.Prelude.{ℕ, ◌+◌, Bool, ◌==◌, List, Option, Some, None, filter, sum_by}
 use Rattle.std.specs.List.{list_all}
 use Rattle.plant_base.specs.{Sublot}
-use Rattle.plant_stock.specs.Stock.{is_sublot_key}
+use Rattle.plant_stock.specs.{is_sublot_key}
 use Rattle.plant_tables_columns.specs.{BookedRow, MovementKindCode}
 use Rattle.plant_tables_columns.specs.declared.booked.MovementKindCode.TheVariants as kind_code
 

@@ -1,11 +1,9 @@
 -- Lots, and how their sublots came to be.
 use Rattle.std.specs.Prelude.{ℕ, Bool, true, false, ◌&&◌, ◌==◌, nat_le, if◌then◌else◌, List, [], ◌∷◌, length, map, filter}
 use Rattle.std.specs.List.{list_any, list_all}
-use Rattle.plant_base.specs.Values.{greatest_amount}
-use Rattle.plant_base.specs.State.{same}
-use Rattle.plant_base.specs.{Definition, Hold, Lot, Sublot}
-use Rattle.plant_check_plans.specs.Recipes.{are_numbered}
-use Rattle.plant_view.specs.Production.{is_defined}
+use Rattle.plant_base.specs.{greatest_amount, same, Definition, Hold, Lot, Sublot}
+use Rattle.plant_check_plans.specs.{are_numbered}
+use Rattle.plant_view.specs.{is_defined}
 use Rattle.plant_tables_columns.specs.{BookedRow, MovementKindCode}
 use Rattle.plant_tables_columns.specs.declared.booked.MovementKindCode.TheVariants as kind_code
 use Rattle.plant_check.specs.Ends.{entries, total_booked}

@@ -1,6 +1,6 @@
 //! The rules that are tested apart from the rows that break them.
 ghost use Rattle.std.specs.Prelude.{◌≡◌, IfOk};
-ghost use Rattle.plant_tables_read.specs.Collecting.{rows_listed};
+ghost use Rattle.plant_tables_read.specs.{rows_listed};
 ghost use Rattle.plant_check.specs.Broken.{are_kept_recalls, obeys};
 ghost use Rattle.plant_check.specs.declared.rule.Rule.{Rule};
 

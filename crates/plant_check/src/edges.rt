@@ -2,10 +2,8 @@
 
 ghost use Rattle.std.specs.Prelude.{◌≡◌, [], IfOk};
 ghost use Rattle.std.specs.List.{filter_map};
-ghost use Rattle.plant_base.specs.Edges.{edge_order};
-ghost use Rattle.plant_view.specs.Genealogy.{edge_row_of, edge_rows};
-ghost use Rattle.plant_view.specs.Rows.{put_all};
-ghost use Rattle.plant_view.specs.Tables.{edges_in};
+ghost use Rattle.plant_base.specs.{edge_order};
+ghost use Rattle.plant_view.specs.{edge_row_of, edge_rows, put_all, edges_in};
 ghost use Rattle.plant_check.specs.Broken.{are_kept_edges};
 
 use plant_base::{EdgeRow, Movement};

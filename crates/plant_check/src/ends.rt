@@ -1,7 +1,8 @@
 //! What rows of table movement bring to a sublot and take from it, as their columns say.
 
 ghost use Rattle.std.specs.Prelude.{◌≡◌, ◌<◌, ◌^◌};
-ghost use Rattle.plant_check.specs.Ends.{other_end, entered_by, left_by, entries, exits, total_booked};
+ghost use Rattle.plant_check.specs.Ends.{other_end, entered_by, left_by, entries, exits};
+ghost use Rattle.plant_check.specs.Ends.{total_booked};
 
 use grouped_rows::{Grouped, Grouping};
 use plant_base::Id;

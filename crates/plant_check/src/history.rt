@@ -1,7 +1,7 @@
 //! What was done, as rows of table movement report it.
 
 ghost use Rattle.std.specs.Prelude.{◌≡◌, IfOk};
-ghost use Rattle.plant_view.specs.Genealogy.{edges_among};
+ghost use Rattle.plant_view.specs.{edges_among};
 ghost use Rattle.plant_check.specs.Broken.{movements_in, are_acyclic};
 
 use plant_base::Movement;

@@ -2,9 +2,9 @@
 
 ghost use Rattle.std.specs.Prelude.{◌≡◌, map};
 ghost use Rattle.std.specs.List.{list_all};
-ghost use Rattle.plant_check.specs.Lots.{are_from_zero, sublots_among};
-ghost use Rattle.plant_check.specs.Lots.{have_same_kind_code, is_of_one_birth, is_one_birth};
-ghost use Rattle.plant_check.specs.Lots.{is_one_division, is_born, is_lot_among};
+ghost use Rattle.plant_check.specs.Lots.{are_from_zero, sublots_among, have_same_kind_code};
+ghost use Rattle.plant_check.specs.Lots.{is_of_one_birth, is_one_birth, is_one_division, is_born};
+ghost use Rattle.plant_check.specs.Lots.{is_lot_among};
 
 use crate::ends::{BySublotEntered, entries, total_booked};
 use grouped_rows::{Grouped, Grouping};

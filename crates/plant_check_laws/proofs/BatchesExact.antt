@@ -1,30 +1,21 @@
 -- The rule on batches: each is the only one of its order, and its numbered lines are the control recipe that the order asks for.
-use Rattle.std.proofs.Common.{◌≡◌, ◌∙◌, ℕ, ◌≤◌, Bool, true, false, List, [], ◌∷◌, map, filter, length, Option, Some, None, option_map, refl, sym, ap, subst}
-use Rattle.std.specs.Prelude.{◌&&◌, ◌==◌, cond, IfSome}
-use Rattle.std.specs.Bool.{Decides}
+use Rattle.std.proofs.Common.{◌≡◌, ◌∙◌, ℕ, ◌≤◌, Bool, true, false, List, [], ◌∷◌, map, filter, length, Option, Some, None, option_map, refl, sym, ap, subst, ◌&&◌, ◌==◌, cond, IfSome, Decides, Less}
 use Rattle.std.specs.List.{AllByRecursion}
 use Rattle.std.specs.List.Sorted.{IsStrictlySortedBy}
-use Rattle.std.specs.declared.cmp.Ordering.TheVariants.{Less}
 use Rattle.std.proofs.lemmas.Bool.{false≢true}
 use Rattle.std.proofs.lemmas.Cmp.{lists_equiv, nat_list_eq_equiv}
 use Rattle.std.proofs.lemmas.List.{length-map}
-use Rattle.plant_base.specs.State.{same, batch_order, control_line_order}
+use Rattle.plant_base.specs.{same, batch_order, control_line_order, Batch, BatchEvent, BatchRow, ControlLine, Header, Job, MasterLine, OrderRow, Recipe, RecipeLine}
 use Rattle.plant_base.specs.contracts.rows.RecipeLineEq.TheImpl.Laws.{laws-law}
-use Rattle.plant_base.specs.{Batch, BatchEvent, BatchRow, ControlLine, Header, Job, MasterLine, OrderRow, Recipe, RecipeLine}
 use Rattle.plant_base.proofs.FindIsFirst.{found_passes, found_keeps}
 use Rattle.plant_base.proofs.KeyOrders.{same_id, same_key, same_itself}
 use Rattle.plant_base.proofs.PutKeepsOrder.{all_weaker}
-use Rattle.plant_recipe.specs.WellFormed.{is_well_formed}
-use Rattle.plant_recipe.specs.Control.{is_size_of, control_of}
-use Rattle.plant_view.specs.Production.{headers_of, header_among, lines_among, orders_of, order_among, batch_among, control_line, control_among, control_of_header, control_of_order, is_batch_among, is_size_of_some, HasBatchValues, IsConsistentBatch, AreConsistentBatches, IsConsistentRun, AreConsistentRuns, job_among, has_finished}
-use Rattle.plant_view.specs.Rows.{numbered}
-use Rattle.plant_view.specs.Tables.{batch_of_row}
+use Rattle.plant_recipe.specs.{is_well_formed, is_size_of, control_of}
+use Rattle.plant_view.specs.{headers_of, header_among, lines_among, orders_of, order_among, batch_among, control_line, control_among, control_of_header, control_of_order, is_batch_among, is_size_of_some, HasBatchValues, IsConsistentBatch, AreConsistentBatches, IsConsistentRun, AreConsistentRuns, job_among, has_finished, numbered, batch_of_row}
 use Rattle.plant_view.proofs.HeadersFound.{header_found}
 use Rattle.plant_view.proofs.CommandsPreserveInvariant.{all_two}
 use Rattle.plant_view.proofs.RowsInTurn.{all_mapped, all_unmapped, filtered_passes, find_mapped}
-use Rattle.plant_check_plans.specs.Batches.{control_sized, control_of_found, control_asked_for, is_control, is_row_among, is_right_batch, are_batches}
-use Rattle.plant_check_plans.specs.Orders.{recipe_among, row_of_order}
-use Rattle.plant_check_plans.specs.Recipes.{are_numbered}
+use Rattle.plant_check_plans.specs.{control_sized, control_of_found, control_asked_for, is_control, is_row_among, is_right_batch, are_batches, recipe_among, row_of_order, are_numbered}
 use Rattle.plant_check.proofs.BookedRowsMove.{filter_mapped}
 use Rattle.plant_check_laws.proofs.ExactTests.{equal_exact, both, in_words, all_exact, any_exact}
 use Rattle.plant_check_laws.proofs.EqualIsSame.{control_is}

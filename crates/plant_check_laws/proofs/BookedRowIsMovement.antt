@@ -1,14 +1,12 @@
 -- A row of table movement whose columns are those of its kind is the row that books its movement.
-use Rattle.std.proofs.Common.{◌≡◌, ◌∙◌, ℕ, true, nat_le, List, [], ◌∷◌, map, Option, Some, None, is_some, refl, sym, ap, subst}
-use Rattle.std.specs.List.{AllByRecursion, filter_map, cons_option}
-use Rattle.std.proofs.lemmas.Bool.{false≢true, leb-true}
-use Rattle.plant_base.specs.Values.{is_id, greatest_sublot}
-use Rattle.plant_base.specs.{Movement, MovementKind}
+use Rattle.std.proofs.Common.{◌≡◌, ◌∙◌, ℕ, true, nat_le, List, [], ◌∷◌, map, Option, Some, None, is_some, refl, sym, ap, subst, filter_map, leb-true}
+use Rattle.std.specs.List.{AllByRecursion, cons_option}
+use Rattle.std.proofs.lemmas.Bool.{false≢true}
+use Rattle.plant_base.specs.{is_id, greatest_sublot, Movement, MovementKind}
 use Rattle.plant_base.specs.declared.rows.MovementKind.TheVariants as kind
-use Rattle.plant_invariant.specs.RowValues.{HasMovementValues, HasKindValues}
-use Rattle.plant_view.specs.Genealogy.{batch_by}
-use Rattle.plant_tables_columns.specs.Booked.{movement_from, other_lot, other_sublot, booked_of}
-use Rattle.plant_tables_columns.specs.{BookedRow}
+use Rattle.plant_invariant.specs.{HasMovementValues, HasKindValues}
+use Rattle.plant_view.specs.{batch_by}
+use Rattle.plant_tables_columns.specs.{movement_from, other_lot, other_sublot, booked_of, BookedRow}
 use Rattle.plant_tables_columns.proofs.KindLaws.{ValidOrNone}
 use Rattle.plant_tables_columns.proofs.MovementColumns.{movement_back}
 use Rattle.plant_tables_columns.proofs.TableLaws.{HasBookedColumns}

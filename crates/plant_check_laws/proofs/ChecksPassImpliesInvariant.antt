@@ -1,36 +1,24 @@
 -- Rows that break no rule are those of a valid state's tables.
-use Rattle.std.proofs.Common.{◌≡◌, ◌∙◌, ◌≤◌, nat_le, Bool, true, false, List, [], map, Option, Some, None, is_some, refl, sym, ap, subst}
+use Rattle.std.proofs.Common.{◌≡◌, ◌∙◌, ◌≤◌, nat_le, Bool, true, false, List, [], map, Option, Some, None, is_some, refl, sym, ap, subst, if◌then◌else◌}
 use Rattle.std.specs.List.{AllByRecursion}
-use Rattle.std.specs.Prelude.{if◌then◌else◌}
-use Rattle.plant_base.specs.Values.{greatest_sublot}
+use Rattle.plant_base.specs.{greatest_sublot, edge_order, mark_order, batch_order, place_order, Header, Movement, OrderRow, Place}
 use Rattle.std.specs.List.Sorted.{IsStrictlySortedBy}
-use Rattle.plant_base.specs.Edges.{edge_order}
-use Rattle.plant_base.specs.Recalls.{mark_order}
-use Rattle.plant_base.specs.State.{batch_order, place_order}
-use Rattle.plant_base.specs.{Header, Movement, OrderRow, Place}
 use Rattle.plant_base.proofs.PutKeepsOrder.{all_weaker}
-use Rattle.plant_recipe.specs.WellFormed.{is_well_formed}
-use Rattle.plant_stock.specs.Stock.{goes_to, comes_from}
-use Rattle.plant_view.specs.Genealogy.{edges_among}
-use Rattle.plant_view.specs.Recalls.{recalls_in, marks_in}
-use Rattle.plant_view.specs.DecisionInvariant.{IsThere, DecisionInvariant}
-use Rattle.plant_view.specs.Production.{headers_of, header_among, lines_among, orders_of, is_size_of_some, is_batch_among}
-use Rattle.plant_view.specs.Tables.{tables_of, edges_in, receipts_in, place_of_row, batch_row, batch_of_row}
+use Rattle.plant_recipe.specs.{is_well_formed}
+use Rattle.plant_stock.specs.{goes_to, comes_from}
+use Rattle.plant_view.specs.{edges_among, recalls_in, marks_in, IsThere, headers_of, header_among, lines_among, orders_of, is_size_of_some, is_batch_among, tables_of, edges_in, receipts_in, place_of_row, batch_row, batch_of_row}
+use Rattle.plant_view.specs.DecisionInvariant.{DecisionInvariant}
 use Rattle.plant_view.proofs.RowsInTurn.{all_mapped, each_passes, sorted_mapped}
 use Rattle.plant_invariant.specs.StateInvariant.{StateInvariant}
-use Rattle.plant_invariant.specs.RowValues.{HasRowValues, HasPlaceValues, HasMovementValues}
-use Rattle.sql_tables.specs.StoredRows.{HasStoredRows}
-use Rattle.plant_tables.specs.DeskTables.{contents_of}
-use Rattle.plant_tables_columns.specs.Booked.{movement_from, booked_of}
-use Rattle.plant_tables_columns.specs.StatedRecalls.{recall_from}
-use Rattle.plant_tables_read.specs.Collecting.{Rows, rows_from, tables_in, AreWhole, AreInOrder}
-use Rattle.plant_tables_columns.specs.{BookedRow}
+use Rattle.plant_invariant.specs.{HasRowValues, HasPlaceValues, HasMovementValues}
+use Rattle.sql_tables.specs.{HasStoredRows}
+use Rattle.plant_tables.specs.{contents_of}
+use Rattle.plant_tables_columns.specs.{movement_from, booked_of, recall_from, BookedRow}
+use Rattle.plant_tables_read.specs.{Rows, rows_from, tables_in, AreWhole, AreInOrder}
 use Rattle.plant_tables_read.proofs.RowsRepresentTables.{are_stored, represents_for}
-use Rattle.plant_check.specs.Broken.{movements_in, recalls_read, broken_rows, first_broken_of}
-use Rattle.plant_check.specs.Ends.{are_stocks}
-use Rattle.plant_check.specs.Lots.{are_lots}
+use Rattle.plant_check.specs.{movements_in, recalls_read, broken_rows, first_broken_of, are_stocks, are_lots}
 use Rattle.plant_view.proofs.EdgeRowOrder.{edges_sorted}
-use Rattle.plant_check_laws.specs.Soundness.{state_in, UnbrokenIsRead, ChecksPassImpliesInvariant, UnbrokenHolds}
+use Rattle.plant_check_laws.specs.{state_in, UnbrokenIsRead, ChecksPassImpliesInvariant, UnbrokenHolds}
 use Rattle.plant_check_laws.proofs.RowsMadeOfRows.{all_gathered, joined_again}
 use Rattle.plant_check_laws.proofs.BatchesExact.{control_numbered, consistent_batches, consistent_runs}
 use Rattle.plant_check_laws.proofs.BookedRowIsMovement.{all_booked, movement_values}

@@ -1,14 +1,12 @@
 -- The rule on descent: nothing came of itself, and the edges are those of the movements.
-use Rattle.std.proofs.Common.{◌≡◌, ◌∙◌, ℕ, true, List, map, refl, sym, ap}
-use Rattle.std.specs.Bool.{Decides}
-use Rattle.plant_base.specs.State.{State, newest_schema}
-use Rattle.plant_base.specs.{EdgeRow, Movement}
-use Rattle.plant_trace.specs.Reach.{IsAcyclic}
-use Rattle.plant_trace.specs.{Node}
-use Rattle.plant_view.specs.Tables.{Tables, tables_of, edges_in}
-use Rattle.plant_tables_columns.specs.Booked.{booked_of}
+use Rattle.std.proofs.Common.{◌≡◌, ◌∙◌, ℕ, true, List, map, refl, sym, ap, Decides}
+use Rattle.plant_base.specs.{State, newest_schema, EdgeRow, Movement}
+use Rattle.plant_trace.specs.{IsAcyclic, Node}
+use Rattle.plant_view.specs.{tables_of, edges_in}
+use Rattle.plant_view.specs.Tables.{Tables}
+use Rattle.plant_tables_columns.specs.{booked_of}
 use Rattle.plant_tables_read.proofs.TablesOfRows.{same_tables}
-use Rattle.plant_check.specs.Broken.{movements_in, are_acyclic, are_same_edges, are_kept_edges}
+use Rattle.plant_check.specs.{movements_in, are_acyclic, are_same_edges, are_kept_edges}
 use Rattle.plant_check.proofs.CycleTestIsExact.{to_acyclic, acyclic_tested}
 use Rattle.plant_check.proofs.EdgeListsCompared.{same_list, same_itself}
 

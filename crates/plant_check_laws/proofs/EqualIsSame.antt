@@ -1,21 +1,19 @@
 -- Lines and progresses that `==` calls equal are one.
 use denote.Enum.Bare.{same_true}
 use Rattle.plant_base.specs.contracts.states.BatchState.{the_type}
-use Rattle.std.proofs.Common.{rules, ◌≡◌, true, List, [], ◌∷◌, Option, Some, None, refl, ap, eqb-true}
+use Rattle.std.proofs.Common.{rules, ◌≡◌, true, List, [], ◌∷◌, Option, Some, None, refl, ap, eqb-true, ◌&&◌, ◌==◌}
 use Rattle.std.proofs.Math.Bool.{beq}
-use Rattle.std.specs.Prelude.{◌&&◌, ◌==◌}
 use Rattle.std.specs.Cmp.{booleans_Decides}
 use Rattle.std.specs.Cmp.Lexicographic.{pointwise}
 use Rattle.std.proofs.lemmas.Bool.{false≢true, and_parts}
-use Rattle.plant_base.specs.State.{same}
+use Rattle.plant_base.specs.{same, RecipeLine}
 use Rattle.plant_base.specs.contracts.rows.RecipeLinePartialEq.TheImpl.{ghosts as equal}
 use Rattle.plant_base.specs.contracts.states.BatchStatePartialEq.TheImpl.{ghosts as equal_state}
-use Rattle.plant_base.specs.{RecipeLine}
 use Rattle.plant_base.specs.declared.rows.RecipeLine.TheVariants as line
 use Rattle.plant_base.proofs.KeyOrders.{same_id, same_key}
 use Rattle.plant_recipe.specs.contracts.progress.ProgressPartialEq.TheImpl.{ghosts as equal_progress}
 use Rattle.plant_recipe.specs.declared.progress.Progress.{Progress}
-use Rattle.plant_check_plans.specs.Batches.{is_control}
+use Rattle.plant_check_plans.specs.{is_control}
 
 -- ---- lines
 

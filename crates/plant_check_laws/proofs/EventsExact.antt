@@ -1,20 +1,15 @@
 -- The rule on what happened to batches: each event was allowed at its place, and the kept columns are the fold of them.
-use Rattle.std.proofs.Common.{◌≡◌, ◌∙◌, ℕ, true, List, map, Result, Ok, Err, refl, sym, ap}
-use Rattle.std.specs.Prelude.{IsOk}
-use Rattle.std.specs.Bool.{Decides}
+use Rattle.std.proofs.Common.{◌≡◌, ◌∙◌, ℕ, true, List, map, Result, Ok, Err, refl, sym, ap, IsOk, Decides}
 use Rattle.std.specs.List.{AllByRecursion}
 use Rattle.std.specs.Result.{result_ok}
 use Rattle.std.proofs.lemmas.Bool.{false≢true}
-use Rattle.plant_base.specs.State.{same}
-use Rattle.plant_base.specs.{Batch, BatchEvent, BatchRow, ControlLine, Refusal}
+use Rattle.plant_base.specs.{same, Batch, BatchEvent, BatchRow, ControlLine, Refusal}
 use Rattle.plant_recipe.specs.contracts.progress.ProgressEq.TheImpl.Laws.{laws-law}
 use Rattle.plant_recipe.specs.declared.progress.Progress.{Progress}
-use Rattle.plant_recipe.specs.Progress.{run_of, progress_after}
+use Rattle.plant_recipe.specs.{run_of, progress_after}
 use Rattle.plant_recipe.proofs.EventFold.{goes_along}
-use Rattle.plant_view.specs.Production.{is_batch_among}
-use Rattle.plant_view.specs.Tables.{phases_among, events_among, batch_row, row_at, batch_of_row}
-use Rattle.plant_check_plans.specs.Batches.{is_row_among}
-use Rattle.plant_check_plans.specs.Events.{kept_progress, is_run, has_right_run, are_events}
+use Rattle.plant_view.specs.{is_batch_among, phases_among, events_among, batch_row, row_at, batch_of_row}
+use Rattle.plant_check_plans.specs.{is_row_among, kept_progress, is_run, has_right_run, are_events}
 use Rattle.plant_check_laws.proofs.ExactTests.{both, in_words, all_exact, any_mapped_exact}
 use Rattle.plant_check_laws.proofs.EqualIsSame.{one_progress}
 

@@ -1,9 +1,7 @@
 -- Exact tests: such a test passes exactly where its fact holds.
-use Rattle.std.proofs.Common.{◌≡◌, ◌∙◌, ℕ, ◌≤◌, ◌<◌, Bool, true, false, cond, List, [], ◌∷◌, ◌++◌, map, filter, find, is_some, nat_le, refl, sym, ap}
-use Rattle.std.specs.Prelude.{◌&&◌, ◌||◌, not, nat_lt}
-use Rattle.std.specs.Bool.{Decides}
+use Rattle.std.proofs.Common.{◌≡◌, ◌∙◌, ℕ, ◌≤◌, ◌<◌, Bool, true, false, cond, List, [], ◌∷◌, ◌++◌, map, filter, find, is_some, nat_le, refl, sym, ap, ◌&&◌, ◌||◌, not, nat_lt, Decides, leb-true, le-leb, ltb-true, lt-ltb}
 use Rattle.std.specs.List.{AllByRecursion, list_any, list_all}
-use Rattle.std.proofs.lemmas.Bool.{false≢true, leb-true, le-leb, ltb-true, lt-ltb, and_from}
+use Rattle.std.proofs.lemmas.Bool.{false≢true, and_from}
 use Rattle.std.proofs.lemmas.Bool.Decides.{Decides-and}
 pub use Rattle.std.proofs.lemmas.Bool.Decides.{Decides-eqb as equal_exact}
 use Rattle.plant_base.proofs.PutKeepsOrder.{all_weaker}

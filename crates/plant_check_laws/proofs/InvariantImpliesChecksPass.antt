@@ -2,37 +2,26 @@
 use Rattle.std.proofs.Common.{◌≡◌, ◌∙◌, ℕ, ◌≤◌, nat_le, true, List, map, Some, None, is_some, refl, sym, ap, subst, arith}
 use Rattle.std.specs.List.{AllByRecursion}
 use Rattle.sqlite.specs.Effect.{Database}
-use Rattle.plant_base.specs.State.{State}
-use Rattle.plant_base.specs.Values.{greatest_amount}
-use Rattle.plant_base.specs.{Batch, BatchRow, Header, Movement, Place, Recall, Sublot}
+use Rattle.plant_base.specs.{State, greatest_amount, Batch, BatchRow, Header, Movement, Place, Recall, Sublot}
 use Rattle.plant_base.proofs.PutKeepsOrder.{all_weaker, map_back}
-use Rattle.plant_recipe.specs.WellFormed.{is_well_formed}
+use Rattle.plant_recipe.specs.{is_well_formed}
 use Rattle.plant_view.specs.DecisionInvariant.{DecisionInvariant}
-use Rattle.plant_view.specs.Production.{headers_of, lines_among, IsWholeRecipe, IsConsistentRun}
-use Rattle.plant_view.specs.Genealogy.{edges_among}
-use Rattle.plant_view.specs.Recalls.{recalls_in}
-use Rattle.plant_view.specs.Tables.{tables_of, edges_in, batch_row, batch_of_row, sublot_row, place_of_row}
+use Rattle.plant_view.specs.{headers_of, lines_among, IsWholeRecipe, IsConsistentRun, edges_among, recalls_in, tables_of, edges_in, batch_row, batch_of_row, sublot_row, place_of_row}
 use Rattle.plant_view.proofs.CommandsPreserveInvariant.{all_two}
 use Rattle.plant_view.proofs.RowsInTurn.{all_of, all_mapped}
 use Rattle.plant_invariant.specs.StateInvariant.{StateInvariant}
-use Rattle.plant_tables.specs.Keyed.{HoldsTablesOf, LacksLater}
-use Rattle.plant_tables_read.specs.Loading.{AreLoaded}
-use Rattle.plant_tables_read.specs.Version.{IsKnown}
-use Rattle.plant_tables_read.specs.{Loaded}
-use Rattle.plant_tables_read.specs.Collecting.{Rows, rows_from, rows_in}
-use Rattle.plant_tables_columns.specs.Booked.{movement_from, booked_of}
-use Rattle.plant_tables_columns.specs.StatedRecalls.{recall_from, stated_of}
+use Rattle.plant_tables.specs.{HoldsTablesOf, LacksLater}
+use Rattle.plant_tables_read.specs.{AreLoaded, IsKnown, Loaded, Rows, rows_from, rows_in}
+use Rattle.plant_tables_columns.specs.{movement_from, booked_of, recall_from, stated_of}
 use Rattle.plant_tables_columns.proofs.MovementColumns.{movement_again}
 use Rattle.plant_tables_columns.proofs.RecallColumns.{recall_again}
 use Rattle.plant_tables_read.proofs.RowsReadBack.{read_again}
 use Rattle.plant_tables_read.proofs.RowsRepresentTables.{rows_back}
-use Rattle.plant_check_stock.specs.Marks.{are_marks}
-use Rattle.plant_check.specs.Broken.{movements_in, recalls_read, first_broken_of, broken_rows, first_broken}
-use Rattle.plant_check.specs.Ends.{are_stocks}
-use Rattle.plant_check.specs.Lots.{are_lots}
+use Rattle.plant_check_stock.specs.{are_marks}
+use Rattle.plant_check.specs.{movements_in, recalls_read, first_broken_of, broken_rows, first_broken, are_stocks, are_lots}
 use Rattle.plant_check.proofs.BookedRowsMove.{amount_entered}
 use Rattle.plant_invariant_tables.proofs.TablesHaveValidValues.{in_order, valid_values}
-use Rattle.plant_check_laws.specs.Soundness.{state_in}
+use Rattle.plant_check_laws.specs.{state_in}
 use Rattle.plant_check_laws.proofs.BatchesExact.{right_batches}
 use Rattle.plant_check_laws.proofs.ExactTests.{all_joined, all_mapped_exact, passing}
 use Rattle.plant_check_laws.proofs.DescentExact.{movements_again, acyclic_exact, edges_exact}

@@ -1,23 +1,17 @@
 -- The rule on lots: their definitions are there, their sublots are numbered from 0 on, and each came to be with its lot or by a division.
-use Rattle.std.proofs.Common.{◌≡◌, ◌∙◌, ℕ, ◌≤◌, true, false, List, [], ◌∷◌, length, map, filter, find, is_some, refl, sym, ap, eqb-true, eq-eqb, arith}
-use Rattle.std.specs.Prelude.{◌==◌}
-use Rattle.std.specs.Bool.{Decides}
+use Rattle.std.proofs.Common.{◌≡◌, ◌∙◌, ℕ, ◌≤◌, true, false, List, [], ◌∷◌, length, map, filter, find, is_some, refl, sym, ap, eqb-true, eq-eqb, arith, ◌==◌, Decides}
 use Rattle.std.specs.List.{AllByRecursion}
 use Rattle.std.proofs.lemmas.Bool.{false≢true}
 use Rattle.std.proofs.lemmas.Bool.Decides.{nat_tests}
 use Rattle.std.proofs.lemmas.Simd.{map-map}
-use Rattle.plant_base.specs.Values.{greatest_amount}
-use Rattle.plant_base.specs.State.{same}
-use Rattle.plant_base.specs.{Definition, Hold, Lot, Movement, MovementKind, Place, Sublot}
+use Rattle.plant_base.specs.{greatest_amount, same, Definition, Hold, Lot, Movement, MovementKind, Place, Sublot}
 use Rattle.plant_base.specs.declared.rows.MovementKind.TheVariants as kind
-use Rattle.plant_stock.specs.Stock.{is_division, entries}
-use Rattle.plant_view.specs.Production.{is_defined}
-use Rattle.plant_view.specs.Tables.{place_of_row}
+use Rattle.plant_stock.specs.{is_division, entries}
+use Rattle.plant_view.specs.{is_defined, place_of_row}
 use Rattle.plant_view.proofs.RowsInTurn.{all_mapped, all_unmapped}
-use Rattle.plant_invariant.specs.Births.{numbers_among, AreFromZero, are_one_birth, IsBirth, IsDivision, IsBorn, AreBorn}
-use Rattle.plant_tables_columns.specs.Booked.{code_of, booked_of}
-use Rattle.plant_check.specs.Ends.{total_booked}
-use Rattle.plant_check.specs.Lots.{are_from_zero, sublots_among, is_right_lot, is_division_code, have_same_kind_code, is_of_one_birth, is_one_birth, is_one_division, is_born, is_lot_among, is_right_sublot, are_lots}
+use Rattle.plant_invariant.specs.{numbers_among, AreFromZero, are_one_birth, IsBirth, IsDivision, IsBorn, AreBorn}
+use Rattle.plant_tables_columns.specs.{code_of, booked_of}
+use Rattle.plant_check.specs.{total_booked, are_from_zero, sublots_among, is_right_lot, is_division_code, have_same_kind_code, is_of_one_birth, is_one_birth, is_one_division, is_born, is_lot_among, is_right_sublot, are_lots}
 use Rattle.plant_check.proofs.BookedRowsMove.{filter_mapped, entries_booked}
 use Rattle.plant_check_laws.proofs.ExactTests.{passing, le_exact, equal_exact, both, chosen, in_words, by_test, all_two_exact, all_exact, any_exact, all_mapped_exact, all_apart, all_joined}
 use Rattle.plant_check_laws.proofs.NumberedRows.{counted_exact}

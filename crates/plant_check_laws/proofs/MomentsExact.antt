@@ -1,16 +1,13 @@
 -- The rule on moments: they don't fall as the numbers rise, and none is later than the desk's.
-use Rattle.std.proofs.Common.{◌≡◌, ◌∙◌, ℕ, ◌≤◌, Bool, true, false, nat_le, List, ◌++◌, map, refl, sym, subst, arith}
-use Rattle.std.specs.Prelude.{◌||◌, not, nat_lt}
-use Rattle.std.specs.Bool.{Decides}
+use Rattle.std.proofs.Common.{◌≡◌, ◌∙◌, ℕ, ◌≤◌, Bool, true, false, nat_le, List, ◌++◌, map, refl, sym, subst, arith, ◌||◌, not, nat_lt, Decides, le-leb, ltb-true}
 use Rattle.std.specs.List.{AllByRecursion, list_all}
-use Rattle.std.proofs.lemmas.Bool.{le-leb, ltb-true}
 use Rattle.std.proofs.lemmas.Bool.Decides.{nat_tests}
 use Rattle.std.proofs.lemmas.List.{map-append}
 use Rattle.std.proofs.lemmas.Simd.{map-map}
 use Rattle.plant_base.specs.{Batch, BatchEvent, BatchRow, Hold, Movement, Position}
-use Rattle.plant_view.specs.Tables.{batch_of_row}
-use Rattle.plant_invariant.specs.Moments.{mark_of_movement, mark_of_event, marks, IsNoLater, HasMoments}
-use Rattle.plant_check_stock.specs.Times.{row_mark_of, row_mark_of_event, row_marks, is_no_later, never_fall, are_times}
+use Rattle.plant_view.specs.{batch_of_row}
+use Rattle.plant_invariant.specs.{mark_of_movement, mark_of_event, marks, IsNoLater, HasMoments}
+use Rattle.plant_check_stock.specs.{row_mark_of, row_mark_of_event, row_marks, is_no_later, never_fall, are_times}
 use Rattle.plant_check_laws.proofs.ExactTests.{le_exact, both, in_words, all_exact, of_mapped, of_both}
 
 -- a number and a moment

@@ -1,24 +1,16 @@
 -- The rule on movements: the sublots and the batches that they name are there, and the definitions of their lots fit.
-use Rattle.std.proofs.Common.{◌≡◌, ◌∙◌, ℕ, true, List, map, Option, Some, None, is_some, refl, sym, ap}
-use Rattle.std.specs.Prelude.{◌&&◌, ◌==◌}
-use Rattle.std.specs.Bool.{Decides}
+use Rattle.std.proofs.Common.{◌≡◌, ◌∙◌, ℕ, true, List, map, Option, Some, None, is_some, refl, sym, ap, ◌&&◌, ◌==◌, Decides}
 use Rattle.std.specs.List.{AllByRecursion}
 use Rattle.std.proofs.lemmas.Bool.{false≢true}
-use Rattle.plant_base.specs.State.{State, same, lot_at, place_at}
-use Rattle.plant_base.specs.{Batch, BatchRow, ControlLine, Lot, Movement, MovementKind, Place, Sublot}
+use Rattle.plant_base.specs.{State, same, lot_at, place_at, Batch, BatchRow, ControlLine, Lot, Movement, MovementKind, Place, Sublot}
 use Rattle.plant_base.specs.declared.rows.MovementKind.TheVariants as kind
 use Rattle.plant_base.proofs.FindIsFirst.{found_passes, found_keeps}
 use Rattle.plant_base.proofs.KeyOrders.{same_id, same_key, same_itself}
-use Rattle.plant_stock.specs.Stock.{goes_to, comes_from}
-use Rattle.plant_view.specs.Conservation.{is_of_lot}
-use Rattle.plant_view.specs.Genealogy.{batch_by, IsBatchThere}
-use Rattle.plant_view.specs.Materials.{is_taken, is_made}
-use Rattle.plant_view.specs.Production.{control_among}
-use Rattle.plant_view.specs.DecisionInvariant.{IsThere, IsOneMaterial}
-use Rattle.plant_view.specs.Tables.{place_of_row, batch_of_row}
-use Rattle.plant_rules.specs.Splitting.{def_of}
-use Rattle.plant_invariant.specs.KeepToRecipes.{IsAsked}
-use Rattle.plant_check_stock.specs.Movements.{is_there, is_batch_there, names_known, are_of_one, is_asked_for, is_yielded, is_of_right_definition, is_of_right_merge, is_right_movement, are_movements}
+use Rattle.plant_stock.specs.{goes_to, comes_from}
+use Rattle.plant_view.specs.{is_of_lot, batch_by, IsBatchThere, is_taken, is_made, control_among, IsThere, IsOneMaterial, place_of_row, batch_of_row}
+use Rattle.plant_rules.specs.{def_of}
+use Rattle.plant_invariant.specs.{IsAsked}
+use Rattle.plant_check_stock.specs.{is_there, is_batch_there, names_known, are_of_one, is_asked_for, is_yielded, is_of_right_definition, is_of_right_merge, is_right_movement, are_movements}
 use Rattle.plant_check_laws.proofs.ExactTests.{passing, both, both_then, in_words, all_exact, any_mapped_exact}
 
 -- ---- definitions of lots that are there

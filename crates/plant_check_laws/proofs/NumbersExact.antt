@@ -1,29 +1,24 @@
 -- The rule on numbers: they were given, each command has its own, and the movements of each number are the lines of one booking.
-use Rattle.std.proofs.Common.{◌≡◌, ◌∙◌, ℕ, ◌+◌, ◌<◌, ◌≤◌, Bool, true, false, cond, not, nat_lt, List, [], ◌∷◌, length, map, filter, Option, Some, None, refl, sym, ap, subst, eqb-true, eq-eqb, arith}
-use Rattle.std.specs.Prelude.{◌&&◌, ◌||◌, ◌==◌}
-use Rattle.std.specs.Bool.{Decides}
+use Rattle.std.proofs.Common.{◌≡◌, ◌∙◌, ℕ, ◌+◌, ◌<◌, ◌≤◌, Bool, true, false, cond, not, nat_lt, List, [], ◌∷◌, length, map, filter, Option, Some, None, refl, sym, ap, subst, eqb-true, eq-eqb, arith, ◌&&◌, ◌||◌, ◌==◌, Decides, nat_cmp, Ordering, Less}
 use Rattle.std.specs.List.{AllByRecursion, list_all}
 use Rattle.std.specs.List.Sorted.{IsStrictlySortedBy}
-use Rattle.std.specs.Ordering.{nat_cmp, ordering_then}
-use Rattle.std.specs.declared.cmp.Ordering.{Ordering}
-use Rattle.std.specs.declared.cmp.Ordering.TheVariants.{Less}
+use Rattle.std.specs.Ordering.{ordering_then}
 use Rattle.std.proofs.Math.Bool.{and_comm}
 use Rattle.std.proofs.lemmas.Bool.{false≢true, eqb-false, or_right}
 use Rattle.std.proofs.lemmas.Bool.Decides.{nat_tests}
 use Rattle.std.proofs.lemmas.List.Sums.{length-filter, count_by-le-length}
-use Rattle.plant_base.specs.State.{event_order, movement_order}
-use Rattle.plant_base.specs.{BatchEvent, Movement, MovementKind}
+use Rattle.plant_base.specs.{event_order, movement_order, BatchEvent, Movement, MovementKind}
 use Rattle.plant_base.specs.declared.rows.MovementKind.TheVariants as kind
 use Rattle.plant_base.proofs.KeyOrders.{same_id}
 use Rattle.plant_base.proofs.PutKeepsOrder.{all_weaker}
-use Rattle.plant_stock.specs.Stock.{goes_to, comes_from, is_sublot_key, entries, are_one_merge, is_one_source, greatest_parts}
+use Rattle.plant_stock.specs.{goes_to, comes_from, is_sublot_key, entries, are_one_merge, is_one_source, greatest_parts}
 use Rattle.plant_view.proofs.RowsInTurn.{none_left, all_of, all_filtered, filtered_passes}
 use Rattle.plant_view.proofs.TestsAndSums.{and_left, and_right}
 use Rattle.plant_rules_production.proofs.ReleaseRows.{filter_both}
-use Rattle.plant_invariant.specs.Bookings.{AreCounted, booked, AreDistinct, IsBooking, IsEnteredBefore, IsNumbered}
+use Rattle.plant_invariant.specs.{AreCounted, booked, AreDistinct, IsBooking, IsEnteredBefore, IsNumbered}
 use Rattle.plant_invariant.proofs.ListsThatGrow.{numbers_differ, all_left}
-use Rattle.plant_check_stock.specs.Movements.{is_merged, parts_of, are_distinct, are_parts, is_of_right_merge}
-use Rattle.plant_check_stock.specs.Numbering.{is_given, is_next_part, is_next_line, are_lines, is_apart, is_entered_before, has_right_number, are_numbers}
+use Rattle.plant_check_stock.specs.{is_merged, parts_of, are_parts, is_of_right_merge, is_given, is_next_part, is_next_line, are_lines, is_apart, is_entered_before, has_right_number, are_numbers}
+use Rattle.plant_check_stock.specs.Movements.{are_distinct}
 use Rattle.plant_check_laws.proofs.ExactTests.{le_exact, lt_exact, equal_exact, passing, both, in_words, all_exact, all_apart, all_joined, none_exact, of_passing}
 use Rattle.plant_check_laws.proofs.ReceiptsExact.{given_exact}
 

@@ -1,31 +1,21 @@
 -- The rule on recalls: their lots are there, their moments fit, and the marks are those of what the open ones reach.
-use Rattle.std.proofs.Common.{◌≡◌, ◌∙◌, ℕ, Bool, true, false, List, [], map, Option, Some, None, is_some, refl, sym, ap, subst}
-use Rattle.std.specs.Prelude.{IfSome, nat_le, if◌then◌else◌}
-use Rattle.std.specs.Bool.{Decides}
+use Rattle.std.proofs.Common.{◌≡◌, ◌∙◌, ℕ, Bool, true, false, List, [], map, Option, Some, None, is_some, refl, sym, ap, subst, IfSome, nat_le, if◌then◌else◌, Decides}
 use Rattle.std.specs.List.{AllByRecursion}
 use Rattle.std.specs.List.Sorted.{IsStrictlySortedBy}
-use Rattle.plant_base.specs.Recalls.{mark_order}
-use Rattle.plant_base.specs.RowValues.{HasLiftingValues, HasRecallValues}
-use Rattle.plant_base.specs.State.{State}
-use Rattle.plant_base.specs.Values.{is_text, is_moment}
-use Rattle.plant_base.specs.{Lifting, Lot, Mark, Movement, Recall}
+use Rattle.plant_base.specs.{mark_order, HasLiftingValues, HasRecallValues, State, is_text, is_moment, Lifting, Lot, Mark, Movement, Recall}
 use Rattle.plant_base.proofs.PutKeepsOrder.{all_weaker}
-use Rattle.plant_view.specs.Genealogy.{edges_among}
-use Rattle.plant_view.specs.Recalls.{marks, recalls_in, marks_in}
-use Rattle.plant_view.specs.Tables.{Tables, tables_of}
+use Rattle.plant_view.specs.{edges_among, marks, recalls_in, marks_in, tables_of}
+use Rattle.plant_view.specs.Tables.{Tables}
 use Rattle.plant_view.proofs.MarkChanges.{marks_sorted}
-use Rattle.plant_invariant.specs.Recalls.{IsLiftedBetween, IsValidRecall, AreValidRecalls}
-use Rattle.plant_check_stock.specs.Marks.{are_same_marks, are_marks}
-use Rattle.plant_check_stock.specs.Movements.{lot_among}
-use Rattle.plant_check_stock.specs.Recalls.{is_lifted_between, is_right_recall, are_recalls}
+use Rattle.plant_invariant.specs.{IsLiftedBetween, IsValidRecall, AreValidRecalls}
+use Rattle.plant_check_stock.specs.{are_same_marks, are_marks, lot_among, is_lifted_between, is_right_recall, are_recalls}
 use Rattle.plant_check_stock.proofs.MarksByRecall.{same_list, same_itself}
-use Rattle.plant_tables_columns.specs.StatedRecalls.{recall_from, moment_of_lift, person_of_lift, note_of_lift, stated_of}
-use Rattle.plant_tables_columns.specs.{StatedRecall}
+use Rattle.plant_tables_columns.specs.{recall_from, moment_of_lift, person_of_lift, note_of_lift, stated_of, StatedRecall}
 use Rattle.plant_tables_columns.proofs.KindLaws.{ValidOrNone}
 use Rattle.plant_tables_columns.proofs.RecallColumns.{recall_back}
 use Rattle.plant_tables_columns.proofs.TableLaws.{HasStatedColumns}
 use Rattle.plant_tables_read.proofs.TablesOfRows.{same_tables}
-use Rattle.plant_check.specs.Broken.{recalls_read}
+use Rattle.plant_check.specs.{recalls_read}
 use Rattle.plant_check_laws.proofs.RowsMadeOfRows.{all_gathered}
 use Rattle.plant_check_laws.proofs.ExactTests.{passing, le_exact, both, in_words, all_exact_where}
 

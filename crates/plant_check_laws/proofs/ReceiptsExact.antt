@@ -1,19 +1,14 @@
 -- The rule on receipts: their numbers were given and are apart, and their contents are contents.
-use Rattle.std.proofs.Common.{◌≡◌, ℕ, ◌≤◌, Bool, true, false, List, [], ◌∷◌, refl, ap}
-use Rattle.std.specs.Prelude.{not, ◌==◌, if◌then◌else◌}
-use Rattle.std.specs.Bool.{Decides}
+use Rattle.std.proofs.Common.{◌≡◌, ℕ, ◌≤◌, Bool, true, false, List, [], ◌∷◌, refl, ap, not, ◌==◌, if◌then◌else◌, Decides}
 use Rattle.std.specs.List.{AllByRecursion, list_all}
 use Rattle.std.specs.List.Sorted.{IsStrictlySortedBy}
-use Rattle.plant_base.specs.Content.{is_content, is_content_byte, is_there}
-use Rattle.plant_base.specs.State.{receipt_order}
-use Rattle.plant_base.specs.Values.{is_id}
-use Rattle.plant_base.specs.{Receipt}
+use Rattle.plant_base.specs.{is_content, is_content_byte, is_there, receipt_order, is_id, Receipt}
 use Rattle.plant_base.proofs.PutKeepsOrder.{all_weaker}
 use Rattle.plant_view.proofs.CommandsPreserveInvariant.{all_two}
 use Rattle.plant_view.proofs.TestsAndSums.{and_left, any_map}
-use Rattle.plant_invariant.specs.Receipts.{HasReceiptValues, AreApart, AreValidReceipts}
-use Rattle.plant_check_stock.specs.Numbering.{is_given}
-use Rattle.plant_check_stock.specs.Receipts.{is_right_receipt, are_distinct, seqs_of, are_receipts}
+use Rattle.plant_invariant.specs.{HasReceiptValues, AreApart, AreValidReceipts}
+use Rattle.plant_check_stock.specs.{is_given, is_right_receipt, seqs_of, are_receipts}
+use Rattle.plant_check_stock.specs.Receipts.{are_distinct}
 use Rattle.plant_check_laws.proofs.ExactTests.{passing, le_exact, both, by_test, all_two_exact, none_exact}
 
 -- the number of an accepted command

@@ -1,22 +1,16 @@
 -- The rules on classes and recipes: each definition's class is there, recipes are well formed, and their lines are numbered and listed.
-use Rattle.std.proofs.Common.{◌≡◌, ◌∙◌, ℕ, ◌≤◌, true, List, map, filter, find, is_some, refl, sym, ap}
-use Rattle.std.specs.Prelude.{◌&&◌, ◌==◌}
-use Rattle.std.specs.Bool.{Decides}
+use Rattle.std.proofs.Common.{◌≡◌, ◌∙◌, ℕ, ◌≤◌, true, List, map, filter, find, is_some, refl, sym, ap, ◌&&◌, ◌==◌, Decides}
 use Rattle.std.specs.List.{AllByRecursion}
 use Rattle.std.specs.List.Sorted.{IsStrictlySortedBy}
-use Rattle.plant_base.specs.WellFormedCommands.{HasLineValues}
-use Rattle.plant_base.specs.State.{same, recipe_order, master_line_order}
-use Rattle.plant_base.specs.{Class, Definition, Header, MasterLine, Recipe, RecipeLine}
+use Rattle.plant_base.specs.{HasLineValues, same, recipe_order, master_line_order, Class, Definition, Header, MasterLine, Recipe, RecipeLine}
 use Rattle.plant_base.proofs.KeyOrders.{same_key, key_itself}
 use Rattle.plant_base.proofs.PutKeepsOrder.{all_weaker}
-use Rattle.plant_recipe.specs.WellFormed.{is_well_formed}
-use Rattle.plant_view.specs.Production.{is_defined, is_known, headers_of, header_among, rows_among, lines_among, master_line, IsWholeRecipe, AreConsistentRecipes}
-use Rattle.plant_view.specs.Rows.{numbered}
+use Rattle.plant_recipe.specs.{is_well_formed}
+use Rattle.plant_view.specs.{is_defined, is_known, headers_of, header_among, rows_among, lines_among, master_line, IsWholeRecipe, AreConsistentRecipes, numbered}
 use Rattle.plant_view.proofs.CommandsPreserveInvariant.{all_two}
 use Rattle.plant_view.proofs.RowsInTurn.{all_mapped, all_filtered, filtered_passes}
-use Rattle.plant_check_plans.specs.Catalogue.{is_class_among, are_classified}
-use Rattle.plant_check_plans.specs.Recipes.{are_numbered, is_whole_recipe, is_recipe_among, are_recipes}
-use Rattle.plant_invariant.specs.RowValues.{HasMasterValues}
+use Rattle.plant_check_plans.specs.{is_class_among, are_classified, are_numbered, is_whole_recipe, is_recipe_among, are_recipes}
+use Rattle.plant_invariant.specs.{HasMasterValues}
 use Rattle.plant_check_laws.proofs.ExactTests.{passing, both, in_words, all_exact, any_exact, any_mapped_exact, of_mapped}
 use Rattle.plant_check_laws.proofs.NumberedRows.{rows_exact, owned_numbers}
 use Rattle.plant_check_laws.proofs.ValuesSound.{IsValidHeader}

@@ -1,27 +1,18 @@
 -- The rows that were read are in the order of their keys.
-use Rattle.std.proofs.Common.{◌≡◌, ◌∙◌, ℕ, nat_le, List, [], ◌∷◌, map, Bool, true, false, Some, None, refl, sym, subst}
-use Rattle.std.specs.Prelude.{slice_get}
+use Rattle.std.proofs.Common.{◌≡◌, ◌∙◌, ℕ, nat_le, List, [], ◌∷◌, map, Bool, true, false, Some, None, refl, sym, subst, slice_get, Ordering, Less}
 use Rattle.std.specs.List.{AllByRecursion}
 use Rattle.std.specs.List.Sorted.{IsStrictlySortedBy}
-use Rattle.std.specs.declared.cmp.Ordering.{Ordering}
-use Rattle.std.specs.declared.cmp.Ordering.TheVariants.{Less}
 use Rattle.sqlite.specs.Order.{Row}
-use Rattle.plant_base.specs.Edges.{edge_order}
-use Rattle.plant_base.specs.Recalls.{mark_order}
-use Rattle.plant_base.specs.{Recall, Receipt}
-use Rattle.plant_base.specs.State.{class_order, definition_order, recipe_order, master_line_order, job_order, control_line_order, lot_order, hold_order, receipt_order, recall_order, event_order, movement_order}
-use Rattle.plant_view.specs.Tables.{batch_row_order, sublot_order}
+use Rattle.plant_base.specs.{edge_order, mark_order, Recall, Receipt, class_order, definition_order, recipe_order, master_line_order, job_order, control_line_order, lot_order, hold_order, receipt_order, recall_order, event_order, movement_order}
+use Rattle.plant_view.specs.{batch_row_order, sublot_order}
 use Rattle.sql_queries.specs.Rises.{Rises}
-use Rattle.plant_tables_columns.specs.TableColumns.{row_of_class, row_of_definition, row_of_recipe, row_of_master_line, row_of_job, row_of_batch, row_of_control_line, row_of_event, row_of_lot, row_of_sublot, row_of_movement, row_of_hold, row_of_receipt, row_of_recall}
-use Rattle.sql_tables.specs.TableDefs.{TableDef}
-use Rattle.sql_queries.specs.Keys.{key_order, comes_before}
-use Rattle.sql_queries.specs.Selects.{first_of}
+use Rattle.plant_tables_columns.specs.{row_of_class, row_of_definition, row_of_recipe, row_of_master_line, row_of_job, row_of_batch, row_of_control_line, row_of_event, row_of_lot, row_of_sublot, row_of_movement, row_of_hold, row_of_receipt, row_of_recall}
+use Rattle.sql_tables.specs.{TableDef}
+use Rattle.sql_queries.specs.{key_order, comes_before, first_of}
 use Rattle.sql_queries.proofs.ValueOrder.{key_total}
-use Rattle.plant_tables.specs.DeskTableDefs.{class_table, definition_table, recipe_table, recipe_line_table, job_table, batch_table, control_line_table, batch_event_table, lot_table, sublot_table, movement_table, hold_table, receipt_table, recall_table, table_defs_of}
+use Rattle.plant_tables.specs.{class_table, definition_table, recipe_table, recipe_line_table, job_table, batch_table, control_line_table, batch_event_table, lot_table, sublot_table, movement_table, hold_table, receipt_table, recall_table, table_defs_of}
 use Rattle.plant_tables.proofs.StatementsOnDesk.{receipt_place, recall_place, no_receipt_place, no_recall_place}
-use Rattle.plant_tables_read.specs.Loading.{AreRising, contents_loaded}
-use Rattle.plant_tables_read.specs.{Loaded}
-use Rattle.plant_tables_read.specs.Collecting.{Rows, rows_from, tables_in, AreWhole, AreInOrder}
+use Rattle.plant_tables_read.specs.{AreRising, contents_loaded, Loaded, Rows, rows_from, tables_in, AreWhole, AreInOrder}
 use Rattle.plant_tables_read.proofs.KeysOfColumns.{by_text, by_number, by_text_number, by_two_texts, by_two_numbers, by_text_numbers}
 use Rattle.plant_tables_read.proofs.SortedRowsAreUnique.{strictly_sorted}
 use Rattle.plant_tables_read.proofs.AllRowsDecoded.{map_same}

@@ -1,6 +1,6 @@
 -- Rows that were made of others, and what holds of them.
-use Rattle.std.proofs.Common.{◌≡◌, List, [], ◌∷◌, map, Option, Some, None, refl}
-use Rattle.std.specs.List.{AllByRecursion, filter_map, cons_option}
+use Rattle.std.proofs.Common.{◌≡◌, List, [], ◌∷◌, map, Option, Some, None, refl, filter_map}
+use Rattle.std.specs.List.{AllByRecursion, cons_option}
 
 -- what was gathered of rows has what their own facts give it
 pub all_gathered : {X Y : Type 0} (f : X → Option Y) (P : X → Type 0) (Q : Y → Type 0) (keeps : (x : X) (y : Y) → f x ≡ Some y → P x → Q y) (xs : List X) → AllByRecursion P xs → AllByRecursion Q (filter_map f xs)

@@ -1,21 +1,12 @@
 -- Rows break no rule exactly where they pass the test of each rule.
-use Rattle.std.proofs.Common.{◌≡◌, ◌∙◌, Bool, true, false, cond, List, [], ◌∷◌, Option, Some, None, is_some, refl, ap}
+use Rattle.std.proofs.Common.{◌≡◌, ◌∙◌, Bool, true, false, cond, List, [], ◌∷◌, Option, Some, None, is_some, refl, ap, ◌&&◌, not, find, if◌then◌else◌, Decides}
 use Rattle.std.proofs.lemmas.Bool.{false≢true}
-use Rattle.std.specs.Prelude.{◌&&◌, not, find, if◌then◌else◌}
-use Rattle.std.specs.Bool.{Decides}
 use Rattle.std.specs.List.{list_all}
-use Rattle.plant_view.specs.Genealogy.{edges_among}
-use Rattle.plant_check_stock.specs.Marks.{are_marks}
-use Rattle.plant_check_stock.specs.Movements.{are_movements}
-use Rattle.plant_check_stock.specs.Numbering.{are_numbers}
-use Rattle.plant_check_stock.specs.Recalls.{are_recalls}
-use Rattle.plant_check_stock.specs.Times.{are_times}
-use Rattle.plant_tables_columns.specs.TableColumns.{only_meta}
-use Rattle.plant_tables_read.specs.Loading.{contents_loaded}
-use Rattle.plant_tables_read.specs.{Loaded}
-use Rattle.plant_tables_read.specs.Collecting.{Rows, rows_from}
-use Rattle.plant_check.specs.Broken.{are_whole, movements_in, are_acyclic, are_kept_edges, are_fitting, recalls_read, obeys, tested_rules, first_broken_of, broken_rows, first_broken}
-use Rattle.plant_check.specs.{Rule}
+use Rattle.plant_view.specs.{edges_among}
+use Rattle.plant_check_stock.specs.{are_marks, are_movements, are_numbers, are_recalls, are_times}
+use Rattle.plant_tables_columns.specs.{only_meta}
+use Rattle.plant_tables_read.specs.{contents_loaded, Loaded, Rows, rows_from}
+use Rattle.plant_check.specs.{are_whole, movements_in, are_acyclic, are_kept_edges, are_fitting, recalls_read, obeys, tested_rules, first_broken_of, broken_rows, first_broken, Rule}
 use Rattle.plant_check.specs.declared.rule.Rule.TheVariants as rule
 use Rattle.plant_check_laws.proofs.ExactTests.{passing, both, in_words}
 

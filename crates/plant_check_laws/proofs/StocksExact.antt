@@ -1,25 +1,19 @@
 -- The rule on stocks, and what follows of each sublot: no more was taken from it than it was given, and never more than an amount.
-use Rattle.std.proofs.Common.{◌≡◌, ◌∙◌, ℕ, suc, ◌+◌, ◌-◌, ◌≤◌, Bool, true, false, List, [], ◌∷◌, map, filter, Option, Some, None, is_some, refl, sym, ap, subst, arith, zero}
-use Rattle.std.specs.Prelude.{◌&&◌, ◌==◌, nat_le}
-use Rattle.std.specs.Bool.{Decides}
+use Rattle.std.proofs.Common.{◌≡◌, ◌∙◌, ℕ, suc, ◌+◌, ◌-◌, ◌≤◌, Bool, true, false, List, [], ◌∷◌, map, filter, Option, Some, None, is_some, refl, sym, ap, subst, arith, zero, ◌&&◌, ◌==◌, nat_le, Decides, leb-true}
 use Rattle.std.specs.List.{AllByRecursion}
-use Rattle.std.proofs.lemmas.Bool.{false≢true, leb-true}
-use Rattle.plant_base.specs.Values.{greatest_amount}
-use Rattle.plant_base.specs.State.{State, same, place_at}
-use Rattle.plant_base.specs.{Movement, Place, Sublot}
+use Rattle.std.proofs.lemmas.Bool.{false≢true}
+use Rattle.plant_base.specs.{greatest_amount, State, same, place_at, Movement, Place, Sublot}
 use Rattle.plant_base.proofs.FindIsFirst.{found_passes, found_keeps}
 use Rattle.plant_base.proofs.KeyOrders.{same_key}
 use Rattle.plant_base.proofs.PutKeepsOrder.{all_weaker}
-use Rattle.plant_stock.specs.Stock.{goes_to, comes_from, is_sublot_key, entered, left, entries}
-use Rattle.plant_view.specs.DecisionInvariant.{IsThere}
-use Rattle.plant_view.specs.Tables.{sublot_row, place_of_row}
+use Rattle.plant_stock.specs.{goes_to, comes_from, is_sublot_key, entered, left, entries}
+use Rattle.plant_view.specs.{IsThere, sublot_row, place_of_row}
 use Rattle.plant_view.proofs.CommandsPreserveInvariant.{all_two}
 use Rattle.plant_view.proofs.RowsInTurn.{none_left, all_mapped, all_unmapped, all_filtered}
 use Rattle.plant_view.proofs.TestsAndSums.{and_right}
-use Rattle.plant_invariant.specs.Births.{IsDivision, IsBorn}
-use Rattle.plant_invariant.specs.RowValues.{HasMovementValues}
-use Rattle.plant_tables_columns.specs.Booked.{booked_of}
-use Rattle.plant_check.specs.Ends.{total_booked, has_right_stock, are_stocks}
+use Rattle.plant_invariant.specs.{IsDivision, IsBorn, HasMovementValues}
+use Rattle.plant_tables_columns.specs.{booked_of}
+use Rattle.plant_check.specs.{total_booked, has_right_stock, are_stocks}
 use Rattle.plant_check.proofs.BookedRowsMove.{amount_entered, amount_left, total_entered, total_left}
 use Rattle.plant_check_laws.proofs.RowsMadeOfRows.{joined_again}
 use Rattle.plant_check_laws.proofs.ExactTests.{equal_exact, in_words, all_exact}

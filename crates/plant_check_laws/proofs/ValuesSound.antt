@@ -2,19 +2,14 @@
 use Rattle.std.proofs.Common.{◌≡◌, subst, ◌≤◌, List, [], ◌∷◌, true, leb-true, Option, Some}
 use Rattle.std.specs.List.{AllByRecursion}
 use Rattle.sqlite.specs.Order.{Row}
-use Rattle.plant_base.specs.Values.{is_id, is_text, is_moment, greatest_seq, greatest_sublot}
-use Rattle.plant_base.specs.WellFormedCommands.{is_version, HasHeaderValues}
-use Rattle.plant_base.specs.RowValues.{HasClassValues, HasDefinitionValues, HasLotValues, HasHoldValues}
-use Rattle.plant_base.specs.{BatchRow, Header, Job, Meta, Receipt, Recipe, Sublot}
-use Rattle.plant_invariant.specs.RowValues.{HasMasterValues, HasControlValues, HasEventValues}
-use Rattle.plant_view.specs.Production.{HasBatchValues, HasValidOrder}
-use Rattle.plant_tables_read.specs.{Loaded}
-use Rattle.plant_tables_columns.specs.DecodedRows.{all_from}
-use Rattle.plant_tables_columns.specs.TableColumns.{only_meta}
+use Rattle.plant_base.specs.{is_id, is_text, is_moment, greatest_seq, greatest_sublot, is_version, HasHeaderValues, HasClassValues, HasDefinitionValues, HasLotValues, HasHoldValues, BatchRow, Header, Job, Meta, Receipt, Recipe, Sublot}
+use Rattle.plant_invariant.specs.{HasMasterValues, HasControlValues, HasEventValues}
+use Rattle.plant_view.specs.{HasBatchValues, HasValidOrder}
+use Rattle.plant_tables_read.specs.{Loaded, Rows, rows_from}
+use Rattle.plant_tables_columns.specs.{all_from, only_meta}
 use Rattle.plant_tables_columns.proofs.OptionalValues.{bound, some_same}
 use Rattle.plant_tables_columns.proofs.TableLaws.{HasBookedColumns, HasStatedColumns}
 use Rattle.plant_tables_columns.proofs.RowLaws.{Reads, meta_reads, class_reads, definition_reads, recipe_reads, master_line_reads, job_reads, batch_reads, control_line_reads, event_reads, lot_reads, sublot_reads, booked_reads, hold_reads, receipt_reads, stated_reads}
-use Rattle.plant_tables_read.specs.Collecting.{Rows, rows_from}
 use Rattle.plant_tables_read.proofs.RowsRepresentTables.{rows_back}
 
 -- ---- in the words of valid states

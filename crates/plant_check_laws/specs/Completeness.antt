@@ -1,16 +1,13 @@
 -- The tables of valid states, in each schema: they break no rule, and a desk reads them again.
 use Rattle.std.specs.Prelude.{◌≡◌, ℕ, Some, None}
 use Rattle.sqlite.specs.Effect.{Database}
-use Rattle.plant_base.specs.State.{State}
-use Rattle.plant_view.specs.Tables.{tables_of}
+use Rattle.plant_base.specs.{State}
+use Rattle.plant_view.specs.{tables_of}
 use Rattle.plant_invariant.specs.StateInvariant.{StateInvariant}
-use Rattle.plant_tables.specs.Keyed.{HoldsTablesOf}
-use Rattle.plant_tables_read.specs.Loading.{AreLoaded}
-use Rattle.plant_tables_read.specs.Version.{IsKnown}
-use Rattle.plant_tables_read.specs.{Loaded}
-use Rattle.plant_tables_read.specs.Collecting.{rows_from, rows_in, AreInOrder}
-use Rattle.plant_tables_columns.specs.ValidValues.{HasValidValues}
-use Rattle.plant_check.specs.Broken.{first_broken_of, first_broken}
+use Rattle.plant_tables.specs.{HoldsTablesOf}
+use Rattle.plant_tables_read.specs.{AreLoaded, IsKnown, Loaded, rows_from, rows_in, AreInOrder}
+use Rattle.plant_tables_columns.specs.{HasValidValues}
+use Rattle.plant_check.specs.{first_broken_of, first_broken}
 
 -- the rows of each table of a valid state are in the order of their keys, none with the key of another
 abbrev pub InvariantImpliesOrder : Type 0

@@ -1,16 +1,13 @@
 -- The state whose tables are the rows that were loaded.
 use Rattle.std.specs.Prelude.{◌≡◌, Some, None}
 use Rattle.sqlite.specs.Effect.{Database}
-use Rattle.plant_base.specs.State.{State}
-use Rattle.plant_view.specs.Tables.{state_without_kept, tables_of}
+use Rattle.plant_base.specs.{State}
+use Rattle.plant_view.specs.{state_without_kept, tables_of}
 use Rattle.plant_invariant.specs.StateInvariant.{StateInvariant}
-use Rattle.sql_tables.specs.StoredRows.{HaveStoredRows}
-use Rattle.plant_tables.specs.DeskTableDefs.{table_defs_of}
-use Rattle.plant_tables.specs.Keyed.{HoldsTablesOf}
-use Rattle.plant_tables_read.specs.Loading.{AreRising, contents_loaded}
-use Rattle.plant_tables_read.specs.{Loaded}
-use Rattle.plant_tables_read.specs.Collecting.{Rows, rows_from, tables_in, AreWhole}
-use Rattle.plant_check.specs.Broken.{first_broken, first_broken_of}
+use Rattle.sql_tables.specs.{HaveStoredRows}
+use Rattle.plant_tables.specs.{table_defs_of, HoldsTablesOf}
+use Rattle.plant_tables_read.specs.{AreRising, contents_loaded, Loaded, Rows, rows_from, tables_in, AreWhole}
+use Rattle.plant_check.specs.{first_broken, first_broken_of}
 
 -- the rows without the columns that follow from others
 abbrev pub state_in : Rows → State

@@ -1,7 +1,11 @@
 //! Laws of the tables that break no rule, and of the tables of valid states.
 
-ghost use Rattle.plant_check_laws.specs.Completeness.{InvariantImpliesOrder, InvariantImpliesValues, InvariantImpliesChecksPass, InvariantImpliesReadBack};
-ghost use Rattle.plant_check_laws.specs.Soundness.{UnbrokenIsRead, ChecksPassImpliesInvariant, UnbrokenHolds};
+ghost use Rattle.plant_check_laws.specs.Completeness.{InvariantImpliesOrder};
+ghost use Rattle.plant_check_laws.specs.Completeness.{InvariantImpliesValues};
+ghost use Rattle.plant_check_laws.specs.Completeness.{InvariantImpliesChecksPass};
+ghost use Rattle.plant_check_laws.specs.Completeness.{InvariantImpliesReadBack};
+ghost use Rattle.plant_check_laws.specs.Soundness.{UnbrokenIsRead, ChecksPassImpliesInvariant};
+ghost use Rattle.plant_check_laws.specs.Soundness.{UnbrokenHolds};
 
 /// What the tables of valid states have, as laws about them; the function itself does nothing.
 ///

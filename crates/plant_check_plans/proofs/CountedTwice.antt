@@ -1,6 +1,5 @@
 -- Counts of those that pass two tests.
-use Rattle.std.proofs.Common.{◌≡◌, ◌∙◌, Bool, true, false, cond, List, [], ◌∷◌, length, refl, ap, sym}
-use Rattle.std.specs.Prelude.{◌&&◌, filter, count_by}
+use Rattle.std.proofs.Common.{◌≡◌, ◌∙◌, Bool, true, false, cond, List, [], ◌∷◌, length, refl, ap, sym, ◌&&◌, filter, count_by}
 use Rattle.std.proofs.lemmas.List.Sums.{length-filter}
 
 both : {X : Type 0} (p q : X → Bool) (xs : List X) → filter q (filter p xs) ≡ filter (λ x. p x && q x) xs

@@ -1,11 +1,9 @@
 -- The tests that look-ups by a key make.
-use Rattle.std.proofs.Common.{◌≡◌, ℕ, Bool, true, false, cond, List, [], ◌∷◌, Some, is_some, find, refl, sym}
-use Rattle.std.specs.Prelude.{◌==◌, ◌&&◌, ◌||◌}
+use Rattle.std.proofs.Common.{◌≡◌, ℕ, Bool, true, false, cond, List, [], ◌∷◌, Some, is_some, find, refl, sym, ◌==◌, ◌&&◌, ◌||◌, nat_cmp, is_eq}
 use Rattle.std.specs.List.{list_any}
 use Rattle.std.specs.Cmp.{both_tied, unsigned_ties}
 use Rattle.std.specs.Cmp.Lexicographic.{slice_cmp, texts_ties}
-use Rattle.std.specs.Ordering.{nat_cmp, is_eq}
-use Rattle.plant_base.specs.State.{same, id_cmp, numbered_cmp}
+use Rattle.plant_base.specs.{same, id_cmp, numbered_cmp}
 
 -- two ids tie where they are one
 pub ids_tie : (a b : List ℕ) → is_eq (id_cmp a b) ≡ same a b

@@ -2,12 +2,10 @@
 use Rattle.std.specs.Prelude.{ℕ, Bool, false, ◌&&◌, ◌==◌, if◌then◌else◌, List, Option, Some, None, filter, map, length}
 use Rattle.std.specs.List.{list_any, list_all}
 use Rattle.std.specs.Cmp.Lexicographic.{pointwise}
-use Rattle.plant_base.specs.State.{same}
+use Rattle.plant_base.specs.{same, BatchRow, ControlLine, Header, Job, MasterLine, Recipe, RecipeLine}
 use Rattle.plant_base.specs.contracts.rows.RecipeLinePartialEq.TheImpl.{ghosts as equal}
-use Rattle.plant_base.specs.{BatchRow, ControlLine, Header, Job, MasterLine, Recipe, RecipeLine}
-use Rattle.plant_recipe.specs.WellFormed.{is_well_formed}
-use Rattle.plant_recipe.specs.Control.{is_size_of, control_of}
-use Rattle.plant_view.specs.Production.{lines_among, control_among, job_among}
+use Rattle.plant_recipe.specs.{is_well_formed, is_size_of, control_of}
+use Rattle.plant_view.specs.{lines_among, control_among, job_among}
 use Rattle.plant_check_plans.specs.Orders.{recipe_among}
 use Rattle.plant_check_plans.specs.Recipes.{are_numbered}
 

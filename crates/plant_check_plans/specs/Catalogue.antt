@@ -1,8 +1,7 @@
 -- Material classes and definitions.
 use Rattle.std.specs.Prelude.{ℕ, Bool, List}
 use Rattle.std.specs.List.{list_any, list_all}
-use Rattle.plant_base.specs.State.{same}
-use Rattle.plant_base.specs.{Class, Definition}
+use Rattle.plant_base.specs.{same, Class, Definition}
 
 abbrev pub is_class_among : List Class → List ℕ → Bool
 is_class_among classes id = list_any (λ c. same c.id id) classes

@@ -4,8 +4,8 @@ use Rattle.std.specs.List.{list_all}
 use Rattle.plant_base.specs.{BatchEvent, BatchRow, ControlLine, Refusal}
 use Rattle.plant_recipe.specs.contracts.progress.ProgressPartialEq.TheImpl.{ghosts as equal}
 use Rattle.plant_recipe.specs.declared.progress.Progress.{Progress}
-use Rattle.plant_recipe.specs.Progress.{run_of}
-use Rattle.plant_view.specs.Tables.{phases_among, events_among}
+use Rattle.plant_recipe.specs.{run_of}
+use Rattle.plant_view.specs.{phases_among, events_among}
 use Rattle.plant_check_plans.specs.Batches.{is_row_among}
 
 -- the kept columns of a batch

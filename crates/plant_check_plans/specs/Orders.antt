@@ -1,10 +1,9 @@
 -- Orders and the batches that they were released as.
 use Rattle.std.specs.Prelude.{ℕ, Bool, false, not, ◌&&◌, ◌==◌, List, Option, Some, None, find, is_none}
 use Rattle.std.specs.List.{list_all}
-use Rattle.plant_base.specs.State.{same}
-use Rattle.plant_base.specs.{BatchRow, Job, JobState, Recipe}
+use Rattle.plant_base.specs.{same, BatchRow, Job, JobState, Recipe}
 use Rattle.plant_base.specs.declared.states.JobState.TheVariants.{Open, Cancelled, Released, Finished}
-use Rattle.plant_view.specs.Production.{is_size_of_recipe}
+use Rattle.plant_view.specs.{is_size_of_recipe}
 
 abbrev pub recipe_among : List Recipe → List ℕ → ℕ → Option Recipe
 recipe_among recipes id version = find (λ r. same r.header.recipe id && r.header.version == version) recipes

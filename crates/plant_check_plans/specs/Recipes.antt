@@ -1,10 +1,9 @@
 -- Master recipes.
 use Rattle.std.specs.Prelude.{ℕ, ◌+◌, Bool, true, ◌&&◌, ◌==◌, List, [], ◌∷◌, map}
 use Rattle.std.specs.List.{list_any, list_all}
-use Rattle.plant_base.specs.State.{same}
-use Rattle.plant_base.specs.{Definition, MasterLine, Recipe}
-use Rattle.plant_recipe.specs.WellFormed.{is_well_formed}
-use Rattle.plant_view.specs.Production.{is_defined, is_known, rows_among, lines_among}
+use Rattle.plant_base.specs.{same, Definition, MasterLine, Recipe}
+use Rattle.plant_recipe.specs.{is_well_formed}
+use Rattle.plant_view.specs.{is_defined, is_known, rows_among, lines_among}
 
 -- the numbers are k, k + 1 and so on
 abbrev pub are_numbered : ℕ → List ℕ → Bool

@@ -1,9 +1,9 @@
 //! Batches and their control recipes.
 
 ghost use Rattle.std.specs.Prelude.{◌≡◌, IfOk, ◌==◌, map};
-ghost use Rattle.plant_view.specs.Production.{lines_among};
-ghost use Rattle.plant_check_plans.specs.Batches.{control_sized, control_if_well_formed, control_of_found};
-ghost use Rattle.plant_check_plans.specs.Batches.{control_asked_for, is_control};
+ghost use Rattle.plant_view.specs.{lines_among};
+ghost use Rattle.plant_check_plans.specs.Batches.{control_sized, control_if_well_formed};
+ghost use Rattle.plant_check_plans.specs.Batches.{control_of_found, control_asked_for, is_control};
 
 use crate::keys::{Orders, RecipeLines, Recipes, lines_of, recipe_at};
 use grouped_rows::Grouped;

@@ -1,9 +1,8 @@
 //! What happened to batches.
 
 ghost use Rattle.std.specs.Prelude.{◌≡◌, IfOk, map, min, count_by, Result};
-ghost use Rattle.plant_recipe.specs.WellFormed.{is_phase};
-ghost use Rattle.plant_recipe.specs.Progress.{greatest_phases};
-ghost use Rattle.plant_view.specs.Tables.{phases_among};
+ghost use Rattle.plant_recipe.specs.{is_phase, greatest_phases};
+ghost use Rattle.plant_view.specs.{phases_among};
 ghost use Rattle.plant_check_plans.specs.Events.{kept_progress};
 
 use crate::keys::{ControlLines, control_of};

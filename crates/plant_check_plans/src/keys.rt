@@ -1,8 +1,8 @@
 //! What rows are looked up by.
 
 ghost use Rattle.std.specs.Prelude.{◌≡◌, ◌==◌, Some, filter, length};
-ghost use Rattle.plant_base.specs.State.{same};
-ghost use Rattle.plant_view.specs.Production.{is_defined, rows_among, control_among, job_among};
+ghost use Rattle.plant_base.specs.{same};
+ghost use Rattle.plant_view.specs.{is_defined, rows_among, control_among, job_among};
 ghost use Rattle.plant_check_plans.specs.Catalogue.{is_class_among};
 ghost use Rattle.plant_check_plans.specs.Recipes.{is_recipe_among};
 ghost use Rattle.plant_check_plans.specs.Orders.{recipe_among, row_of_order};

@@ -1,7 +1,7 @@
 //! Master recipes.
 
 ghost use Rattle.std.specs.Prelude.{◌≡◌};
-ghost use Rattle.plant_view.specs.Production.{is_known};
+ghost use Rattle.plant_view.specs.{is_known};
 
 use crate::keys::{Definitions, has_definition};
 use grouped_rows::Grouped;

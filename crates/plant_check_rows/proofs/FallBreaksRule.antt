@@ -1,13 +1,10 @@
 -- A row that is reported as earlier than one of a lower number breaks the rule of moments.
-use Rattle.std.proofs.Common.{◌≡◌, ℕ, Bool, true, false, List, [], ◌∷◌, ◌++◌, map, Option, Some, None, IfSome, refl, sym, arith, subst, append_assoc}
-use Rattle.std.specs.Prelude.{◌&&◌}
+use Rattle.std.proofs.Common.{◌≡◌, ℕ, Bool, true, false, List, [], ◌∷◌, ◌++◌, map, Option, Some, None, IfSome, refl, sym, arith, subst, append_assoc, ◌&&◌}
 use Rattle.std.proofs.lemmas.Bool.Decides.{nat_tests}
 use Rattle.std.specs.List.{list_all}
 use Rattle.plant_base.specs.{BatchEvent, Movement}
-use Rattle.plant_check_stock.specs.Times.{row_mark_of, row_mark_of_event, row_marks, is_no_later, never_fall}
-use Rattle.plant_check_rows.specs.First.{fault_unless, or_fault}
-use Rattle.plant_check_rows.specs.{RowFault}
-use Rattle.plant_check_rows.specs.Numbers.{movement_before, fall_fault_in, event_before, event_fall_fault_in}
+use Rattle.plant_check_stock.specs.{row_mark_of, row_mark_of_event, row_marks, is_no_later, never_fall}
+use Rattle.plant_check_rows.specs.{fault_unless, or_fault, RowFault, movement_before, fall_fault_in, event_before, event_fall_fault_in}
 
 abbrev Mark : Type 0
 Mark = ℕ × ℕ

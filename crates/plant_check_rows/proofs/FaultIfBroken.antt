@@ -1,9 +1,7 @@
 -- A fault is reported of a row exactly where it breaks its rule.
-use Rattle.std.proofs.Common.{◌≡◌, ◌∙◌, Bool, true, false, List, [], ◌∷◌, map, Option, Some, None, refl, ap}
-use Rattle.std.specs.Prelude.{◌&&◌, is_none}
+use Rattle.std.proofs.Common.{◌≡◌, ◌∙◌, Bool, true, false, List, [], ◌∷◌, map, Option, Some, None, refl, ap, ◌&&◌, is_none}
 use Rattle.std.specs.List.{list_all}
-use Rattle.plant_check_rows.specs.First.{fault_unless, or_fault, first_reported}
-use Rattle.plant_check_rows.specs.{RowFault}
+use Rattle.plant_check_rows.specs.{fault_unless, or_fault, first_reported, RowFault}
 
 pub reported_none : (b : Bool) (f : RowFault) → is_none (fault_unless b f) ≡ b
 reported_none true f = refl

@@ -1,11 +1,9 @@
 -- The first rule that is found is the first that is broken.
-use Rattle.std.proofs.Common.{◌≡◌, ◌∙◌, Bool, true, false, cond, List, [], ◌∷◌, Some, refl, ap, sym}
-use Rattle.std.specs.Prelude.{not, filter, find, if◌then◌else◌}
-use Rattle.plant_tables_read.specs.Collecting.{rows_from, rows_listed}
-use Rattle.plant_check.specs.Broken.{obeys, tested_rules, broken_rows, first_broken, first_broken_of}
-use Rattle.plant_check.specs.{Rule}
+use Rattle.std.proofs.Common.{◌≡◌, ◌∙◌, Bool, true, false, cond, List, [], ◌∷◌, Some, refl, ap, sym, not, filter, find, if◌then◌else◌}
+use Rattle.plant_tables_read.specs.{rows_from, rows_listed}
+use Rattle.plant_check.specs.{obeys, tested_rules, broken_rows, first_broken, first_broken_of, Rule}
 use Rattle.plant_check.specs.declared.rule.Rule.TheVariants as rule
-use Rattle.plant_check_rows.specs.Findings.{head, IsFirstFound}
+use Rattle.plant_check_rows.specs.{head, IsFirstFound}
 use Rattle.plant_check_rows.specs.declared.finding.Findings.TheVariants as findings
 
 head_found : (passes : Rule → Bool) (rules : List Rule) → head (filter passes rules) ≡ find passes rules

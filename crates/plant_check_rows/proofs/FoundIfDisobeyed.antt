@@ -1,39 +1,19 @@
 -- A rule is found exactly where the rows don't obey it, and most with a row.
-use Rattle.std.proofs.Common.{◌≡◌, ◌∙◌, Bool, true, false, List, length, map, Option, Some, None, is_some, Result, Ok, Err, refl, ap}
+use Rattle.std.proofs.Common.{◌≡◌, ◌∙◌, Bool, true, false, List, length, map, Option, Some, None, is_some, Result, Ok, Err, refl, ap, ◌==◌, filter, is_none, if◌then◌else◌}
 use Rattle.std.proofs.lemmas.Bool.{false≢true}
-use Rattle.std.specs.Prelude.{◌==◌, filter, is_none, if◌then◌else◌}
 use Rattle.std.specs.List.{list_all}
-use Rattle.plant_base.specs.State.{same}
-use Rattle.plant_base.specs.{BatchEvent, BatchRow, ControlLine, Definition, Job, Lot, MasterLine, Movement, Recipe, Refusal, Sublot}
-use Rattle.plant_recipe.specs.WellFormed.{is_well_formed}
+use Rattle.plant_base.specs.{same, BatchEvent, BatchRow, ControlLine, Definition, Job, Lot, MasterLine, Movement, Recipe, Refusal, Sublot}
+use Rattle.plant_recipe.specs.{is_well_formed, run_of}
 use Rattle.plant_recipe.specs.declared.progress.Progress.{Progress}
-use Rattle.plant_recipe.specs.Progress.{run_of}
-use Rattle.plant_stock.specs.Stock.{goes_to, comes_from}
-use Rattle.plant_view.specs.Genealogy.{batch_by}
-use Rattle.plant_view.specs.Production.{is_defined, is_known, is_size_of_recipe, rows_among, lines_among, control_among, job_among}
-use Rattle.plant_view.specs.Tables.{phases_among, events_among}
-use Rattle.plant_tables_columns.specs.Booked.{movement_from}
-use Rattle.plant_tables_columns.specs.{BookedRow}
-use Rattle.plant_tables_read.specs.Collecting.{Rows}
-use Rattle.plant_check_plans.specs.Batches.{control_asked_for, is_control, is_row_among, is_right_batch}
-use Rattle.plant_check_plans.specs.Catalogue.{is_class_among}
-use Rattle.plant_check_plans.specs.Events.{is_run, kept_progress, has_right_run}
-use Rattle.plant_check_plans.specs.Orders.{recipe_among, row_of_order, is_started, is_right_order}
-use Rattle.plant_check_plans.specs.Recipes.{are_numbered, is_recipe_among, is_whole_recipe}
-use Rattle.plant_check_stock.specs.Movements.{is_there, is_batch_there, is_of_right_definition, is_of_right_merge, names_known, is_right_movement}
-use Rattle.plant_check.specs.Broken.{movements_in, obeys}
-use Rattle.plant_check.specs.Ends.{has_right_stock}
-use Rattle.plant_check.specs.Lots.{are_from_zero, sublots_among, is_lot_among, is_born, is_right_lot, is_right_sublot}
-use Rattle.plant_check.specs.{Rule}
+use Rattle.plant_stock.specs.{goes_to, comes_from}
+use Rattle.plant_view.specs.{batch_by, is_defined, is_known, is_size_of_recipe, rows_among, lines_among, control_among, job_among, phases_among, events_among}
+use Rattle.plant_tables_columns.specs.{movement_from, BookedRow}
+use Rattle.plant_tables_read.specs.{Rows}
+use Rattle.plant_check_plans.specs.{control_asked_for, is_control, is_row_among, is_right_batch, is_class_among, is_run, kept_progress, has_right_run, recipe_among, row_of_order, is_started, is_right_order, are_numbered, is_recipe_among, is_whole_recipe}
+use Rattle.plant_check_stock.specs.{is_there, is_batch_there, is_of_right_definition, is_of_right_merge, names_known, is_right_movement}
+use Rattle.plant_check.specs.{movements_in, obeys, has_right_stock, are_from_zero, sublots_among, is_lot_among, is_born, is_right_lot, is_right_sublot, Rule}
 use Rattle.plant_check.specs.declared.rule.Rule.TheVariants as rule
-use Rattle.plant_check_rows.specs.Events.{run_found, run_fault}
-use Rattle.plant_check_rows.specs.Findings.{row_fault, is_broken_by_row, IsFoundByRow, IsFoundWhereBroken}
-use Rattle.plant_check_rows.specs.{Finding, RowFault}
-use Rattle.plant_check_rows.specs.Lots.{lot_fault, sublot_fault}
-use Rattle.plant_check_rows.specs.Movements.{naming_fault, movement_fault}
-use Rattle.plant_check_rows.specs.Plans.{size_fault, order_fault, batch_fault}
-use Rattle.plant_check_rows.specs.Recipes.{line_fault, recipe_fault}
-use Rattle.plant_check_rows.specs.Stocks.{stock_fault}
+use Rattle.plant_check_rows.specs.{run_found, run_fault, row_fault, is_broken_by_row, IsFoundByRow, IsFoundWhereBroken, Finding, RowFault, lot_fault, sublot_fault, naming_fault, movement_fault, size_fault, order_fault, batch_fault, line_fault, recipe_fault, stock_fault}
 use Rattle.plant_check_rows.proofs.FaultIfBroken.{reported_none, two_none, three_none, after_three, then_two, both_none, first_none, all_mapped}
 
 -- ---- rows

@@ -1,28 +1,19 @@
 -- No row is read of which a value breaks the rule of its column.
-use Rattle.std.proofs.Common.{◌≡◌, refl, sym, ◌∙◌, subst, ℕ, suc, ◌+◌, List, [], ◌∷◌, ◌++◌, length, take, drop, Bool, true, false, ◌&&◌, ◌==◌, Option, Some, None, nat_le, arith}
-use Rattle.std.specs.Prelude.{if◌then◌else◌, is_some}
+use Rattle.std.proofs.Common.{◌≡◌, refl, sym, ◌∙◌, subst, ℕ, suc, ◌+◌, List, [], ◌∷◌, ◌++◌, length, take, drop, Bool, true, false, ◌&&◌, ◌==◌, Option, Some, None, nat_le, arith, if◌then◌else◌, is_some, length-append}
 use Rattle.std.proofs.lemmas.Bool.{and_parts}
-use Rattle.std.proofs.lemmas.List.{length-append}
 use Rattle.sqlite.specs.Order.{Row, column}
-use Rattle.plant_base.specs.Values.{greatest_amount, greatest_moment, greatest_phase, greatest_priority, greatest_seq, greatest_sublot, greatest_version}
-use Rattle.plant_base.specs.WellFormedCommands.{HasLineValues}
-use Rattle.plant_base.specs.RowValues.{HasPhaseNumber}
-use Rattle.plant_base.specs.{Event, RecipeLine, Word}
+use Rattle.plant_base.specs.{greatest_amount, greatest_moment, greatest_phase, greatest_priority, greatest_seq, greatest_sublot, greatest_version, HasLineValues, HasPhaseNumber, Event, RecipeLine, Word, word_name}
 use Rattle.plant_base.specs.declared.rows.RecipeLine.TheVariants as line
 use Rattle.plant_base.specs.declared.states.Event.TheVariants as event
 use Rattle.plant_base.specs.declared.states.Word.TheVariants as word
-use Rattle.plant_base.specs.Words.{word_name}
-use Rattle.plant_recipe.specs.Progress.{greatest_attempt}
-use Rattle.plant_tables_columns.specs.Columns.{Columns, Kind, one, ◌⊗◌, made, read_row}
-use Rattle.plant_tables_columns.specs.TableColumns.{columns_of_line, line_columns, event_columns, class_columns, definition_columns, header_columns, recipe_columns, master_line_columns, control_line_columns, order_columns, job_columns, released_columns, batch_columns, batch_event_columns, lot_columns, sublot_columns, booked_columns, hold_columns, edge_columns, receipt_columns, stated_columns, mark_columns, class_from, definition_from, recipe_from, master_line_from, control_line_from, job_from, batch_from, batch_event_from, lot_from, sublot_from, booked_from, hold_from, edge_from, receipt_from, stated_from, mark_from}
+use Rattle.plant_recipe.specs.{greatest_attempt}
+use Rattle.plant_tables_columns.specs.{Kind, one, ◌⊗◌, made, read_row, columns_of_line, line_columns, event_columns, class_columns, definition_columns, header_columns, recipe_columns, master_line_columns, control_line_columns, order_columns, job_columns, released_columns, batch_columns, batch_event_columns, lot_columns, sublot_columns, booked_columns, hold_columns, edge_columns, receipt_columns, stated_columns, mark_columns, class_from, definition_from, recipe_from, master_line_from, control_line_from, job_from, batch_from, batch_event_from, lot_from, sublot_from, booked_from, hold_from, edge_from, receipt_from, stated_from, mark_from}
+use Rattle.plant_tables_columns.specs.Columns.{Columns}
 use Rattle.plant_tables_columns.proofs.ColumnLaws.{StoredFrom}
 use Rattle.plant_tables_columns.proofs.LineLaws.{line_lawful}
 use Rattle.plant_tables_columns.proofs.OptionalValues.{bound, mapped, where_true}
 use Rattle.plant_tables_columns.proofs.TableLaws.{event_lawful}
-use Rattle.plant_check_rows.specs.ColumnRules.{rules_of}
-use Rattle.plant_check_rows.specs.ValueRules.{obeys, allows_text}
-use Rattle.plant_check_rows.specs.Values.{bad_value, first_bad_value, AreUnreadIfBad}
-use Rattle.plant_check_rows.specs.{Column, ValueRule}
+use Rattle.plant_check_rows.specs.{rules_of, obeys, allows_text, bad_value, first_bad_value, AreUnreadIfBad, Column, ValueRule}
 use Rattle.plant_check_rows.specs.declared.fault.Table.TheVariants as table
 use Rattle.plant_check_rows.specs.declared.value_rule.ValueRule.TheVariants as rule
 use Rattle.plant_check_rows.specs.declared.values.BadValue.{BadValue}

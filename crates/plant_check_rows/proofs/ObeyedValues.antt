@@ -5,8 +5,7 @@ use Rattle.std.proofs.lemmas.Bool.Decides.{nat_tests}
 use Rattle.std.specs.List.{list_all}
 use Rattle.sqlite.specs.declared.types.Value.{Value}
 use Rattle.sqlite.specs.declared.types.Value.TheVariants.{Text}
-use Rattle.plant_base.specs.Values.{is_id, is_text, is_id_byte, is_text_byte, begins_with_letter, is_amount, greatest_amount, greatest_moment, greatest_sublot}
-use Rattle.plant_base.specs.Words.{batch_state_name}
+use Rattle.plant_base.specs.{is_id, is_text, is_id_byte, is_text_byte, begins_with_letter, is_amount, greatest_amount, greatest_moment, greatest_sublot, batch_state_name}
 use Rattle.plant_base.specs.declared.rows.EdgeKind.TheVariants as edge_kind
 use Rattle.plant_base.specs.declared.rows.MarkKind.TheVariants as mark_kind
 use Rattle.plant_base.specs.declared.states.RecipeState.TheVariants as recipe_state
@@ -14,16 +13,12 @@ use Rattle.plant_base.specs.declared.states.JobState.TheVariants as job_state
 use Rattle.plant_base.specs.declared.states.BatchState.TheVariants as batch_state
 use Rattle.plant_tables_columns.specs.declared.booked.MovementKindCode.TheVariants as kind_code
 use Rattle.plant_tables_columns.specs.declared.recalls.RecallState.TheVariants as recall_state
-use Rattle.plant_tables_columns.specs.Columns.{Kind}
-use Rattle.plant_tables_columns.specs.Kinds.{null_or, number, ids, texts, units, dues, contents, numbers, line_numbers, flags, recipe_states, job_states, batch_states, recall_states, movement_kind_codes, edge_kinds, mark_kinds, ids_or_none, sublot_numbers_or_none, moments_or_none, texts_or_none}
-use Rattle.plant_tables_columns.specs.Naming.{all_batch_states, all_recall_states, all_movement_kind_codes, batch_state_from, recall_state_from, recall_state_name, movement_kind_from, movement_kind_number}
-use Rattle.plant_tables_columns.specs.Reading.{content_from, content_in, integer_in, is_in, line_number, line_number_from, text_in}
+use Rattle.plant_tables_columns.specs.{Kind, null_or, number, ids, texts, units, dues, contents, numbers, line_numbers, flags, recipe_states, job_states, batch_states, recall_states, movement_kind_codes, edge_kinds, mark_kinds, ids_or_none, sublot_numbers_or_none, moments_or_none, texts_or_none, all_batch_states, all_recall_states, all_movement_kind_codes, batch_state_from, recall_state_from, recall_state_name, movement_kind_from, movement_kind_number, content_from, content_in, integer_in, is_in, line_number, line_number_from, text_in}
 use Rattle.plant_tables_columns.proofs.KindLaws.{IsKind, Any, ValidOrNone, integer_is, text_is, id_kind, text_like, unit_kind, due_kind, number_kind, flag_kind, optional_id_kind, optional_sublot_kind, optional_moment_kind, optional_text_kind}
 use Rattle.plant_tables_columns.proofs.OptionalValues.{bound}
 use Rattle.plant_tables_columns.proofs.TableLaws.{recipe_state_kind, job_state_kind, edge_kind_kind, mark_kind_kind}
 use Rattle.plant_tables_columns.proofs.WordsAndNumbers.{named_kind, numbered_kind, batch_state_own, recall_state_own, movement_kind_own}
-use Rattle.plant_check_rows.specs.ValueRules.{allows_null, obeys}
-use Rattle.plant_check_rows.specs.{ValueRule}
+use Rattle.plant_check_rows.specs.{allows_null, obeys, ValueRule}
 use Rattle.plant_check_rows.specs.declared.value_rule.ValueRule.TheVariants as rule
 
 -- a value of the kind that is read obeys the rule

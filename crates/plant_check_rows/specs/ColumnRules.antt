@@ -1,8 +1,9 @@
 -- The columns of each table, in the order in which it has them, each with the rule of its values.
 use Rattle.std.specs.Prelude.{List, [], ◌∷◌}
-use Rattle.plant_base.specs.Values.{greatest_amount, greatest_moment, greatest_phase, greatest_priority, greatest_seq, greatest_sublot, greatest_version}
-use Rattle.plant_recipe.specs.Progress.{greatest_attempt}
-use Rattle.plant_check_rows.specs.{Column, Table, ValueRule}
+use Rattle.plant_base.specs.{greatest_amount, greatest_moment, greatest_phase, greatest_priority, greatest_seq, greatest_sublot, greatest_version}
+use Rattle.plant_recipe.specs.{greatest_attempt}
+use Rattle.plant_check_rows.specs.declared.value_rule.ValueRule.{ValueRule}
+use Rattle.plant_check_rows.specs.First.{Column, Table}
 use Rattle.plant_check_rows.specs.declared.fault.Column.TheVariants as column
 use Rattle.plant_check_rows.specs.declared.fault.Table.TheVariants as table
 use Rattle.plant_check_rows.specs.declared.value_rule.ValueRule.TheVariants as rule

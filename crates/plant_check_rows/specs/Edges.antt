@@ -2,13 +2,10 @@
 use Rattle.std.specs.Prelude.{ℕ, Bool, ◌||◌, nat_lt, List, Option, Some, None}
 use Rattle.std.specs.List.{list_any}
 use Rattle.std.specs.Ordering.{is_eq}
-use Rattle.plant_base.specs.Edges.{edge_order}
-use Rattle.plant_base.specs.{EdgeRow, Movement}
-use Rattle.plant_view.specs.Genealogy.{edge_row_of}
-use Rattle.plant_view.specs.Tables.{edges_in}
+use Rattle.plant_base.specs.{edge_order, EdgeRow, Movement}
+use Rattle.plant_view.specs.{edge_row_of, edges_in}
 use Rattle.plant_check_rows.specs.Keys.{edge_key}
-use Rattle.plant_check_rows.specs.First.{as_a_whole, fault_unless, or_fault, first_reported}
-use Rattle.plant_check_rows.specs.{RowFault}
+use Rattle.plant_check_rows.specs.First.{as_a_whole, fault_unless, or_fault, first_reported, RowFault}
 use Rattle.plant_check_rows.specs.declared.fault.Table.TheVariants as table
 use Rattle.plant_check_rows.specs.declared.fault.Found.TheVariants as found
 use Rattle.plant_check_rows.specs.declared.fault.Wanted.TheVariants as wanted

@@ -3,13 +3,11 @@ use Rattle.std.specs.Prelude.{ℕ, Bool, true, false, not, ◌==◌, if◌then�
 use Rattle.plant_base.specs.{BatchEvent, BatchRow, ControlLine, Refusal}
 use Rattle.plant_recipe.specs.contracts.progress.ProgressPartialEq.TheImpl.{ghosts as equal}
 use Rattle.plant_recipe.specs.declared.progress.Progress.{Progress}
-use Rattle.plant_recipe.specs.Progress.{run_of}
-use Rattle.plant_view.specs.Tables.{phases_among, events_among}
-use Rattle.plant_check_plans.specs.Batches.{is_row_among}
-use Rattle.plant_check_plans.specs.Events.{kept_progress}
+use Rattle.plant_recipe.specs.{run_of}
+use Rattle.plant_view.specs.{phases_among, events_among}
+use Rattle.plant_check_plans.specs.{is_row_among, kept_progress}
 use Rattle.plant_check_rows.specs.Keys.{id_key, number_key}
-use Rattle.plant_check_rows.specs.{Column, Found, RowFault, Wanted}
-use Rattle.plant_check_rows.specs.First.{in_column, names_none, fault_unless, or_fault, first_reported}
+use Rattle.plant_check_rows.specs.First.{Column, Found, RowFault, Wanted, in_column, names_none, fault_unless, or_fault, first_reported}
 use Rattle.plant_check_rows.specs.declared.fault.Table.TheVariants as table
 use Rattle.plant_check_rows.specs.declared.fault.Column.TheVariants as column
 use Rattle.plant_check_rows.specs.declared.fault.Found.TheVariants as found

@@ -1,14 +1,11 @@
 -- The broken rules, each with the first row that breaks it.
 use Rattle.std.specs.Prelude.{◌≡◌, ℕ, Bool, true, false, not, if◌then◌else◌, List, [], ◌∷◌, codes, filter, Option, Some, None, is_none, is_some}
 use Rattle.plant_base.specs.{Movement, Recall}
-use Rattle.plant_tables_columns.specs.TableColumns.{only_meta}
-use Rattle.plant_tables_read.specs.Loading.{contents_loaded}
-use Rattle.plant_tables_read.specs.{DeskRows, Loaded}
-use Rattle.plant_tables_read.specs.Collecting.{Rows, rows_from, rows_listed}
-use Rattle.plant_check.specs.Broken.{movements_in, recalls_read, obeys, tested_rules, first_broken}
-use Rattle.plant_check.specs.{Rule}
+use Rattle.plant_tables_columns.specs.{only_meta}
+use Rattle.plant_tables_read.specs.{contents_loaded, DeskRows, Loaded, Rows, rows_from, rows_listed}
+use Rattle.plant_check.specs.{movements_in, recalls_read, obeys, tested_rules, first_broken, Rule}
 use Rattle.plant_check.specs.declared.rule.Rule.TheVariants as rule
-use Rattle.plant_check_rows.specs.First.{or_fault}
+use Rattle.plant_check_rows.specs.First.{or_fault, RowFault}
 use Rattle.plant_check_rows.specs.Edges.{edge_fault_in}
 use Rattle.plant_check_rows.specs.Events.{event_fault_in}
 use Rattle.plant_check_rows.specs.Lots.{lot_fault_in}
@@ -21,7 +18,8 @@ use Rattle.plant_check_rows.specs.Receipts.{receipt_fault_in}
 use Rattle.plant_check_rows.specs.Recipes.{recipe_fault_in}
 use Rattle.plant_check_rows.specs.Stocks.{stock_fault_in}
 use Rattle.plant_check_rows.specs.Values.{value_fault_in}
-use Rattle.plant_check_rows.specs.{Finding, RowFault, Tested}
+use Rattle.plant_check_rows.specs.declared.finding.Finding.{Finding}
+use Rattle.plant_check_rows.specs.declared.finding.Tested.{Tested}
 use Rattle.plant_check_rows.specs.declared.finding.Findings.{Findings}
 use Rattle.plant_check_rows.specs.declared.finding.Findings.TheVariants as findings
 

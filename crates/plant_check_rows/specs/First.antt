@@ -1,6 +1,11 @@
 -- What is reported of a row, and the first fault that is reported.
 use Rattle.std.specs.Prelude.{ℕ, Bool, true, false, List, [], ◌∷◌, Option, Some, None}
-use Rattle.plant_check_rows.specs.{Column, Found, Key, RowFault, Table, Wanted}
+pub use Rattle.plant_check_rows.specs.declared.fault.Column.{Column}
+pub use Rattle.plant_check_rows.specs.declared.fault.Found.{Found}
+pub use Rattle.plant_check_rows.specs.declared.fault.Key.{Key}
+pub use Rattle.plant_check_rows.specs.declared.fault.RowFault.{RowFault}
+pub use Rattle.plant_check_rows.specs.declared.fault.Table.{Table}
+pub use Rattle.plant_check_rows.specs.declared.fault.Wanted.{Wanted}
 use Rattle.plant_check_rows.specs.declared.fault.Found.TheVariants as found
 use Rattle.plant_check_rows.specs.declared.fault.Wanted.TheVariants as wanted
 

@@ -18,12 +18,20 @@ pub mod ColumnRules
 pub mod Stored
 pub mod Values
 pub mod Findings
-pub use declared.fault.Column.{Column}
-pub use declared.fault.Found.{Found}
-pub use declared.fault.Key.{Key}
-pub use declared.fault.RowFault.{RowFault}
-pub use declared.fault.Table.{Table}
-pub use declared.fault.Wanted.{Wanted}
+pub use Naming.{column_name, table_name}
+pub use Texts.{fault_text, found_text, wanted_text}
+pub use First.{Column, Found, Key, RowFault, Table, Wanted, fault_unless, first_reported, or_fault}
+pub use Plans.{batch_fault, order_fault, size_fault}
+pub use Recipes.{line_fault, recipe_fault}
+pub use Stocks.{stock_fault}
+pub use Lots.{lot_fault, sublot_fault}
+pub use Movements.{movement_fault, naming_fault}
+pub use Events.{run_fault, run_found}
+pub use Numbers.{event_before, event_fall_fault_in, fall_fault_in, line_fault_in, movement_before}
+pub use ValueRules.{allows_null, allows_text, obeys}
+pub use ColumnRules.{rules_of}
+pub use Values.{AreUnreadIfBad, bad_value, first_bad_value, first_unread, first_unread_of}
+pub use Findings.{AreFindingsOf, IsFirstFound, IsFoundByRow, IsFoundWhereBroken, finding_of, first_rule, head, is_broken_by_row, row_fault, rule_text}
 pub use declared.finding.Finding.{Finding}
 pub use declared.finding.Tested.{Tested}
 pub use declared.value_rule.ValueRule.{ValueRule}

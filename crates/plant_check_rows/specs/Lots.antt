@@ -1,12 +1,11 @@
 -- Lots, sublots and holds that break a rule.
 use Rattle.std.specs.Prelude.{List, map, Option}
 use Rattle.plant_base.specs.{Definition, Hold, Lot, Sublot}
-use Rattle.plant_view.specs.Production.{is_defined}
+use Rattle.plant_view.specs.{is_defined}
 use Rattle.plant_tables_columns.specs.{BookedRow}
-use Rattle.plant_check.specs.Lots.{are_from_zero, sublots_among, is_lot_among, is_born}
+use Rattle.plant_check.specs.{are_from_zero, sublots_among, is_lot_among, is_born}
 use Rattle.plant_check_rows.specs.Keys.{id_key, sublot_key, hold_key}
-use Rattle.plant_check_rows.specs.First.{names_none, as_a_whole, fault_unless, or_fault, first_reported}
-use Rattle.plant_check_rows.specs.{RowFault}
+use Rattle.plant_check_rows.specs.First.{names_none, as_a_whole, fault_unless, or_fault, first_reported, RowFault}
 use Rattle.plant_check_rows.specs.declared.fault.Table.TheVariants as table
 use Rattle.plant_check_rows.specs.declared.fault.Column.TheVariants as column
 use Rattle.plant_check_rows.specs.declared.fault.Wanted.TheVariants as wanted

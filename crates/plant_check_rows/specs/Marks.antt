@@ -2,13 +2,10 @@
 use Rattle.std.specs.Prelude.{Bool, List, Option, None}
 use Rattle.std.specs.List.{list_any}
 use Rattle.std.specs.Ordering.{is_eq}
-use Rattle.plant_base.specs.Recalls.{mark_order}
-use Rattle.plant_base.specs.{Mark, Movement, Recall}
-use Rattle.plant_view.specs.Genealogy.{edges_among}
-use Rattle.plant_view.specs.Recalls.{marks}
+use Rattle.plant_base.specs.{mark_order, Mark, Movement, Recall}
+use Rattle.plant_view.specs.{edges_among, marks}
 use Rattle.plant_check_rows.specs.Keys.{mark_key}
-use Rattle.plant_check_rows.specs.First.{fault_unless, or_fault, first_reported}
-use Rattle.plant_check_rows.specs.{Found, RowFault, Wanted}
+use Rattle.plant_check_rows.specs.First.{fault_unless, or_fault, first_reported, Found, RowFault, Wanted}
 use Rattle.plant_check_rows.specs.declared.fault.Table.TheVariants as table
 use Rattle.plant_check_rows.specs.declared.fault.Found.TheVariants as found
 use Rattle.plant_check_rows.specs.declared.fault.Wanted.TheVariants as wanted

@@ -1,14 +1,12 @@
 -- Movements that break a rule.
 use Rattle.std.specs.Prelude.{ℕ, List, Option, Some, None, is_some}
 use Rattle.plant_base.specs.{BatchRow, ControlLine, Lot, Movement, Sublot}
-use Rattle.plant_stock.specs.Stock.{goes_to, comes_from}
-use Rattle.plant_view.specs.Genealogy.{batch_by}
-use Rattle.plant_tables_columns.specs.Booked.{movement_from}
-use Rattle.plant_tables_columns.specs.{BookedRow}
-use Rattle.plant_check_stock.specs.Movements.{is_there, is_batch_there, is_of_right_definition, is_of_right_merge}
+use Rattle.plant_stock.specs.{goes_to, comes_from}
+use Rattle.plant_view.specs.{batch_by}
+use Rattle.plant_tables_columns.specs.{movement_from, BookedRow}
+use Rattle.plant_check_stock.specs.{is_there, is_batch_there, is_of_right_definition, is_of_right_merge}
 use Rattle.plant_check_rows.specs.Keys.{booked_key}
-use Rattle.plant_check_rows.specs.{Column, Found, RowFault, Wanted}
-use Rattle.plant_check_rows.specs.First.{in_column, fault_unless, or_fault, first_reported}
+use Rattle.plant_check_rows.specs.First.{Column, Found, RowFault, Wanted, in_column, fault_unless, or_fault, first_reported}
 use Rattle.plant_check_rows.specs.declared.fault.Table.TheVariants as table
 use Rattle.plant_check_rows.specs.declared.fault.Column.TheVariants as column
 use Rattle.plant_check_rows.specs.declared.fault.Found.TheVariants as found

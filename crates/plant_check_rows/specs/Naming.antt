@@ -1,6 +1,6 @@
 -- The names of tables and columns in the file.
 use Rattle.std.specs.Prelude.{ℕ, List, codes}
-use Rattle.plant_check_rows.specs.{Column, Table}
+use Rattle.plant_check_rows.specs.First.{Column, Table}
 use Rattle.plant_check_rows.specs.declared.fault.Table.TheVariants as table
 use Rattle.plant_check_rows.specs.declared.fault.Column.TheVariants as column
 

@@ -1,13 +1,11 @@
 -- Movements, events, batches and holds whose number or moment breaks a rule.
 use Rattle.std.specs.Prelude.{ℕ, nat_le, List, [], ◌∷◌, Option, Some, None}
 use Rattle.plant_base.specs.{BatchEvent, BatchRow, Hold, Movement}
-use Rattle.plant_stock.specs.Stock.{comes_from}
-use Rattle.plant_check_stock.specs.Numbering.{is_given, is_next_line, is_apart, is_entered_before}
-use Rattle.plant_check_stock.specs.Times.{row_mark_of, row_mark_of_event, is_no_later}
+use Rattle.plant_stock.specs.{comes_from}
+use Rattle.plant_check_stock.specs.{is_given, is_next_line, is_apart, is_entered_before, row_mark_of, row_mark_of_event, is_no_later}
 use Rattle.plant_check_rows.specs.Keys.{booked_key, id_key, number_key, hold_key}
 use Rattle.plant_check_rows.specs.Movements.{movement_as}
-use Rattle.plant_check_rows.specs.{Column, Found, Key, RowFault, Table, Wanted}
-use Rattle.plant_check_rows.specs.First.{in_column, fault_unless, or_fault, first_reported}
+use Rattle.plant_check_rows.specs.First.{Column, Found, Key, RowFault, Table, Wanted, in_column, fault_unless, or_fault, first_reported}
 use Rattle.plant_check_rows.specs.declared.fault.Table.TheVariants as table
 use Rattle.plant_check_rows.specs.declared.fault.Column.TheVariants as column
 use Rattle.plant_check_rows.specs.declared.fault.Found.TheVariants as found

@@ -1,16 +1,11 @@
 -- Definitions, orders, batches and their lines that break a rule.
 use Rattle.std.specs.Prelude.{◌==◌, List, length, map, filter, Option, Some, None}
-use Rattle.plant_base.specs.State.{same}
-use Rattle.plant_base.specs.{BatchRow, Class, ControlLine, Definition, Job, JobState, MasterLine, Recipe}
+use Rattle.plant_base.specs.{same, BatchRow, Class, ControlLine, Definition, Job, JobState, MasterLine, Recipe}
 use Rattle.plant_base.specs.declared.states.JobState.TheVariants.{Open, Cancelled, Released, Finished}
-use Rattle.plant_view.specs.Production.{is_size_of_recipe, control_among, job_among}
-use Rattle.plant_check_plans.specs.Batches.{control_asked_for, is_control, is_row_among}
-use Rattle.plant_check_plans.specs.Catalogue.{is_class_among}
-use Rattle.plant_check_plans.specs.Orders.{recipe_among, row_of_order, is_started}
-use Rattle.plant_check_plans.specs.Recipes.{are_numbered}
+use Rattle.plant_view.specs.{is_size_of_recipe, control_among, job_among}
+use Rattle.plant_check_plans.specs.{control_asked_for, is_control, is_row_among, is_class_among, recipe_among, row_of_order, is_started, are_numbered}
 use Rattle.plant_check_rows.specs.Keys.{id_key, control_line_key}
-use Rattle.plant_check_rows.specs.First.{in_column, names_none, as_a_whole, fault_unless, or_fault, first_reported}
-use Rattle.plant_check_rows.specs.{RowFault, Wanted}
+use Rattle.plant_check_rows.specs.First.{in_column, names_none, as_a_whole, fault_unless, or_fault, first_reported, RowFault, Wanted}
 use Rattle.plant_check_rows.specs.declared.fault.Table.TheVariants as table
 use Rattle.plant_check_rows.specs.declared.fault.Column.TheVariants as column
 use Rattle.plant_check_rows.specs.declared.fault.Found.TheVariants as found

@@ -1,13 +1,10 @@
 -- Recalls that break a rule.
 use Rattle.std.specs.Prelude.{ℕ, List, Option, is_some}
 use Rattle.plant_base.specs.{Lot, Recall}
-use Rattle.plant_tables_columns.specs.StatedRecalls.{recall_from}
-use Rattle.plant_tables_columns.specs.{StatedRecall}
-use Rattle.plant_check_stock.specs.Movements.{lot_among}
-use Rattle.plant_check_stock.specs.Recalls.{is_timely}
+use Rattle.plant_tables_columns.specs.{recall_from, StatedRecall}
+use Rattle.plant_check_stock.specs.{lot_among, is_timely}
 use Rattle.plant_check_rows.specs.Keys.{id_key}
-use Rattle.plant_check_rows.specs.{Column, Found, RowFault, Wanted}
-use Rattle.plant_check_rows.specs.First.{in_column, fault_unless, or_fault, first_reported}
+use Rattle.plant_check_rows.specs.First.{Column, Found, RowFault, Wanted, in_column, fault_unless, or_fault, first_reported}
 use Rattle.plant_check_rows.specs.declared.fault.Table.TheVariants as table
 use Rattle.plant_check_rows.specs.declared.fault.Column.TheVariants as column
 use Rattle.plant_check_rows.specs.declared.fault.Found.TheVariants as found

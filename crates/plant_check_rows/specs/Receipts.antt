@@ -1,12 +1,9 @@
 -- Receipts that break a rule.
 use Rattle.std.specs.Prelude.{ℕ, ◌==◌, List, length, filter, Option}
-use Rattle.plant_base.specs.Content.{is_content}
-use Rattle.plant_base.specs.{Receipt}
-use Rattle.plant_check_stock.specs.Numbering.{is_given}
-use Rattle.plant_check_stock.specs.Receipts.{seqs_of}
+use Rattle.plant_base.specs.{is_content, Receipt}
+use Rattle.plant_check_stock.specs.{is_given, seqs_of}
 use Rattle.plant_check_rows.specs.Keys.{id_key}
-use Rattle.plant_check_rows.specs.First.{in_column, fault_unless, or_fault, first_reported}
-use Rattle.plant_check_rows.specs.{Column, Found, RowFault, Wanted}
+use Rattle.plant_check_rows.specs.First.{in_column, fault_unless, or_fault, first_reported, Column, Found, RowFault, Wanted}
 use Rattle.plant_check_rows.specs.declared.fault.Table.TheVariants as table
 use Rattle.plant_check_rows.specs.declared.fault.Column.TheVariants as column
 use Rattle.plant_check_rows.specs.declared.fault.Found.TheVariants as found

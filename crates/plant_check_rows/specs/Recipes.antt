@@ -2,12 +2,11 @@
 use Rattle.std.specs.Prelude.{List, map, Option}
 use Rattle.plant_base.specs.{Definition, Header, MasterLine, Recipe, RecipeLine}
 use Rattle.plant_base.specs.declared.rows.RecipeLine.TheVariants as line
-use Rattle.plant_recipe.specs.WellFormed.{is_well_formed}
-use Rattle.plant_view.specs.Production.{is_defined, is_known, rows_among, lines_among}
-use Rattle.plant_check_plans.specs.Recipes.{are_numbered, is_recipe_among}
+use Rattle.plant_recipe.specs.{is_well_formed}
+use Rattle.plant_view.specs.{is_defined, is_known, rows_among, lines_among}
+use Rattle.plant_check_plans.specs.{are_numbered, is_recipe_among}
 use Rattle.plant_check_rows.specs.Keys.{recipe_key, recipe_line_key}
-use Rattle.plant_check_rows.specs.{Found, RowFault}
-use Rattle.plant_check_rows.specs.First.{in_column, names_none, as_a_whole, fault_unless, or_fault, first_reported}
+use Rattle.plant_check_rows.specs.First.{Found, RowFault, in_column, names_none, as_a_whole, fault_unless, or_fault, first_reported}
 use Rattle.plant_check_rows.specs.declared.fault.Table.TheVariants as table
 use Rattle.plant_check_rows.specs.declared.fault.Column.TheVariants as column
 use Rattle.plant_check_rows.specs.declared.fault.Found.TheVariants as found

@@ -3,10 +3,9 @@ use Rattle.std.specs.Prelude.{ℕ, nat_le, List, length, Option, Some, unwrap_or
 use Rattle.sqlite.specs.declared.types.Value.{Value}
 use Rattle.sqlite.specs.declared.types.Value.TheVariants as value
 use Rattle.sqlite.specs.Order.{Row, column}
-use Rattle.plant_base.specs.Options.{◌>>=◌}
-use Rattle.plant_base.specs.Values.{is_text}
-use Rattle.plant_tables_columns.specs.Reading.{greatest_number, id_from, number_from}
-use Rattle.plant_check_rows.specs.{Found, Key, Table}
+use Rattle.plant_base.specs.{◌>>=◌, is_text}
+use Rattle.plant_tables_columns.specs.{greatest_number, id_from, number_from}
+use Rattle.plant_check_rows.specs.First.{Found, Key, Table}
 use Rattle.plant_check_rows.specs.declared.fault.Found.TheVariants as found
 use Rattle.plant_check_rows.specs.declared.fault.Key.TheVariants as key
 use Rattle.plant_check_rows.specs.declared.fault.Table.TheVariants as table

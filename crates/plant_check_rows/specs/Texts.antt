@@ -1,12 +1,12 @@
 -- The texts of rows that break rules.
 use Rattle.std.specs.Prelude.{ℕ, ◌-◌, nat_lt, if◌then◌else◌, List, ◌++◌, codes, decimal, Option, Some, None}
 use Rattle.std.specs.Fmt.{signed_decimal}
-use Rattle.plant_base.specs.Refusals.{name_of}
-use Rattle.plant_base.specs.Words.{batch_state_name, job_state_name}
+use Rattle.plant_base.specs.{name_of, batch_state_name, job_state_name}
 use Rattle.plant_tables_columns.specs.{MovementKindCode}
 use Rattle.plant_tables_columns.specs.declared.booked.MovementKindCode.TheVariants as kind_code
 use Rattle.plant_check_rows.specs.Naming.{table_name, column_name}
-use Rattle.plant_check_rows.specs.{Column, Found, Key, RowFault, ValueRule, Wanted}
+use Rattle.plant_check_rows.specs.declared.value_rule.ValueRule.{ValueRule}
+use Rattle.plant_check_rows.specs.First.{Column, Found, Key, RowFault, Wanted}
 use Rattle.plant_check_rows.specs.declared.fault.Key.TheVariants as key
 use Rattle.plant_check_rows.specs.declared.fault.Found.TheVariants as found
 use Rattle.plant_check_rows.specs.declared.fault.Wanted.TheVariants as wanted

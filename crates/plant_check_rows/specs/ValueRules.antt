@@ -3,13 +3,9 @@ use Rattle.std.specs.Prelude.{ℕ, ℤ, pos, negsuc, Bool, true, false, ◌||◌
 use Rattle.std.specs.List.{list_any}
 use Rattle.sqlite.specs.declared.types.Value.{Value}
 use Rattle.sqlite.specs.declared.types.Value.TheVariants as value
-use Rattle.plant_base.specs.Dates.{is_due}
-use Rattle.plant_base.specs.State.{same}
-use Rattle.plant_base.specs.Values.{is_id, is_text, is_unit}
-use Rattle.plant_base.specs.Words.{recipe_state_name, job_state_name, batch_state_name, word_name}
-use Rattle.plant_tables_columns.specs.Naming.{all_recipe_states, all_job_states, all_batch_states, all_recall_states, all_words, recall_state_name}
-use Rattle.plant_tables_columns.specs.Reading.{is_in, is_no_text}
-use Rattle.plant_check_rows.specs.{ValueRule}
+use Rattle.plant_base.specs.{is_due, same, is_id, is_text, is_unit, recipe_state_name, job_state_name, batch_state_name, word_name}
+use Rattle.plant_tables_columns.specs.{all_recipe_states, all_job_states, all_batch_states, all_recall_states, all_words, recall_state_name, is_in, is_no_text}
+use Rattle.plant_check_rows.specs.declared.value_rule.ValueRule.{ValueRule}
 use Rattle.plant_check_rows.specs.declared.value_rule.ValueRule.TheVariants as rule
 
 abbrev pub allows_null : ValueRule → Bool

@@ -1,8 +1,8 @@
 //! Edges that no movement makes, and edges that are missing.
 ghost use Rattle.std.specs.Prelude.{◌≡◌, IfOk, Option};
-ghost use Rattle.plant_check.specs.Broken.{movements_in};
-ghost use Rattle.plant_check_rows.specs.Edges.{edge_fault_in, is_edge_among, missing_edge, missing_edge_fault};
-ghost use Rattle.plant_check_rows.specs.Edges.{stray_edge_fault};
+ghost use Rattle.plant_check.specs.{movements_in};
+ghost use Rattle.plant_check_rows.specs.Edges.{edge_fault_in, is_edge_among, missing_edge};
+ghost use Rattle.plant_check_rows.specs.Edges.{missing_edge_fault, stray_edge_fault};
 ghost use Rattle.plant_check_rows.specs.First.{first_reported};
 
 use crate::fault::{Found, RowFault, Table, Wanted};

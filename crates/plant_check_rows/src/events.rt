@@ -1,7 +1,8 @@
 //! Batches and events that break a rule.
 ghost use Rattle.std.specs.Prelude.{◌≡◌, IfOk, Result};
-ghost use Rattle.plant_check_rows.specs.Events.{batch_as, closed_number, differ, event_fault, event_fault_in};
-ghost use Rattle.plant_check_rows.specs.Events.{number_as, progress_fault, run_fault, run_found};
+ghost use Rattle.plant_check_rows.specs.Events.{batch_as, closed_number, differ, event_fault};
+ghost use Rattle.plant_check_rows.specs.Events.{event_fault_in, number_as, progress_fault};
+ghost use Rattle.plant_check_rows.specs.Events.{run_fault, run_found};
 ghost use Rattle.plant_check_rows.specs.First.{first_reported};
 
 use crate::fault::{Column, Found, RowFault, Table, Wanted};

@@ -1,10 +1,11 @@
 //! The broken rules, each with the first row that breaks it.
 ghost use Rattle.std.specs.Prelude.{◌≡◌, IfOk, true, not, filter, find};
-ghost use Rattle.plant_tables_read.specs.Collecting.{rows_listed};
-ghost use Rattle.plant_check.specs.Broken.{first_broken_of, obeys, tested_rules};
+ghost use Rattle.plant_tables_read.specs.{rows_listed};
+ghost use Rattle.plant_check.specs.{first_broken_of, obeys, tested_rules};
 ghost use Rattle.plant_check_rows.specs.Values.{AreUnreadIfBad};
 ghost use Rattle.plant_check_rows.specs.Findings as spec;
-ghost use Rattle.plant_check_rows.specs.Findings.{AreFindingsOf, IsFirstFound, IsFoundByRow, IsFoundWhereBroken, IsTestOf};
+ghost use Rattle.plant_check_rows.specs.Findings.{AreFindingsOf, IsFirstFound, IsFoundByRow};
+ghost use Rattle.plant_check_rows.specs.Findings.{IsFoundWhereBroken, IsTestOf};
 
 use crate::edges::edge_fault;
 use crate::events::event_fault;

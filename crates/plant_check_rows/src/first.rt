@@ -1,6 +1,7 @@
 //! What is reported of a row, and the first row that breaks a rule.
 ghost use Rattle.std.specs.Prelude.{◌≡◌, IfOk};
-ghost use Rattle.plant_check_rows.specs.First.{as_a_whole, first_reported, in_column, names_none, or_fault, fault_unless};
+ghost use Rattle.plant_check_rows.specs.First.{as_a_whole, first_reported, in_column, names_none};
+ghost use Rattle.plant_check_rows.specs.First.{or_fault, fault_unless};
 
 use crate::fault::{Column, Found, Key, RowFault, Table, Wanted};
 use plant_base::Id;
@@ -9,7 +10,7 @@ use std::alloc::{AllocError, Global};
 /// What each row of a table has to obey by itself, given the rows that it is compared with.
 pub(crate) trait RowRule<R> {
     ghost use Rattle.std.specs.Prelude.{◌≡◌, Option, IfOk};
-    ghost use Rattle.plant_check_rows.specs.{RowFault as Reported};
+    ghost use Rattle.plant_check_rows.specs.First.{RowFault as Reported};
 
     /// What is wrong with a row.
     ghost fault_of: { Self → R → Option Reported };

@@ -1,7 +1,8 @@
 //! The keys of rows.
 ghost use Rattle.std.specs.Prelude.{◌≡◌};
-ghost use Rattle.plant_check_rows.specs.Keys.{booked_key, control_line_key, edge_key, hold_key, id_key};
-ghost use Rattle.plant_check_rows.specs.Keys.{mark_key, number_key, recipe_key, recipe_line_key, sublot_key};
+ghost use Rattle.plant_check_rows.specs.Keys.{booked_key, control_line_key, edge_key, hold_key};
+ghost use Rattle.plant_check_rows.specs.Keys.{id_key, mark_key, number_key, recipe_key};
+ghost use Rattle.plant_check_rows.specs.Keys.{recipe_line_key, sublot_key};
 
 use crate::fault::Key;
 use plant_base::{ControlLine, EdgeRow, Header, Hold, Id, Mark, MasterLine, Sublot};

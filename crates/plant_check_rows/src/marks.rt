@@ -1,9 +1,9 @@
 //! Marks of what no open recall reaches, and marks that are missing.
 ghost use Rattle.std.specs.Prelude.{◌≡◌, IfOk};
-ghost use Rattle.plant_view.specs.Genealogy.{edges_among};
-ghost use Rattle.plant_view.specs.Recalls.{marks};
+ghost use Rattle.plant_view.specs.{edges_among, marks};
 ghost use Rattle.plant_check_rows.specs.First.{first_reported};
-ghost use Rattle.plant_check_rows.specs.Marks.{is_mark_among, mark_fault, mark_fault_among, mark_fault_in};
+ghost use Rattle.plant_check_rows.specs.Marks.{is_mark_among, mark_fault, mark_fault_among};
+ghost use Rattle.plant_check_rows.specs.Marks.{mark_fault_in};
 
 use crate::fault::{Found, RowFault, Table, Wanted};
 use crate::first::{RowRule, fault_unless, first_fault, or_fault};

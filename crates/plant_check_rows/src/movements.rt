@@ -1,8 +1,8 @@
 //! Movements that break a rule.
 ghost use Rattle.std.specs.Prelude.{◌≡◌, IfOk};
-ghost use Rattle.plant_check_rows.specs.Movements.{id_found, movement_as, movement_fault, movement_fault_in};
-ghost use Rattle.plant_check_rows.specs.Movements.{naming_fault};
-ghost use Rattle.plant_check.specs.Broken.{movements_in};
+ghost use Rattle.plant_check_rows.specs.Movements.{id_found, movement_as, movement_fault};
+ghost use Rattle.plant_check_rows.specs.Movements.{movement_fault_in, naming_fault};
+ghost use Rattle.plant_check.specs.{movements_in};
 ghost use Rattle.plant_check_rows.specs.First.{first_reported};
 
 use crate::fault::{Column, Found, RowFault, Table, Wanted};

@@ -1,12 +1,13 @@
 //! Movements, events, batches and holds whose number or moment breaks a rule.
 ghost use Rattle.std.specs.Prelude.{◌≡◌, List, false, IfOk, IfSome, None};
 ghost use Rattle.plant_base.specs.{BatchEvent as BatchEventRow, Movement as MovementRow};
-ghost use Rattle.plant_check_stock.specs.Times.{is_no_later, never_fall, row_marks};
-ghost use Rattle.plant_check_rows.specs.Numbers.{event_as, event_fall_fault, event_fall_fault_in, fall_fault};
-ghost use Rattle.plant_check_rows.specs.Numbers.{fall_fault_in, late_fault_in, line_fault, line_fault_in};
-ghost use Rattle.plant_check_rows.specs.Numbers.{moment_fault, number_as, number_fault, number_fault_in};
-ghost use Rattle.plant_tables_read.specs.Collecting.{rows_listed};
-ghost use Rattle.plant_check.specs.Broken.{movements_in};
+ghost use Rattle.plant_check_stock.specs.{is_no_later, never_fall, row_marks};
+ghost use Rattle.plant_check_rows.specs.Numbers.{event_as, event_fall_fault, event_fall_fault_in};
+ghost use Rattle.plant_check_rows.specs.Numbers.{fall_fault, fall_fault_in, late_fault_in};
+ghost use Rattle.plant_check_rows.specs.Numbers.{line_fault, line_fault_in, moment_fault};
+ghost use Rattle.plant_check_rows.specs.Numbers.{number_as, number_fault, number_fault_in};
+ghost use Rattle.plant_tables_read.specs.{rows_listed};
+ghost use Rattle.plant_check.specs.{movements_in};
 ghost use Rattle.plant_check_rows.specs.Findings.{numbered_fault_in};
 ghost use Rattle.plant_check_rows.specs.First.{first_reported};
 

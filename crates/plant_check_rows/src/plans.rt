@@ -1,10 +1,9 @@
 //! Definitions, orders, batches and their lines that break a rule.
 ghost use Rattle.std.specs.Prelude.{◌≡◌, IfOk};
 ghost use Rattle.plant_check_rows.specs.Plans.{batch_fault, batch_fault_in, batch_wanted};
-ghost use Rattle.plant_check_rows.specs.Plans.{class_fault_in, control_line_fault};
+ghost use Rattle.plant_check_rows.specs.Plans.{class_fault_in, control_line_fault, order_fault_in};
+ghost use Rattle.plant_check_rows.specs.Plans.{size_fault, start_fault, wrong_size};
 ghost use Rattle.plant_check_rows.specs.First.{first_reported};
-ghost use Rattle.plant_check_rows.specs.Plans.{order_fault_in, size_fault};
-ghost use Rattle.plant_check_rows.specs.Plans.{start_fault, wrong_size};
 
 use crate::fault::{Column, Found, RowFault, Table, Wanted};
 use crate::first::{RowRule, as_a_whole, first_fault, in_column, names_none, or_fault};

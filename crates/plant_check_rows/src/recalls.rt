@@ -1,7 +1,7 @@
 //! Recalls that break a rule.
 ghost use Rattle.std.specs.Prelude.{◌≡◌, IfOk};
-ghost use Rattle.plant_tables_read.specs.Collecting.{rows_listed};
-ghost use Rattle.plant_check.specs.Broken.{movements_in, recalls_read};
+ghost use Rattle.plant_tables_read.specs.{rows_listed};
+ghost use Rattle.plant_check.specs.{movements_in, recalls_read};
 ghost use Rattle.plant_check_rows.specs.Findings.{recalled_fault_in};
 ghost use Rattle.plant_check_rows.specs.Recalls.{recall_as, recall_fault_in};
 

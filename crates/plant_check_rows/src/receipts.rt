@@ -1,6 +1,6 @@
 //! Receipts that break a rule.
 ghost use Rattle.std.specs.Prelude.{◌≡◌, ◌==◌, IfOk, filter, length};
-ghost use Rattle.plant_check_stock.specs.Receipts.{seqs_of};
+ghost use Rattle.plant_check_stock.specs.{seqs_of};
 ghost use Rattle.plant_check_rows.specs.Receipts.{receipt_as, receipt_fault_in};
 
 use crate::fault::{Column, Found, RowFault, Table, Wanted};

@@ -1,8 +1,7 @@
 //! Recipes and their lines that break a rule.
 ghost use Rattle.std.specs.Prelude.{◌≡◌, IfOk};
 ghost use Rattle.plant_check_rows.specs.Recipes.{definition_found, ill_formed_fault, line_fault};
-ghost use Rattle.plant_check_rows.specs.Recipes.{recipe_fault, recipe_fault_in};
-ghost use Rattle.plant_check_rows.specs.Recipes.{stray_line_fault};
+ghost use Rattle.plant_check_rows.specs.Recipes.{recipe_fault, recipe_fault_in, stray_line_fault};
 ghost use Rattle.plant_check_rows.specs.First.{first_reported};
 
 use crate::fault::{Column, Found, RowFault, Table, Wanted};

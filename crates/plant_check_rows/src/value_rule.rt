@@ -1,7 +1,7 @@
 //! The rules of stored values.
 ghost use Rattle.std.specs.Prelude.{◌≡◌};
 ghost use Rattle.std.specs.List.{list_any};
-ghost use Rattle.plant_base.specs.State.{same};
+ghost use Rattle.plant_base.specs.{same};
 ghost use Rattle.sqlite_value.specs.Value.{owned};
 ghost use Rattle.plant_check_rows.specs.ValueRules as spec;
 

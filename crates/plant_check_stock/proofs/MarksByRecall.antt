@@ -1,22 +1,17 @@
 -- Marks found recall by recall.
-use Rattle.std.proofs.Common.{◌≡◌, ◌∙◌, ℕ, ◌<◌, ◌≤◌, Bool, true, false, cond, List, [], ◌∷◌, ◌++◌, map, length, sym, subst, ap, ⊎_elim, refl, Contains, arith}
-use Rattle.std.specs.Prelude.{◌||◌}
-use Rattle.std.specs.List.{flat_map, list_any}
+use Rattle.std.proofs.Common.{◌≡◌, ◌∙◌, ℕ, ◌<◌, ◌≤◌, Bool, true, false, cond, List, [], ◌∷◌, ◌++◌, map, length, sym, subst, ap, ⊎_elim, refl, Contains, arith, ◌||◌, flat_map}
+use Rattle.std.specs.List.{list_any}
 use Rattle.std.proofs.lemmas.Bool.{false≢true, false_from_ne_true}
 use Rattle.std.proofs.lemmas.Grind.{flat_map-append}
 use Rattle.std.proofs.lemmas.List.Elements.{Contains-append_cases, Contains-append_left, Contains-push}
-use Rattle.plant_base.specs.Recalls.{is_open, mark_order, mark_eq, mark_ties, mark_total}
-use Rattle.plant_base.specs.{Mark, Recall}
-use Rattle.plant_trace.specs.Reach.{Lists}
-use Rattle.plant_trace.specs.Recalls.{IsRecalled}
-use Rattle.plant_trace.specs.{Node}
+use Rattle.plant_base.specs.{is_open, mark_order, mark_eq, mark_ties, mark_total, Mark, Recall}
+use Rattle.plant_trace.specs.{Lists, IsRecalled, Node}
 use Rattle.plant_trace.proofs.LeadsIsReach.{none_in, first_or_rest}
-use Rattle.plant_view.specs.Recalls.{mark_on, node_of, nodes_from, marks_of, marks, Reaches}
-use Rattle.plant_view.specs.Rows.{put_all}
+use Rattle.plant_view.specs.{mark_on, node_of, nodes_from, marks_of, marks, Reaches, put_all}
 use Rattle.plant_view.proofs.EdgeRowOrder.{put_all_append}
 use Rattle.plant_view.proofs.MarkChanges.{mark_exact, marks_sorted, marks_only, marks_all, same_marks, recall_on, node_on, on_node}
 use Rattle.plant_view.proofs.Membership.{all_in, all_stay, put_all_from, sorted_put_all, map_in, map_from}
-use Rattle.plant_check_stock.specs.Marks.{are_same_marks}
+use Rattle.plant_check_stock.specs.{are_same_marks}
 use Rattle.plant_check_stock.proofs.SetsOfKeys as sets
 
 -- ---- rows that are compared with the marks

@@ -1,14 +1,11 @@
 -- Marks in the order of their numbers and moments: the moments don't fall as the numbers rise where none falls below the
 -- one before it.
-use Rattle.std.proofs.Common.{◌≡◌, ◌∙◌, ℕ, suc, ◌+◌, ◌<◌, ◌≤◌, Bool, true, false, List, [], ◌∷◌, length, refl, sym, ap, subst, inl, inr, arith, slice_index_or}
-use Rattle.std.specs.Prelude.{◌⊎◌, ◌&&◌, nat_le, ⊤, IsPermutation}
+use Rattle.std.proofs.Common.{◌≡◌, ◌∙◌, ℕ, suc, ◌+◌, ◌<◌, ◌≤◌, Bool, true, false, List, [], ◌∷◌, length, refl, sym, ap, subst, inl, inr, arith, slice_index_or, ◌⊎◌, ◌&&◌, nat_le, IsPermutation, IsSorted, Ordering, Less, Equal, nat_cmp, is_lt, leb-true, le-leb}
+use Rattle.std.specs.Prelude.{⊤}
 use Rattle.std.specs.List.{AllByRecursion, list_all}
-use Rattle.std.specs.List.Sorted.{IsSorted}
-use Rattle.std.specs.declared.cmp.Ordering.{Ordering}
-use Rattle.std.specs.declared.cmp.Ordering.TheVariants.{Less, Equal}
-use Rattle.std.specs.Ordering.{nat_cmp, is_lt, ordering_then}
+use Rattle.std.specs.Ordering.{ordering_then}
 use Rattle.std.specs.Cmp.{nat_cmp_is}
-use Rattle.std.proofs.lemmas.Bool.{false≢true, leb-true, le-leb, and_from, cases_lt, cases_eq}
+use Rattle.std.proofs.lemmas.Bool.{false≢true, and_from, cases_lt, cases_eq}
 use Rattle.std.proofs.lemmas.Bool.Decides.{nat_tests}
 use Rattle.std.proofs.lemmas.List.Sums.{AllPass-from_list_all, list_all-from_AllPass}
 use Rattle.std.proofs.lemmas.List.Sorted.{All-permutation, IsPermutation-sym}
@@ -17,7 +14,7 @@ use Rattle.plant_base.proofs.PutKeepsOrder.{all_weaker}
 use Rattle.plant_view.proofs.CommandsPreserveInvariant.{all_two}
 use Rattle.plant_view.proofs.RowsInTurn.{each_passes}
 use Rattle.plant_view.proofs.TestsAndSums.{and_left, and_right}
-use Rattle.plant_check_stock.specs.Times.{is_no_later, never_fall, rises}
+use Rattle.plant_check_stock.specs.{is_no_later, never_fall, rises}
 
 abbrev Mark : Type 0
 Mark = ℕ × ℕ

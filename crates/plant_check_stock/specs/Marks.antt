@@ -2,11 +2,9 @@
 use Rattle.std.specs.Prelude.{◌≡◌, ◌<◌, ℕ, Bool, List, length, Option, Some, None, Vec}
 use Rattle.std.specs.Global.{Global}
 use Rattle.std.specs.Cmp.Lexicographic.{pointwise}
-use Rattle.plant_base.specs.Recalls.{mark_eq}
-use Rattle.plant_base.specs.{Mark, Movement, Recall}
+use Rattle.plant_base.specs.{mark_eq, Mark, Movement, Recall}
 use Rattle.plant_trace.specs.{Node}
-use Rattle.plant_view.specs.Genealogy.{edges_among}
-use Rattle.plant_view.specs.Recalls.{marks}
+use Rattle.plant_view.specs.{edges_among, marks}
 
 -- the same rows in the same order
 abbrev pub are_same_marks : List Mark → List Mark → Bool

@@ -1,14 +1,11 @@
 -- What movements name, and what their definitions are.
 use Rattle.std.specs.Prelude.{ℕ, Bool, true, false, not, ◌&&◌, ◌||◌, ◌==◌, nat_le, List, [], ◌∷◌, length, filter, Option, Some, None, find}
 use Rattle.std.specs.List.{list_any, list_all}
-use Rattle.plant_base.specs.State.{same}
-use Rattle.plant_base.specs.{BatchRow, ControlLine, Lot, Movement, MovementKind, Sublot}
+use Rattle.plant_base.specs.{same, BatchRow, ControlLine, Lot, Movement, MovementKind, Sublot}
 use Rattle.plant_base.specs.declared.rows.MovementKind.TheVariants as kind
-use Rattle.plant_stock.specs.Stock.{goes_to, comes_from, is_one_source, greatest_parts}
-use Rattle.plant_view.specs.Genealogy.{batch_by}
-use Rattle.plant_view.specs.Production.{control_among}
-use Rattle.plant_check_plans.specs.Batches.{is_row_among}
-use Rattle.plant_view.specs.Materials.{is_taken, is_made}
+use Rattle.plant_stock.specs.{goes_to, comes_from, is_one_source, greatest_parts}
+use Rattle.plant_view.specs.{batch_by, control_among, is_taken, is_made}
+use Rattle.plant_check_plans.specs.{is_row_among}
 
 -- ---- what is named is there
 

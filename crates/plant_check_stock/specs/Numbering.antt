@@ -2,7 +2,7 @@
 use Rattle.std.specs.Prelude.{ℕ, ◌+◌, Bool, true, not, ◌&&◌, ◌==◌, nat_le, nat_lt, if◌then◌else◌, List, [], ◌∷◌, Option, Some, None}
 use Rattle.std.specs.List.{list_any, list_all}
 use Rattle.plant_base.specs.{BatchEvent, Movement}
-use Rattle.plant_stock.specs.Stock.{comes_from, entries, are_one_merge}
+use Rattle.plant_stock.specs.{comes_from, entries, are_one_merge}
 
 -- the number of an accepted command
 abbrev pub is_given : ℕ → ℕ → Bool

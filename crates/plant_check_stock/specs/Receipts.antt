@@ -1,8 +1,7 @@
 -- The numbers and the contents of receipts.
 use Rattle.std.specs.Prelude.{ℕ, Bool, true, not, ◌&&◌, ◌==◌, List, [], ◌∷◌, map}
 use Rattle.std.specs.List.{list_all, list_any}
-use Rattle.plant_base.specs.Content.{is_content}
-use Rattle.plant_base.specs.{Receipt}
+use Rattle.plant_base.specs.{is_content, Receipt}
 use Rattle.plant_check_stock.specs.Numbering.{is_given}
 
 -- the number is that of an accepted command, and the content is made of what contents are made of

@@ -2,7 +2,7 @@
 
 ghost use Rattle.std.specs.Prelude.{◌≡◌, ◌==◌, Some, None, if◌then◌else◌};
 ghost use Rattle.std.specs.List.{list_any};
-ghost use Rattle.plant_stock.specs.Stock.{entries, goes_to};
+ghost use Rattle.plant_stock.specs.{entries, goes_to};
 ghost use Rattle.plant_check_stock.specs.Movements.{lot_among, is_merged, is_there, parts_of};
 
 use grouped_rows::{Grouped, Grouping};

@@ -2,12 +2,9 @@
 
 ghost use Rattle.std.specs.Prelude.{◌≡◌, ◌∷◌, ◌++◌, [], List, IfOk, OnOk, map};
 ghost use Rattle.std.specs.List.{list_any};
-ghost use Rattle.plant_base.specs.Recalls.{is_open, mark_order};
-ghost use Rattle.plant_base.specs.{Recall};
-ghost use Rattle.plant_trace.specs.Reach.{Lists};
-ghost use Rattle.plant_trace.specs.Recalls.{IsRecalled};
-ghost use Rattle.plant_view.specs.Recalls.{mark_on, marks};
-ghost use Rattle.plant_view.specs.Rows.{put_all};
+ghost use Rattle.plant_base.specs.{is_open, mark_order, Recall};
+ghost use Rattle.plant_trace.specs.{Lists, IsRecalled};
+ghost use Rattle.plant_view.specs.{mark_on, marks, put_all};
 ghost use Rattle.plant_check_stock.specs.Marks.{are_same_marks, are_marks, AreExpected};
 
 use plant_base::{Id, Mark, Movement, Recall};

@@ -2,12 +2,11 @@
 
 ghost use Rattle.std.specs.Prelude.{◌≡◌, IfOk};
 ghost use Rattle.std.specs.List.{list_any};
-ghost use Rattle.plant_stock.specs.Stock.{is_one_source};
-ghost use Rattle.plant_view.specs.Genealogy.{batch_by};
+ghost use Rattle.plant_stock.specs.{is_one_source};
+ghost use Rattle.plant_view.specs.{batch_by};
 ghost use Rattle.plant_check_stock.specs.Movements.{is_batch_there, are_of_one, is_asked_for};
 ghost use Rattle.plant_check_stock.specs.Movements.{is_yielded, is_of_right_definition, is_merged};
-ghost use Rattle.plant_check_stock.specs.Movements.{are_distinct};
-ghost use Rattle.plant_check_stock.specs.Movements.{are_parts, is_of_right_merge};
+ghost use Rattle.plant_check_stock.specs.Movements.{are_distinct, are_parts, is_of_right_merge};
 
 use crate::keys::{Lots, Parts, Sublots, lot_at, parts_of};
 use grouped_rows::Grouped;

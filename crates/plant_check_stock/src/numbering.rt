@@ -3,10 +3,10 @@
 ghost use Rattle.std.specs.Prelude.{◌≡◌, IfOk, Some, None, nat_lt};
 ghost use Rattle.std.specs.List.{list_all};
 ghost use Rattle.plant_base.specs.declared.rows.MovementKind.TheVariants as kind;
-ghost use Rattle.plant_stock.specs.Stock.{are_one_merge};
-ghost use Rattle.plant_check_stock.specs.Numbering.{is_given, is_next_part, is_line_after, is_next_line};
-ghost use Rattle.plant_check_stock.specs.Numbering.{are_lines};
-ghost use Rattle.plant_check_stock.specs.Numbering.{is_entered_before, has_right_number, are_numbers};
+ghost use Rattle.plant_stock.specs.{are_one_merge};
+ghost use Rattle.plant_check_stock.specs.Numbering.{is_given, is_next_part, is_line_after};
+ghost use Rattle.plant_check_stock.specs.Numbering.{is_next_line, are_lines, is_entered_before};
+ghost use Rattle.plant_check_stock.specs.Numbering.{has_right_number, are_numbers};
 
 use crate::keys::{EnteredSublots, EventNumbers, entries, has_event};
 use grouped_rows::Grouped;

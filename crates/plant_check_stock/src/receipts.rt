@@ -4,8 +4,9 @@ ghost use Rattle.std.specs.Prelude.{◌≡◌, IfOk};
 ghost use Rattle.std.specs.BTreeSet.{IsFromIterResult};
 ghost use Rattle.std.specs.List.{list_all};
 ghost use Rattle.std.specs.Ordering.{nat_cmp};
-ghost use Rattle.plant_base.specs.Content.{is_content, is_content_byte, is_there};
-ghost use Rattle.plant_check_stock.specs.Receipts.{is_right_receipt, are_distinct, seqs_of, are_receipts};
+ghost use Rattle.plant_base.specs.{is_content, is_content_byte, is_there};
+ghost use Rattle.plant_check_stock.specs.Receipts.{is_right_receipt, are_distinct, seqs_of};
+ghost use Rattle.plant_check_stock.specs.Receipts.{are_receipts};
 
 use crate::numbering::is_given;
 use plant_base::Receipt;

@@ -2,9 +2,7 @@
 
 ghost use Rattle.std.specs.Prelude.{◌≡◌, IfOk, nat_le};
 ghost use Rattle.std.specs.List.{list_all};
-ghost use Rattle.plant_check_stock.specs.Times.{row_marks, never_fall, rises};
-ghost use Rattle.plant_check_stock.specs.Times.{are_by};
-ghost use Rattle.plant_check_stock.specs.Times.{are_times};
+ghost use Rattle.plant_check_stock.specs.Times.{row_marks, never_fall, rises, are_by, are_times};
 
 use plant_base::{BatchEvent, BatchRow, Hold, Moment, Movement};
 use std::alloc::{AllocError, Global};

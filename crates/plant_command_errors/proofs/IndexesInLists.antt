@@ -1,8 +1,7 @@
 -- Positions in a list, found one after the other.
-use Rattle.std.proofs.Common.{◌≡◌, ◌∙◌, ℕ, ◌+◌, ◌-◌, ◌<◌, ◌≤◌, Bool, true, false, List, [], ◌∷◌, length, take, drop, get_or, Option, Some, None, refl, ap, sym, arith}
-use Rattle.std.specs.Prelude.{if◌then◌else◌}
-use Rattle.std.proofs.lemmas.List.{at_drop_more, at_drop_all, length-drop, take_all}
-use Rattle.plant_command_errors.specs.CommandErrors.{index_of, one_more, pair_of, pair_with}
+use Rattle.std.proofs.Common.{◌≡◌, ◌∙◌, ℕ, ◌+◌, ◌-◌, ◌<◌, ◌≤◌, Bool, true, false, List, [], ◌∷◌, length, take, drop, get_or, Option, Some, None, refl, ap, sym, arith, if◌then◌else◌, length-drop, take_all}
+use Rattle.std.proofs.lemmas.List.{at_drop_more, at_drop_all}
+use Rattle.plant_command_errors.specs.{index_of, one_more, pair_of, pair_with}
 
 -- a position by so many more
 abbrev pub place_on : ℕ → Option ℕ → Option ℕ

@@ -1,14 +1,12 @@
 -- A command has no misfit just where it is whole.
-use Rattle.std.proofs.Common.{◌≡◌, ◌∙◌, ℕ, Bool, true, false, List, [], ◌∷◌, length, Option, Some, None, refl, ap, sym, subst}
-use Rattle.std.specs.Prelude.{◌↔◌, ◌&&◌, ◌||◌, not, nat_le, if◌then◌else◌, is_none}
+use Rattle.std.proofs.Common.{◌≡◌, ◌∙◌, ℕ, Bool, true, false, List, [], ◌∷◌, length, Option, Some, None, refl, ap, sym, subst, ◌↔◌, ◌&&◌, ◌||◌, not, nat_le, if◌then◌else◌, is_none}
 use Rattle.std.specs.List.{list_any, list_all}
 use Rattle.std.proofs.lemmas.Bool.{false≢true, and_from}
-use Rattle.plant_base.specs.WellFormedCommands.{is_well_formed_command, are_parts, are_apart, has_sublot, has_numbers, are_orders, is_version, is_same_sublot}
-use Rattle.plant_base.specs.{Command, Header, OrderRow, Part, RecipeLine}
+use Rattle.plant_base.specs.{is_well_formed_command, are_parts, are_apart, has_sublot, has_numbers, are_orders, is_version, is_same_sublot, Command, Header, OrderRow, Part, RecipeLine}
 use Rattle.plant_base.specs.declared.command.Command.TheVariants as body
-use Rattle.plant_recipe.specs.WellFormed.{has_allowed_length, has_size_range, has_phase, has_product, has_no_repeats, all_fit, repeats, fits, is_well_formed}
-use Rattle.plant_rules.specs.Wrong.{is_whole}
-use Rattle.plant_command_errors.specs.CommandErrors.{index_of, one_more, pair_of, pair_with, unless, first_of, parts_again, lines_again, too_much, parts_error, orders_error, lines_error, amounts_error, recipe_error, list_error, command_error_of}
+use Rattle.plant_recipe.specs.{has_allowed_length, has_size_range, has_phase, has_product, has_no_repeats, all_fit, repeats, fits, is_well_formed}
+use Rattle.plant_rules.specs.{is_whole}
+use Rattle.plant_command_errors.specs.{index_of, one_more, pair_of, pair_with, unless, first_of, parts_again, lines_again, too_much, parts_error, orders_error, lines_error, amounts_error, recipe_error, list_error, command_error_of}
 use Rattle.plant_command_errors.specs.declared.command_errors.CommandError.{CommandError}
 use Rattle.plant_command_errors.specs.declared.command_errors.CommandError.TheVariants as command_error
 

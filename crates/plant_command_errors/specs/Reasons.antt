@@ -1,6 +1,6 @@
 -- The words of what is of bad form.
 use Rattle.std.specs.Prelude.{ℕ, List}
-use Rattle.plant_message_schema.specs.FormatErrors.{format_error_text}
+use Rattle.plant_message_schema.specs.{format_error_text}
 use Rattle.plant_command_errors.specs.CommandErrors.{command_error_text}
 use Rattle.plant_command_errors.specs.declared.reason.Reason.{Reason}
 use Rattle.plant_command_errors.specs.declared.reason.Reason.TheVariants as reason

@@ -1,10 +1,12 @@
 //! Why a command is refused whatever the desk's state, though each of its members keeps its rule.
 ghost use Rattle.std.specs.Prelude.{◌≡◌, ◌<◌, ◌↔◌, length, true, not, Some, None, IfSome};
-ghost use Rattle.plant_recipe.specs.WellFormed.{repeats, fits};
-ghost use Rattle.plant_base.specs.WellFormedCommands.{is_same_sublot};
-ghost use Rattle.plant_rules.specs.Wrong.{is_whole};
-ghost use Rattle.plant_command_errors.specs.CommandErrors.{index_of, pair_of, parts_error, orders_error};
-ghost use Rattle.plant_command_errors.specs.CommandErrors.{lines_error, amounts_error, recipe_error, list_error, command_error_of, command_error_text};
+ghost use Rattle.plant_recipe.specs.{repeats, fits};
+ghost use Rattle.plant_base.specs.{is_same_sublot};
+ghost use Rattle.plant_rules.specs.{is_whole};
+ghost use Rattle.plant_command_errors.specs.CommandErrors.{index_of, pair_of, parts_error};
+ghost use Rattle.plant_command_errors.specs.CommandErrors.{orders_error, lines_error};
+ghost use Rattle.plant_command_errors.specs.CommandErrors.{amounts_error, recipe_error, list_error};
+ghost use Rattle.plant_command_errors.specs.CommandErrors.{command_error_of, command_error_text};
 
 use plant_base::{
     Amount, Command, GREATEST_AMOUNT, GREATEST_ORDERS, GREATEST_PARTS, Header, Id, OrderRow, Part,

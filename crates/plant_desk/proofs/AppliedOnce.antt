@@ -1,22 +1,16 @@
 -- Commands with references act once.
-use Rattle.std.proofs.Common.{◌≡◌, ◌∙◌, ℕ, Bool, true, false, cond, List, [], ◌∷◌, ◌++◌, Option, Some, None, refl, sym, ap, subst, find}
-use Rattle.std.specs.Prelude.{not, IsSome, is_some, is_none, ◌||◌, nat_lt}
+use Rattle.std.proofs.Common.{◌≡◌, ◌∙◌, ℕ, Bool, true, false, cond, List, [], ◌∷◌, ◌++◌, Option, Some, None, refl, sym, ap, subst, find, not, IsSome, is_some, is_none, ◌||◌, nat_lt}
 use Rattle.std.specs.List.{list_any}
 use Rattle.std.proofs.lemmas.Bool.{false≢true}
-use Rattle.plant_base.specs.State.{State, same, put, receipt_order}
-use Rattle.plant_base.specs.Content.{content_of}
-use Rattle.plant_base.specs.WellFormedCommands.{stamp_of}
+use Rattle.plant_base.specs.{State, same, put, receipt_order, content_of, stamp_of, Envelope, Receipt, Refusal}
 use Rattle.plant_base.proofs.PutKeepsOrder.{found_put, found_same}
 use Rattle.plant_base.proofs.KeyOrders.{same_itself, same_id, id_tie}
-use Rattle.plant_base.specs.{Envelope, Receipt, Refusal}
 use Rattle.plant_base.specs.declared.refusal.Refusal.TheVariants.{BadForm, MomentBack}
-use Rattle.plant_view.specs.Refusals.{refuse}
-use Rattle.plant_rules.specs.Wrong.{is_whole, wrong, wrong_plain, wrong_there, kept_among, kept_for, decoded}
-use Rattle.plant_rules.specs.Step.{step, step_body, step_plain, unless_refused, noted, taken}
+use Rattle.plant_view.specs.{refuse}
+use Rattle.plant_rules.specs.{is_whole, wrong, wrong_plain, wrong_there, kept_among, kept_for, decoded, step, step_body, step_plain, unless_refused, noted, taken}
 use Rattle.plant_rules.proofs.ReceiptDecisions.{next_receipts, blind_step, blind_wrong}
-use Rattle.plant_desk.specs.Runs.{fold}
-use Rattle.plant_desk.specs.Sendings.{Outcome, answered, stopped_before, stopped_after, Sending, after, state_after_sending, with_answer, answered_of, BeginsWith, IsResent, IsPersistent}
-use Rattle.plant_desk.specs.AppliedOnce.{accepted, is_same_reference, is_known, once_after, plain, but_receipts, AppliedOnce}
+use Rattle.plant_desk.specs.{fold, Outcome, answered, stopped_before, stopped_after, Sending, after, state_after_sending, with_answer, answered_of, BeginsWith, IsResent, IsPersistent, accepted, is_same_reference, is_known, once_after, plain, but_receipts}
+use Rattle.plant_desk.specs.AppliedOnce.{AppliedOnce}
 use Rattle.std.proofs.Math.Bool.{or_assoc, or-true, or-false}
 use Rattle.plant_desk.proofs.RunExtends.{fold_push}
 use Rattle.plant_desk.proofs.ListKeeperSteps.{unless_same}

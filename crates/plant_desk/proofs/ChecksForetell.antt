@@ -1,12 +1,9 @@
 -- A check says what the command would be answered.
 use Rattle.std.proofs.Common.{◌≡◌, ℕ, Option, Some, None, refl}
-use Rattle.plant_base.specs.State.{State}
-use Rattle.plant_base.specs.{Command, Envelope, Refusal}
-use Rattle.plant_rules.specs.Wrong.{wrong, kept_for}
-use Rattle.plant_rules.specs.Step.{step}
-use Rattle.plant_causes.specs.Causes.{checked, checked_by}
-use Rattle.plant_desk.specs.Foretold.{refusal_told, refusal_foretold}
-use Rattle.plant_desk.specs.Replies.{reply, reply_by, number_of}
+use Rattle.plant_base.specs.{State, Command, Envelope, Refusal}
+use Rattle.plant_rules.specs.{wrong, kept_for, step}
+use Rattle.plant_causes.specs.{checked, checked_by}
+use Rattle.plant_desk.specs.{refusal_told, refusal_foretold, reply, reply_by, number_of}
 
 same_refusal : (s : State) (c : Command) (w : Option Refusal) (n : ℕ) → refusal_foretold (checked_by s c w) ≡ refusal_told (reply_by w n)
 same_refusal s c None n = refl

@@ -1,19 +1,12 @@
 -- Where a command leaves a keeper of lists.
-use Rattle.std.proofs.Common.{◌≡◌, ◌∙◌, ℕ, Option, Some, None, Result, Ok, Err, IfOk, OnOk, OnErr, true, refl, subst, sym, ap}
-use Rattle.std.specs.Prelude.{not, if◌then◌else◌}
-use Rattle.plant_base.specs.State.{State}
-use Rattle.plant_base.specs.WellFormedCommands.{HasValues}
-use Rattle.plant_base.specs.{Envelope, Receipt, Refusal}
+use Rattle.std.proofs.Common.{◌≡◌, ◌∙◌, ℕ, Option, Some, None, Result, Ok, Err, IfOk, OnOk, OnErr, true, refl, subst, sym, ap, not, if◌then◌else◌}
+use Rattle.plant_base.specs.{State, HasValues, Envelope, Receipt, Refusal, content_of, same}
 use Rattle.plant_view.specs.DecisionInvariant.{DecisionInvariant}
-use Rattle.plant_base.specs.Content.{content_of}
-use Rattle.plant_base.specs.State.{same}
 use Rattle.plant_base.proofs.KeyOrders.{same_itself}
 use Rattle.plant_base.specs.declared.refusal.Refusal.TheVariants.{BadForm, RefReused}
-use Rattle.plant_view.specs.Refusals.{refuse}
-use Rattle.plant_rules.specs.Step.{step, unless_refused, taken, IsRepeated}
-use Rattle.plant_rules.specs.Wrong.{is_whole, wrong, wrong_there, kept_for, decoded}
-use Rattle.plant_desk.specs.Keepers.{writes_nothing}
-use Rattle.plant_desk.specs.Replies.{reply, reply_by, number_of}
+use Rattle.plant_view.specs.{refuse}
+use Rattle.plant_rules.specs.{step, unless_refused, taken, IsRepeated, is_whole, wrong, wrong_there, kept_for, decoded}
+use Rattle.plant_desk.specs.{writes_nothing, reply, reply_by, number_of}
 use Rattle.plant_messages.specs.{DeskFault, Reply}
 use Rattle.plant_messages.specs.declared.reply.Reply.TheVariants.{Accepted, Refused}
 use Rattle.plant_rules.proofs.StepPreservesInvariant.{step_preserves_invariant}

@@ -1,12 +1,12 @@
 -- Row changes that lead to the tables of a state lead the plain lists to that state.
 use Rattle.std.proofs.Common.{◌≡◌, ◌∙◌, List, [], ◌∷◌, refl, sym, ap}
-use Rattle.plant_base.specs.State.{State, newest_schema, batch_order, place_order}
+use Rattle.plant_base.specs.{State, newest_schema, batch_order, place_order}
 use Rattle.plant_base.proofs.PutKeepsOrder.{put_kept}
-use Rattle.plant_view.specs.{RowChange}
+use Rattle.plant_view.specs.{RowChange, state_without_kept, tables_of, changed, changed_all, batch_row_order, sublot_order, place_of_row, batch_of_row}
 use Rattle.plant_view.specs.declared.change.RowChange.TheVariants as row
-use Rattle.plant_view.specs.Tables.{state_without_kept, Tables, tables_of, changed, changed_all, batch_row_order, sublot_order, place_of_row, batch_of_row}
+use Rattle.plant_view.specs.Tables.{Tables}
 use Rattle.plant_answers.proofs.PlainTables.{plain_tables, whole_in_newest}
-use Rattle.plant_desk.specs.Lists.{applied, applied_all}
+use Rattle.plant_desk.specs.{applied, applied_all}
 
 plain_changed : (c : RowChange) (t : Tables) → state_without_kept (changed c t) ≡ applied c (state_without_kept t)
 plain_changed (row.Batch r) t = λ i. record (state_without_kept t) { batches = put_kept batch_of_row batch_row_order batch_order (λ a b. refl) r t.batches i }

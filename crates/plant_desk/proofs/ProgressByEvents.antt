@@ -1,14 +1,12 @@
 -- The progress of a batch, event by event of all batches.
-use Rattle.std.proofs.Common.{◌≡◌, ℕ, ◌+◌, ◌<◌, Bool, true, false, if◌then◌else◌, List, [], ◌∷◌, ◌++◌, length, take, map, filter, get_or, ap, ◌∙◌}
-use Rattle.std.specs.Prelude.{cond}
-use Rattle.std.proofs.lemmas.List.{append-nil, map-append}
+use Rattle.std.proofs.Common.{◌≡◌, ℕ, ◌+◌, ◌<◌, Bool, true, false, if◌then◌else◌, List, [], ◌∷◌, ◌++◌, length, take, map, filter, get_or, ap, ◌∙◌, cond, append-nil}
+use Rattle.std.proofs.lemmas.List.{map-append}
 use Rattle.std.proofs.lemmas.List.Elements.{filter_more}
-use Rattle.plant_base.specs.State.{same}
-use Rattle.plant_base.specs.{BatchEvent}
-use Rattle.plant_recipe.specs.Progress.{progress_after, turn_or_stay}
+use Rattle.plant_base.specs.{same, BatchEvent}
+use Rattle.plant_recipe.specs.{progress_after, turn_or_stay}
 use Rattle.plant_recipe.proofs.EventFold.{progress_after_push}
-use Rattle.plant_view.specs.Tables.{events_among}
-use Rattle.plant_desk.specs.Batches.{next_progress}
+use Rattle.plant_view.specs.{events_among}
+use Rattle.plant_desk.specs.{next_progress}
 
 module _ (phases : ℕ) (prefix : List BatchEvent) (e : BatchEvent) where
   -- with one more event, if it is the batch's

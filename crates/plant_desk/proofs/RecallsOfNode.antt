@@ -1,21 +1,16 @@
 -- The recalls that reach a node are those whose lots lead to it.
-use Rattle.std.proofs.Common.{◌≡◌, ◌∙◌, ℕ, Bool, true, false, cond, List, [], ◌∷◌, filter, sym, subst, ap, inl, inr, ⊎_elim, refl, Contains}
-use Rattle.std.specs.Prelude.{◌&&◌, ◌||◌}
+use Rattle.std.proofs.Common.{◌≡◌, ◌∙◌, ℕ, Bool, true, false, cond, List, [], ◌∷◌, filter, sym, subst, ap, inl, inr, ⊎_elim, refl, Contains, ◌&&◌, ◌||◌}
 use Rattle.std.specs.List.{list_any}
 use Rattle.std.proofs.lemmas.Bool.{false≢true, or_cases, or_left, or_right}
 use Rattle.std.proofs.lemmas.List.Folds.{Any-from_list_any, list_any-from_Any}
-use Rattle.plant_base.specs.Recalls.{is_open}
-use Rattle.plant_base.specs.{Recall}
-use Rattle.plant_trace.specs.Nodes.{node_eq}
-use Rattle.plant_trace.specs.Reach.{Lists, IsReached}
-use Rattle.plant_trace.specs.Recalls.{is_recalled}
+use Rattle.plant_base.specs.{is_open, Recall}
+use Rattle.plant_trace.specs.{node_eq, Lists, IsReached, is_recalled, Node}
 use Rattle.plant_trace.specs.declared.direction.Direction.TheVariants.{Back}
-use Rattle.plant_trace.specs.{Node}
 use Rattle.plant_trace.specs.declared.node.Node.TheVariants as node
 use Rattle.plant_trace.proofs.NodeOrder.{node_eq_exact, node_eq_itself}
 use Rattle.plant_trace.proofs.RecallReaches.{recalled_where_reached}
-use Rattle.plant_view.specs.Recalls.{recalls_on}
-use Rattle.plant_desk.specs.Marking.{reaches_by}
+use Rattle.plant_view.specs.{recalls_on}
+use Rattle.plant_desk.specs.{reaches_by}
 
 module _ (pairs : List (Node × Node)) (y : Node) (before : List Node) (lists : Lists (IsReached Back pairs y) before) where
   one_bool : (a b : Bool) → (a ≡ true → b ≡ true) → (b ≡ true → a ≡ true) → a ≡ b

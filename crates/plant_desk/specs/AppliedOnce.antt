@@ -1,10 +1,8 @@
 -- That commands with references act once.
 use Rattle.std.specs.Prelude.{◌≡◌, ℕ, Bool, false, ◌||◌, cond, List, [], ◌∷◌, ◌++◌, Option, Some, None, is_some, is_none}
 use Rattle.std.specs.List.{list_any}
-use Rattle.plant_base.specs.State.{State, same}
-use Rattle.plant_base.specs.{Envelope}
-use Rattle.plant_rules.specs.Wrong.{wrong, kept_for}
-use Rattle.plant_rules.specs.Step.{step, step_plain}
+use Rattle.plant_base.specs.{State, same, Envelope}
+use Rattle.plant_rules.specs.{wrong, kept_for, step, step_plain}
 use Rattle.plant_desk.specs.Sendings.{Sending, state_after_sending, answered_of, IsPersistent}
 
 -- the commands of a list that are accepted when they come

@@ -1,9 +1,7 @@
 -- That a check says what the command would be answered.
 use Rattle.std.specs.Prelude.{◌≡◌, Option, Some, None}
-use Rattle.plant_base.specs.State.{State}
-use Rattle.plant_base.specs.{Envelope, Refusal}
-use Rattle.plant_causes.specs.Causes.{checked}
-use Rattle.plant_causes.specs.{Checked}
+use Rattle.plant_base.specs.{State, Envelope, Refusal}
+use Rattle.plant_causes.specs.{checked, Checked}
 use Rattle.plant_causes.specs.declared.checking.Checked.TheVariants as check
 use Rattle.plant_messages.specs.{Reply}
 use Rattle.plant_messages.specs.declared.reply.Reply.TheVariants as answer

@@ -1,12 +1,10 @@
 -- What a keeper does.
 use Rattle.std.specs.Prelude.{◌≡◌, ℕ, Bool, true, false, ◌⊎◌, Result, Ok, Err}
-use Rattle.plant_base.specs.State.{State}
-use Rattle.plant_base.specs.{Envelope}
-use Rattle.plant_rules.specs.Step.{step}
-use Rattle.plant_causes.specs.Causes.{checked}
-use Rattle.plant_causes.specs.{Checked}
+use Rattle.plant_base.specs.{State, Envelope}
+use Rattle.plant_rules.specs.{step}
+use Rattle.plant_causes.specs.{checked, Checked}
 use Rattle.plant_desk.specs.Replies.{reply}
-use Rattle.plant_answers.specs.Answers.{answer}
+use Rattle.plant_answers.specs.{answer}
 use Rattle.plant_messages.specs.{Answer, DeskFault, Question, Reply}
 use Rattle.plant_messages.specs.declared.reply.Reply.TheVariants.{Accepted, Refused}
 use Rattle.plant_messages.specs.declared.reply.DeskFault.TheVariants.{Store, Memory, Shut}

@@ -1,10 +1,8 @@
 -- Which recalls reach a node, by what leads to it.
 use Rattle.std.specs.Prelude.{Bool, ◌&&◌, ◌||◌, List}
 use Rattle.std.specs.List.{list_any}
-use Rattle.plant_base.specs.Recalls.{is_open}
-use Rattle.plant_base.specs.{Recall}
-use Rattle.plant_trace.specs.Nodes.{node_eq}
-use Rattle.plant_trace.specs.{Node}
+use Rattle.plant_base.specs.{is_open, Recall}
+use Rattle.plant_trace.specs.{node_eq, Node}
 use Rattle.plant_trace.specs.declared.node.Node.TheVariants as node
 
 abbrev pub reaches_by : List Node → Node → Recall → Bool

@@ -1,8 +1,7 @@
 -- Sendings: commands that are sent, answered or stopped, and sent again.
 use Rattle.std.specs.Prelude.{◌≡◌, List, [], ◌∷◌, IsSome, ⊤}
-use Rattle.plant_base.specs.State.{State}
-use Rattle.plant_base.specs.{Envelope}
-use Rattle.plant_rules.specs.Step.{step}
+use Rattle.plant_base.specs.{State, Envelope}
+use Rattle.plant_rules.specs.{step}
 
 -- how a command that was sent ended: it was answered, or the desk was stopped, before it acted or after that
 pub data Outcome : Type 0 where

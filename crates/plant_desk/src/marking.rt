@@ -1,10 +1,10 @@
 // The marks on a node, found without any that are kept.
 ghost use Rattle.std.specs.Prelude.{◌≡◌, IfOk, map, filter};
 ghost use Rattle.std.specs.List.{list_any};
-ghost use Rattle.plant_base.specs.Recalls.{is_open};
-ghost use Rattle.plant_trace.specs.Nodes.{node_eq};
+ghost use Rattle.plant_base.specs.{is_open};
+ghost use Rattle.plant_trace.specs.{node_eq};
 ghost use Rattle.plant_trace.specs.ReadOnly.{ReadOnly};
-ghost use Rattle.plant_view.specs.Recalls.{mark_on, recalls_on};
+ghost use Rattle.plant_view.specs.{mark_on, recalls_on};
 ghost use Rattle.plant_desk.specs.Marking.{reaches_by};
 
 use plant_base::{Mark, Recall};

@@ -1,11 +1,9 @@
 // Pages of the lists: what comes after a cursor, by the order of the rows; the movements of a lot; and pages of what lots have.
 ghost use Rattle.std.specs.Prelude.{◌≡◌, ◌+◌, filter, map, take, IfOk};
-ghost use Rattle.plant_view.specs.Tables.{batch_row};
-ghost use Rattle.plant_view.specs.Views.{is_named};
-ghost use Rattle.plant_worklists.specs.Pages.{page_size};
-ghost use Rattle.plant_worklists.specs.Worklists.{is_after, is_batch_in, is_recall_in};
-ghost use Rattle.plant_worklists.specs.Worklists.{lot_made, due_order, is_due_in, number_order, is_number_after};
-ghost use Rattle.plant_worklists.specs.Sorting.{in_order};
+ghost use Rattle.plant_view.specs.{batch_row, is_named};
+ghost use Rattle.plant_worklists.specs.{page_size, is_after, is_batch_in, is_recall_in, lot_made};
+ghost use Rattle.plant_worklists.specs.{due_order, is_due_in, number_order, is_number_after};
+ghost use Rattle.plant_worklists.specs.{in_order};
 
 use crate::batches::batch_row;
 use crate::keys::copy_of;

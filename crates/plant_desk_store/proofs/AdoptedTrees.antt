@@ -3,19 +3,16 @@ use Rattle.std.proofs.Common.{◌≡◌, ℕ, ◌+◌, ◌-◌, ◌≤◌, sym, 
 use Rattle.sqlite.specs.Tree.{Trees}
 use Rattle.sqlite.specs.Effect.{Database, IsDatabase}
 use Rattle.sqlite.specs.State as store
-use Rattle.plant_base.specs.State.{State, newest_schema}
-use Rattle.plant_view.specs.Tables.{tables_of}
-use Rattle.sql_tables.specs.StoredRows.{AreFree}
-use Rattle.sql_tables.specs.CrashStates.{IsSettled}
-use Rattle.plant_tables.specs.DeskTableDefs.{desk_table_defs}
-use Rattle.plant_tables.specs.DeskCrashStates.{FindsTables, opening_tables}
-use Rattle.plant_tables_read.specs.Collecting.{rows_in, rows_listed}
-use Rattle.plant_tables_read.specs.{DeskRows}
+use Rattle.plant_base.specs.{State, newest_schema}
+use Rattle.plant_view.specs.{tables_of}
+use Rattle.sql_tables.specs.{AreFree, IsSettled}
+use Rattle.plant_tables.specs.{desk_table_defs, FindsTables, opening_tables}
+use Rattle.plant_tables_read.specs.{rows_in, rows_listed, DeskRows}
 use Rattle.plant_invariant_tables.proofs.RowsInKeyOrder.{keyed}
-use Rattle.plant_migrate.specs.Raised.{edges_from}
-use Rattle.plant_migrate.specs.Steps.{IsRaisedBy}
+use Rattle.plant_migrate.specs.{edges_from, IsRaisedBy}
 use Rattle.plant_migrate.proofs.RaisingEnds.{position_reported, bookings_reported, finds_raised}
-use Rattle.plant_desk_store.specs.Adopting.{HoldsValidState, AreMade, IsOpened, IsRaised}
+use Rattle.plant_desk_store.specs.{HoldsValidState, AreMade, IsRaised}
+use Rattle.plant_desk_store.specs.Adopting.{IsOpened}
 
 pub opened : (old : Database) (trees : Trees) → AreFree desk_table_defs old.schema → IsDatabase old → AreMade old trees → IsOpened old trees
 opened old trees free sound are =

@@ -1,20 +1,15 @@
 -- What comes of an adoption, by what was found.
-use Rattle.std.proofs.Common.{◌≡◌, ℕ, pos, Result, Ok, Err, sym, subst, inl, inr, arith}
-use Rattle.std.specs.Prelude.{All, MatchResult}
+use Rattle.std.proofs.Common.{◌≡◌, ℕ, pos, Result, Ok, Err, sym, subst, inl, inr, arith, All, MatchResult}
 use Rattle.sqlite.specs.Effect.{Database}
 use Rattle.sqlite.specs.State as store
 use Rattle.sqlite.specs.State.{HasCleanDisk, IsLive, Survives}
 use Rattle.sqlite.proofs.StateLemmas.{survives_then, survives_weaker}
-use Rattle.plant_base.specs.State.{State, newest_schema}
-use Rattle.sql_tables.specs.AtRest.{Keeps}
-use Rattle.sql_tables.specs.StoredRows.{AreFree, IsFree}
+use Rattle.plant_base.specs.{State, newest_schema}
+use Rattle.sql_tables.specs.{Keeps, AreFree, IsFree}
 use Rattle.sql_tables.proofs.TransactionEnds.{IsStore}
-use Rattle.plant_tables.specs.DeskTableDefs.{desk_table_defs}
-use Rattle.plant_tables_read.specs.Version.{IsVersion}
-use Rattle.plant_desk_store.specs.Adopting.{Adopts, HoldsValidState, IsRaised, IsRefusedBy, IsRisingAt, IsUnraised, NamesFirst}
-use Rattle.plant_desk_store.specs.Calls.{HasAdopted, HasRefused}
-use Rattle.plant_desk_store.specs.Parts.{HasMade, HasTaken}
-use Rattle.plant_desk_store.specs.DeskStates.{KeepsForeignTables}
+use Rattle.plant_tables.specs.{desk_table_defs}
+use Rattle.plant_tables_read.specs.{IsVersion}
+use Rattle.plant_desk_store.specs.{Adopts, HoldsValidState, IsRaised, IsRefusedBy, IsRisingAt, IsUnraised, NamesFirst, HasAdopted, HasRefused, HasMade, HasTaken, KeepsForeignTables}
 use Rattle.plant_desk_store.specs.declared.adopting.AdoptFault.{AdoptFault}
 use Rattle.plant_desk_store.proofs.ValidIsAdoptedAgain.{not_free, one_reported, pos_le}
 use Rattle.plant_desk_store.proofs.CheckedStore.{IsThere, still_new, none_newer, refused_so}

@@ -1,28 +1,21 @@
 -- What is answered of a state is what its movements say.
-use Rattle.std.proofs.Common.{◌≡◌, ◌∙◌, ◌+◌, ℕ, List, Option, Some, None, refl, sym, ap, subst, arith}
-use Rattle.std.specs.Prelude.{filter}
-use Rattle.plant_base.specs.State.{State, same, lot_at, newest_schema}
-use Rattle.plant_base.specs.{Lot, Place, Refusal}
+use Rattle.std.proofs.Common.{◌≡◌, ◌∙◌, ◌+◌, ℕ, List, Option, Some, None, refl, sym, ap, subst, arith, filter}
+use Rattle.plant_base.specs.{State, same, lot_at, newest_schema, Lot, Place, Refusal}
 use Rattle.plant_base.proofs.FindIsFirst.{found_passes}
 use Rattle.plant_base.proofs.KeyOrders.{same_id}
 use Rattle.plant_base.proofs.PutKeepsOrder.{map_back}
-use Rattle.plant_stock.specs.Stock.{left_of, born_of}
+use Rattle.plant_stock.specs.{left_of, born_of}
 use Rattle.plant_trace.specs.{Direction, Node}
-use Rattle.plant_view.specs.Conservation.{lot_stock}
-use Rattle.plant_view.specs.Genealogy.{edges_of}
+use Rattle.plant_view.specs.{lot_stock, edges_of, sublot_row, place_of_row}
 use Rattle.plant_view.specs.DecisionInvariant.{DecisionInvariant}
-use Rattle.plant_view.specs.Tables.{sublot_row, place_of_row}
 use Rattle.plant_view.proofs.LotsAreBalanced.{balanced}
 use Rattle.plant_view.proofs.RowsInTurn.{all_of, all_mapped}
-use Rattle.plant_answers.specs.Surroundings.{answer_stands}
-use Rattle.plant_answers.specs.Answers.{answer}
-use Rattle.plant_answers.specs.LotAnswers.{answer_lot}
-use Rattle.plant_answers.specs.Traces.{missing, answer_trace}
+use Rattle.plant_answers.specs.{answer_stands, answer, answer_lot, missing, answer_trace}
 use Rattle.plant_messages.specs.{Answer, Question}
 use Rattle.plant_messages.specs.declared.question.Question.TheVariants as Q
 use Rattle.plant_answers.proofs.GoodsAreReached.{standing_sorted, standing_only, standing_all}
 use Rattle.plant_answers.proofs.ReachedIsTrace.{trace_lists}
-use Rattle.plant_desk_store.specs.Headline.{IsTraceIn, AreStandingIn, IsLotIn, SaysOf, IsAnsweredIn}
+use Rattle.plant_desk_store.specs.{IsTraceIn, AreStandingIn, IsLotIn, SaysOf, IsAnsweredIn}
 
 trace_reported : (s : State) (direction : Direction) (start : Node) (o : Option Refusal) → missing s start ≡ o → IsTraceIn s direction start (answer_trace s direction start o)
 trace_reported s direction start None e = trace_lists (edges_of s) direction start

@@ -3,15 +3,13 @@ use Rattle.std.proofs.Common.{◌≡◌, Bool, Result, Ok, Err, refl}
 use Rattle.sqlite.specs.Effect.{Database}
 use Rattle.sqlite.specs.State as store
 use Rattle.sqlite.specs.State.{HasCleanDisk}
-use Rattle.plant_base.specs.State.{State, newest_schema}
+use Rattle.plant_base.specs.{State, newest_schema, Envelope}
 use Rattle.sql_tables.proofs.TransactionEnds.{IsStore}
-use Rattle.plant_base.specs.{Envelope}
 use Rattle.plant_causes.specs.{Checked}
-use Rattle.plant_desk.specs.Keepers.{Checks, Asks}
+use Rattle.plant_desk.specs.{Checks, Asks}
 use Rattle.plant_messages.specs.{Answer, DeskFault, Question}
 use Rattle.plant_messages.specs.declared.reply.DeskFault.TheVariants.{Store, Memory, Shut}
-use Rattle.plant_desk_store.specs.Parts.{OnlyReads, HasForeseen, HasAnswered}
-use Rattle.plant_desk_store.specs.DeskStates.{Represents, HasForeignTables}
+use Rattle.plant_desk_store.specs.{OnlyReads, HasForeseen, HasAnswered, Represents, HasForeignTables}
 use Rattle.plant_desk_store.proofs.ForeignTablesKept.{others_kept}
 use Rattle.plant_desk_store.proofs.ReadingKeepsState.{still_represents, still_crash_states}
 

@@ -1,19 +1,16 @@
 -- What is judged of loaded rows.
-use Rattle.std.proofs.Common.{◌≡◌, ◌∙◌, ℕ, ◌≤◌, true, leb-true, List, [], ◌∷◌, Bool, Some, is_some, Result, IfOk, sym, ap, subst}
+use Rattle.std.proofs.Common.{◌≡◌, ◌∙◌, ℕ, ◌≤◌, true, leb-true, List, [], ◌∷◌, Bool, Some, is_some, Result, IfOk, sym, ap, subst, if◌then◌else◌}
 use Rattle.std.proofs.lemmas.Result.{IfOk-weaker}
-use Rattle.std.specs.Prelude.{if◌then◌else◌}
 use Rattle.sqlite.specs.Order.{Row}
 use Rattle.plant_base.specs.{Meta}
 use Rattle.plant_view.proofs.TestsAndSums.{and_left}
-use Rattle.plant_tables_read.specs.Loading.{contents_loaded}
-use Rattle.plant_tables_read.specs.{DeskRows, Loaded}
-use Rattle.plant_tables_read.specs.Collecting.{Rows, rows_from, rows_listed}
+use Rattle.plant_tables_read.specs.{contents_loaded, DeskRows, Loaded, Rows, rows_from, rows_listed}
 use Rattle.plant_tables_read.proofs.RowsRepresentTables.{rows_back}
-use Rattle.plant_tables_columns.specs.TableColumns.{only_meta}
+use Rattle.plant_tables_columns.specs.{only_meta}
 use Rattle.plant_tables_columns.proofs.RowLaws.{meta_reads}
-use Rattle.plant_check.specs.Broken.{first_broken, first_broken_of, broken_rows}
+use Rattle.plant_check.specs.{first_broken, first_broken_of, broken_rows}
 use Rattle.plant_check.specs.declared.rule.Rule.TheVariants as rule
-use Rattle.plant_desk_store.specs.Checks.{FailsChecks, PassesChecks, FailsChecksBy, PassesChecksOf, FailsChecksOf}
+use Rattle.plant_desk_store.specs.{FailsChecks, PassesChecks, FailsChecksBy, PassesChecksOf, FailsChecksOf}
 use Rattle.plant_desk_store.specs.declared.check_error.CheckError.{CheckError}
 use Rattle.plant_desk_store.specs.declared.check_error.CheckError.TheVariants as check_error
 

@@ -1,39 +1,27 @@
 -- What is judged of loaded rows, and of the store that they were loaded of.
-use Rattle.std.proofs.Common.{◌≡◌, ◌∙◌, Result, Ok, Err, IfOk, refl, sym, ap, subst, inl, inr, ℕ, ◌<◌, ℤ, pos, arith}
-use Rattle.std.specs.Prelude.{◌≢◌, ◌⊎◌, All}
-use Rattle.std.specs.Int.Signed.{◌≤ℤ◌}
+use Rattle.std.proofs.Common.{◌≡◌, ◌∙◌, Result, Ok, Err, IfOk, refl, sym, ap, subst, inl, inr, ℕ, ◌<◌, ℤ, pos, arith, ◌≢◌, ◌⊎◌, All, ◌≤ℤ◌}
 use lib.Dec.{leb→le}
 use Rattle.sqlite.specs.Effect.{Database, IsDatabase}
 use Rattle.sqlite.specs.State as store
 use Rattle.sqlite.specs.State.{HasCleanDisk, IsUnchanged, Survives}
-use Rattle.plant_base.specs.State.{State, newest_schema}
-use Rattle.sql_tables.specs.StoredRows.{HaveStoredRows, IsFree, KeepsOtherTables}
-use Rattle.sql_tables.specs.AtRest.{Keeps}
-use Rattle.sql_tables.specs.CrashStates.{IsSettled}
+use Rattle.plant_base.specs.{State, newest_schema}
+use Rattle.sql_tables.specs.{HaveStoredRows, IsFree, KeepsOtherTables, Keeps, IsSettled, Fault}
 use Rattle.sql_tables.proofs.TransactionEnds.{IsStore}
 use Rattle.sql_tables.proofs.WritesInTurn.{survives_none}
-use Rattle.sql_tables.specs.{Fault}
 use Rattle.sql_tables.specs.declared.fault.Fault.TheVariants as below
-use Rattle.sql_queries.specs.Ordered.{IsRising}
-use Rattle.plant_tables.specs.DeskTableDefs.{desk_table_defs, table_defs_of}
-use Rattle.plant_tables.specs.DeskCrashStates.{IsUnopened}
-use Rattle.plant_tables.specs.Keyed.{HoldsTablesOf, HoldsTables}
+use Rattle.sql_queries.specs.{IsRising}
+use Rattle.plant_tables.specs.{desk_table_defs, table_defs_of, IsUnopened, HoldsTablesOf, HoldsTables}
 use Rattle.plant_tables.proofs.WritingEnds.{finds_same}
-use Rattle.plant_view.specs.Tables.{Tables, tables_of, IsWholeIn}
+use Rattle.plant_view.specs.{tables_of, IsWholeIn}
+use Rattle.plant_view.specs.Tables.{Tables}
 use Rattle.plant_invariant.specs.StateInvariant.{StateInvariant}
-use Rattle.plant_tables_read.specs.Loading.{AreLoaded, AreRising, contents_loaded}
-use Rattle.plant_tables_read.specs.Version.{IsVersion, IsKnown, HasTablesOf}
-use Rattle.plant_tables_read.specs.{DeskRows, Loaded}
+use Rattle.plant_tables_read.specs.{AreLoaded, AreRising, contents_loaded, IsVersion, IsKnown, HasTablesOf, DeskRows, Loaded, rows_in, rows_listed}
 use Rattle.plant_tables_read.proofs.OneVersion.{one_version}
-use Rattle.plant_tables_read.specs.Collecting.{rows_in, rows_listed}
-use Rattle.plant_migrate.specs.FailureLeaves.{FailureLeavesAmid}
+use Rattle.plant_migrate.specs.{FailureLeavesAmid}
 use Rattle.plant_migrate.proofs.RaisingEnds.{raised_to_is}
 use Rattle.plant_migrate.proofs.NothingWritten.{at_still, keeps_itself}
-use Rattle.plant_desk_store.specs.Adopting.{IsNewlyOpened, HoldsValidState, ValidStateSurvives, IsRisingAt, ShowsUnchanged, NamesFirst, BrokenBy, IsRefusedBy}
-use Rattle.plant_desk_store.specs.Faults.{adopt_fault}
-use Rattle.plant_check_laws.specs.Soundness.{state_in, AreUnbroken}
-use Rattle.plant_desk_store.specs.DeskStates.{IsDurablyAt, KeepsForeignTables}
-use Rattle.plant_desk_store.specs.Checks.{PassesChecks}
+use Rattle.plant_desk_store.specs.{IsNewlyOpened, HoldsValidState, ValidStateSurvives, IsRisingAt, ShowsUnchanged, NamesFirst, BrokenBy, IsRefusedBy, adopt_fault, IsDurablyAt, KeepsForeignTables, PassesChecks}
+use Rattle.plant_check_laws.specs.{state_in, AreUnbroken}
 use Rattle.plant_desk_store.specs.declared.adopting.AdoptFault.{AdoptFault}
 use Rattle.plant_desk_store.specs.declared.adopting.AdoptFault.TheVariants as fault
 use Rattle.plant_check_laws.proofs.ChecksPassImpliesInvariant.{unbroken_valid, unbroken_holds}

@@ -1,25 +1,21 @@
 -- What is opened over what a stop left.
-use Rattle.std.proofs.Common.{◌≡◌, ◌<◌, ◌≤◌, ℕ, inl, inr, refl, sym, ap, ap₂, subst, arith}
-use Rattle.std.specs.Prelude.{◌⊎◌, All}
+use Rattle.std.proofs.Common.{◌≡◌, ◌<◌, ◌≤◌, ℕ, inl, inr, refl, sym, ap, ap₂, subst, arith, ◌⊎◌, All}
 use Rattle.sqlite.specs.Tree.{Trees}
 use Rattle.sqlite.specs.Schema.{Schema}
 use Rattle.sqlite.specs.Effect.{Database, IsDatabase}
 use Rattle.sqlite_catalog.specs.Listing.{IsSound}
-use Rattle.plant_base.specs.State.{State, opening, newest_schema}
-use Rattle.plant_view.specs.Tables.{Tables, tables_of}
+use Rattle.plant_base.specs.{State, opening, newest_schema}
+use Rattle.plant_view.specs.{tables_of}
+use Rattle.plant_view.specs.Tables.{Tables}
 use Rattle.plant_answers.proofs.PlainTables.{whole_in_newest}
 use Rattle.plant_invariant.proofs.StepPreservesInvariant.{opening_is_valid}
-use Rattle.sql_tables.specs.StoredRows.{AreFree, IsFree, KeepsOtherTables}
-use Rattle.plant_tables.specs.DeskTableDefs.{desk_table_defs, later_table_defs}
-use Rattle.plant_tables.specs.DeskCrashStates.{FindsOf}
-use Rattle.plant_tables.specs.Keyed.{HoldsTablesOf}
-use Rattle.plant_tables_read.specs.Version.{IsKnown}
-use Rattle.plant_desk_store.specs.Adopting.{HoldsValidState, IsRaised}
-use Rattle.plant_desk_store.specs.DeskLaws.{IsAdoptable, IsOpenedAfter, ValidIsAdoptedAgain}
-use Rattle.plant_desk_store.specs.DeskStates.{FindsStateOf}
+use Rattle.sql_tables.specs.{AreFree, IsFree, KeepsOtherTables}
+use Rattle.plant_tables.specs.{desk_table_defs, later_table_defs, FindsOf, HoldsTablesOf}
+use Rattle.plant_tables_read.specs.{IsKnown}
+use Rattle.plant_desk_store.specs.{HoldsValidState, IsRaised, IsAdoptable, IsOpenedAfter, ValidIsAdoptedAgain, FindsStateOf}
 use Rattle.plant_desk_store.proofs.ValidIsAdoptedAgain.{not_free, one_reported, version_held}
 use Rattle.plant_desk_store.proofs.SchemaIsUnique.{one_schema}
-use Rattle.plant_migrate.specs.Steps.{FindsRisable}
+use Rattle.plant_migrate.specs.{FindsRisable}
 use Rattle.plant_migrate.proofs.LaterNamesFree.{each_is_free}
 use Rattle.plant_migrate.proofs.ChangesOfState.{whole_on}
 use Rattle.plant_migrate.proofs.OneStep.{keeps_all}

@@ -1,25 +1,18 @@
 -- What a command over a store comes to.
-use Rattle.std.proofs.Common.{◌≡◌, ◌≢◌, ◌∙◌, ℕ, ◌+◌, true, List, Option, None, Some, Result, Ok, Err, false, refl, sym, ap, subst, arith}
-use Rattle.std.specs.Prelude.{MatchResult}
+use Rattle.std.proofs.Common.{◌≡◌, ◌≢◌, ◌∙◌, ℕ, ◌+◌, true, List, Option, None, Some, Result, Ok, Err, false, refl, sym, ap, subst, arith, MatchResult}
 use Rattle.sqlite.specs.State as store
-use Rattle.plant_base.specs.State.{State}
+use Rattle.plant_base.specs.{State, content_of, stamp_of, Envelope, Refusal}
 use Rattle.sql_tables.proofs.TransactionEnds.{IsStore}
-use Rattle.plant_base.specs.Content.{content_of}
-use Rattle.plant_base.specs.WellFormedCommands.{stamp_of}
-use Rattle.plant_base.specs.{Envelope, Refusal}
 use Rattle.plant_view.specs.{Decision}
 use Rattle.plant_view.specs.declared.change.Decision.TheVariants as decision
-use Rattle.plant_rules.specs.Step.{step, step_body, noted, IsRepeated, IsDecision}
-use Rattle.plant_rules.specs.Wrong.{is_whole, wrong, kept_for}
+use Rattle.plant_rules.specs.{step, step_body, noted, IsRepeated, IsDecision, is_whole, wrong, kept_for}
 use Rattle.plant_rules.proofs.ReceiptDecisions.{next_number, step_new}
-use Rattle.plant_desk.specs.Replies.{reply, reply_by, number_of}
+use Rattle.plant_desk.specs.{reply, reply_by, number_of}
 use Rattle.plant_messages.specs.{DeskFault, Reply}
 use Rattle.plant_messages.specs.declared.reply.Reply.TheVariants.{Accepted, Refused}
 use Rattle.plant_messages.specs.declared.reply.DeskFault.TheVariants.{Store, Memory, Shut}
 use Rattle.plant_desk.proofs.ListKeeperSteps.{refused_step, repeated, answered_new}
-use Rattle.plant_desk_store.specs.Lookups.{IsRepeat}
-use Rattle.plant_desk_store.specs.Parts.{IsCommitted, HasDecided, HasStepped}
-use Rattle.plant_desk_store.specs.DeskStates.{IsDurablyAt, Executed}
+use Rattle.plant_desk_store.specs.{IsRepeat, IsCommitted, HasDecided, HasStepped, IsDurablyAt, Executed}
 use Rattle.plant_desk_store.proofs.ForeignTablesKept.{others_kept}
 use Rattle.plant_desk_store.proofs.ReadingKeepsState.{before_only, still_open}
 

@@ -1,14 +1,11 @@
 -- The commands of an execution are a sending, and act once.
 use Rattle.std.proofs.Common.{◌≡◌, ◌∙◌, List, [], ◌∷◌, refl, sym, ap, subst, inl, inr}
 use Rattle.sqlite_trees.specs.declared.store.Store.{Ghosts}
-use Rattle.plant_base.specs.State.{State}
-use Rattle.plant_base.specs.{Envelope}
-use Rattle.plant_rules.specs.Step.{step}
-use Rattle.plant_desk.specs.AppliedOnce.{once, plain, but_receipts}
-use Rattle.plant_desk.specs.Sendings.{answered, stopped_before, stopped_after, Sending, answered_of, BeginsWith, IsPersistent}
+use Rattle.plant_base.specs.{State, Envelope}
+use Rattle.plant_rules.specs.{step}
+use Rattle.plant_desk.specs.{once, plain, but_receipts, answered, stopped_before, stopped_after, Sending, answered_of, BeginsWith, IsPersistent}
 use Rattle.plant_desk.proofs.AppliedOnce.{applied_once}
-use Rattle.plant_desk_store.specs.Executions.{acknowledged, in_flight}
-use Rattle.plant_desk_store.specs.Resent.{all_attempts, acknowledged_of, IsNext, AreResent, ExecutionsAreSendings, ExecutionsApplyOnce, StoresApplyOnce}
+use Rattle.plant_desk_store.specs.{acknowledged, in_flight, all_attempts, acknowledged_of, IsNext, AreResent, ExecutionsAreSendings, ExecutionsApplyOnce, StoresApplyOnce}
 use Rattle.plant_desk_store.proofs.HeadlineByInduction.{headline}
 
 pub executions_are_sendings : ExecutionsAreSendings

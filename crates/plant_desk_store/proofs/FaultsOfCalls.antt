@@ -1,14 +1,12 @@
 -- What is so of what a call below came to, once the desk or an adoption reports it.
-use Rattle.std.proofs.Common.{◌≡◌, ◌≢◌, ◌≤◌, ◌<◌, ℕ, ℤ, pos, nat_lt, Option, None, Some, Result, Ok, Err, IfOk, IfErr, IfSome, sym, subst, refl, inl, inr, arith}
-use Rattle.std.specs.Prelude.{◌↔◌}
+use Rattle.std.proofs.Common.{◌≡◌, ◌≢◌, ◌≤◌, ◌<◌, ℕ, ℤ, pos, nat_lt, Option, None, Some, Result, Ok, Err, IfOk, IfErr, IfSome, sym, subst, refl, inl, inr, arith, ◌↔◌}
 use Rattle.std.proofs.lemmas.Bool.{cases_Bool}
 use Rattle.std.proofs.lemmas.Bool.Decides.{nat_tests}
 use lib.IntN.{negsuc}
 use Rattle.sqlite.specs.State as store
 use Rattle.sqlite.specs.State.{IsUnchanged}
-use Rattle.plant_base.specs.State.{newest_schema}
-use Rattle.plant_tables_read.specs.Version.{IsVersion, IsKnown}
-use Rattle.plant_tables_read.specs.{FoundTables, Loaded}
+use Rattle.plant_base.specs.{newest_schema}
+use Rattle.plant_tables_read.specs.{IsVersion, IsKnown, FoundTables, Loaded}
 use Rattle.plant_tables_read.specs.declared.finding.FoundTables.TheVariants as tables
 use Rattle.plant_migrate.proofs.KnownVersion.{version_number}
 use Rattle.sql_tables.specs.{Fault}
@@ -18,7 +16,7 @@ use Rattle.plant_view.specs.declared.fault.ViewFault.TheVariants as view
 use Rattle.plant_check.specs.declared.rule.Rule.TheVariants as rule
 use Rattle.plant_messages.specs.{DeskFault}
 use Rattle.plant_messages.specs.declared.reply.DeskFault.TheVariants.{Store, Shut}
-use Rattle.plant_desk_store.specs.Faults.{desk_fault, looked_up, rows_to_test, rows_to_adopt, schema_found}
+use Rattle.plant_desk_store.specs.{desk_fault, looked_up, rows_to_test, rows_to_adopt, schema_found}
 use Rattle.plant_desk_store.specs.declared.adopting.AdoptFault.{AdoptFault}
 use Rattle.plant_desk_store.specs.declared.adopting.AdoptFault.TheVariants as fault
 

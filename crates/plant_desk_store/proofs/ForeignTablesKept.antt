@@ -7,19 +7,15 @@ use Rattle.sqlite.specs.State as store
 use Rattle.sqlite.specs.State.{HasCleanDisk, Survives}
 use Rattle.sqlite_catalog.specs.Listing.{IsSound}
 use Rattle.plant_view.specs.Tables.{Tables}
-use Rattle.sql_tables.specs.StoredRows.{KeepsOtherTables}
-use Rattle.sql_tables.specs.AtRest.{Keeps}
-use Rattle.sql_tables.specs.CrashStates.{IsSettled}
+use Rattle.sql_tables.specs.{KeepsOtherTables, Keeps, IsSettled}
 use Rattle.sql_tables.proofs.WritesInTurn.{others_then}
-use Rattle.plant_tables.specs.DeskTableDefs.{desk_table_defs}
-use Rattle.plant_tables.specs.DeskCrashStates.{IsAt, FindsTables, FailureLeaves}
-use Rattle.plant_base.specs.{Envelope}
-use Rattle.plant_base.specs.State.{State}
-use Rattle.plant_desk.specs.Keepers.{shuts}
+use Rattle.plant_tables.specs.{desk_table_defs, IsAt, FindsTables, FailureLeaves}
+use Rattle.plant_base.specs.{Envelope, State}
+use Rattle.plant_desk.specs.{shuts}
 use Rattle.plant_messages.specs.{DeskFault, Reply}
 use Rattle.plant_messages.specs.declared.reply.DeskFault.TheVariants.{Store, Memory, Shut}
-use Rattle.plant_rules.specs.Step.{step}
-use Rattle.plant_desk_store.specs.DeskStates.{KeepsForeignTables, IsDurablyAt, HasForeignTables, Executed}
+use Rattle.plant_rules.specs.{step}
+use Rattle.plant_desk_store.specs.{KeepsForeignTables, IsDurablyAt, HasForeignTables, Executed}
 use Rattle.plant_desk_store.proofs.SchemaIsUnique.{one_schema}
 use Rattle.plant_desk_store.proofs.ReadingKeepsState.{left_still}
 

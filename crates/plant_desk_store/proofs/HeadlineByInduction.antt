@@ -1,8 +1,6 @@
 -- What a store represents after what it has been through.
-use Rattle.std.proofs.Common.{◌≡◌, ◌∙◌, ℕ, pos, Bool, true, false, List, [], ◌∷◌, ◌++◌, length, map, take, Option, Some, None, Result, Ok, Err, refl, sym, ap, subst, inl, inr, arith}
-use Rattle.std.specs.Prelude.{◌⊎◌, slice_get, zip}
+use Rattle.std.proofs.Common.{◌≡◌, ◌∙◌, ℕ, pos, Bool, true, false, List, [], ◌∷◌, ◌++◌, length, map, take, Option, Some, None, Result, Ok, Err, refl, sym, ap, subst, inl, inr, arith, ◌⊎◌, slice_get, zip, append_assoc}
 use Rattle.std.proofs.Math.Logic.{∥∥₁_map}
-use Rattle.std.proofs.lemmas.List.{append_assoc}
 use Rattle.sqlite.specs.Tree.{Trees}
 use Rattle.sqlite.specs.Schema.{Schema}
 use Rattle.sqlite.specs.Effect.{Database, IsDatabase}
@@ -10,25 +8,18 @@ use Rattle.sqlite.specs.Held.{Held, state}
 use Rattle.sqlite.specs.State as store
 use Rattle.sqlite.specs.State.{HasCleanDisk, Survives}
 use Rattle.sqlite_trees.specs.declared.store.Store.{Ghosts}
-use Rattle.plant_base.specs.State.{State, opening, newest_schema}
-use Rattle.plant_base.specs.{Envelope}
-use Rattle.plant_rules.specs.Step.{step}
+use Rattle.plant_base.specs.{State, opening, newest_schema, Envelope}
+use Rattle.plant_rules.specs.{step}
 use Rattle.plant_invariant.proofs.StepPreservesInvariant.{opening_is_valid}
-use Rattle.sql_tables.specs.StoredRows.{AreFree}
-use Rattle.plant_tables.specs.DeskTableDefs.{desk_table_defs}
+use Rattle.sql_tables.specs.{AreFree}
+use Rattle.plant_tables.specs.{desk_table_defs}
 use Rattle.plant_causes.specs.{Checked}
-use Rattle.plant_desk.specs.Keepers.{States, Executes, Checks, Asks, shuts}
-use Rattle.plant_desk.specs.Replies.{reply}
-use Rattle.plant_desk.specs.Runs.{fold, replies}
+use Rattle.plant_desk.specs.{States, Executes, Checks, Asks, shuts, reply, fold, replies}
 use Rattle.plant_messages.specs.{Answer, DeskFault, Question, Reply}
 use Rattle.plant_messages.specs.declared.reply.DeskFault.TheVariants.{Store, Memory, Shut}
-use Rattle.plant_desk_store.specs.Adopting.{AdoptedFrom, Adopts, IsAdopted, IsRefusedBy}
-use Rattle.plant_desk_store.specs.Calls.{HasAdopted, HasRefused}
-use Rattle.plant_desk_store.specs.Headline.{IsAtState, IsFoundAt, IsKeptAt, IsSoAt, HasOpenableCrashState, Headline}
-use Rattle.plant_desk_store.specs.DeskLaws.{IsAdoptable, IsOpenedAfter}
-use Rattle.plant_desk_store.specs.Executions.{Attempt, acknowledged, in_flight, PossibleOutcome, attempt_as, cut_off, IsOpened, StorePhase, opened, desk, refused, Execution, begun, found, adopted, unadopted, executed, ran, foretold, asked, verified, indexed, stopped, given_back}
-use Rattle.plant_desk_store.specs.Runs.{RunEnds}
-use Rattle.plant_desk_store.specs.DeskStates.{IsDurablyAt, Represents, HasCrashStates}
+use Rattle.plant_desk_store.specs.{AdoptedFrom, Adopts, IsAdopted, IsRefusedBy, HasAdopted, HasRefused, IsAtState, IsFoundAt, IsKeptAt, IsSoAt, HasOpenableCrashState, IsAdoptable, IsOpenedAfter, Attempt, acknowledged, in_flight, PossibleOutcome, attempt_as, cut_off, StorePhase, opened, desk, refused, Execution, begun, found, adopted, unadopted, executed, ran, foretold, asked, verified, indexed, stopped, given_back, RunEnds, IsDurablyAt, Represents, HasCrashStates}
+use Rattle.plant_desk_store.specs.Headline.{Headline}
+use Rattle.plant_desk_store.specs.Executions.{IsOpened}
 use Rattle.plant_desk_store.specs.declared.adopting.AdoptFault.{AdoptFault}
 use Rattle.plant_desk_store.specs.declared.adopting.AdoptFault.TheVariants as fault
 use Rattle.plant_tables_read.proofs.OneVersion.{each_free, free_reports_nothing}

@@ -4,18 +4,13 @@ use Rattle.std.proofs.lemmas.Bool.{false≢true}
 use Rattle.sqlite.specs.Effect.{Database}
 use Rattle.sqlite.specs.State as store
 use Rattle.sqlite.specs.State.{HasCleanDisk}
-use Rattle.plant_base.specs.State.{State, newest_schema}
-use Rattle.plant_base.specs.{Position}
-use Rattle.plant_view.specs.Tables.{tables_of, position_of}
+use Rattle.plant_base.specs.{State, newest_schema, Position}
+use Rattle.plant_view.specs.{tables_of, position_of}
 use Rattle.plant_invariant.specs.StateInvariant.{StateInvariant}
-use Rattle.plant_tables.specs.Keyed.{HoldsTables}
-use Rattle.plant_keyed.specs.LookupOutcomes.{IsHonest, PreservesFrame}
-use Rattle.plant_keyed.specs.Caching.{IsCacheOf, CacheStaysValid}
-use Rattle.plant_keyed.specs.{LookupCache}
-use Rattle.plant_keyed.specs.Frames.{honest_before}
-use Rattle.plant_keyed.specs.Abstraction.{abstraction}
+use Rattle.plant_tables.specs.{HoldsTables}
+use Rattle.plant_keyed.specs.{IsHonest, PreservesFrame, IsCacheOf, CacheStaysValid, LookupCache, honest_before, abstraction}
 use Rattle.plant_keyed.proofs.AbstractionIsState.{abstraction_is_state}
-use Rattle.plant_desk_store.specs.DeskStates.{ShowsState}
+use Rattle.plant_desk_store.specs.{ShowsState}
 
 -- after a first look-up over an open store, which left it open, and further ones, none of which failed
 pub record AreHonest (old mid new : store.State) (failed : Bool) (is : LookupCache) (s : State) : Type 0 where

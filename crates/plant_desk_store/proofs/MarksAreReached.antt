@@ -1,10 +1,9 @@
 -- The marks that a store holds are those of what open recalls reach.
 use Rattle.std.proofs.Common.{refl}
-use Rattle.plant_view.specs.Genealogy.{edges_of}
-use Rattle.plant_view.specs.Recalls.{marks}
+use Rattle.plant_view.specs.{edges_of, marks}
 use Rattle.plant_view.proofs.MarkChanges.{are_the_pairs}
-use Rattle.plant_tables.specs.DeskTableDefs.{mark_table}
-use Rattle.plant_desk_store.specs.DeskLaws.{MarksAreReached}
+use Rattle.plant_tables.specs.{mark_table}
+use Rattle.plant_desk_store.specs.{MarksAreReached}
 
 pub marks_reached : MarksAreReached
 marks_reached db s holds =

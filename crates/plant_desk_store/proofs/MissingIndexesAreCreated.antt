@@ -4,18 +4,13 @@ use Rattle.sqlite.specs.Tree.{Trees}
 use Rattle.sqlite.specs.Effect.{Database}
 use Rattle.sqlite.specs.State as store
 use Rattle.sqlite.specs.State.{HasCleanDisk, IsUnchanged, Survives}
-use Rattle.plant_base.specs.State.{State, newest_schema}
-use Rattle.plant_view.specs.Tables.{tables_of}
-use Rattle.sql_tables.specs.{Fault}
-use Rattle.sql_tables.specs.AtRest.{Keeps}
+use Rattle.plant_base.specs.{State, newest_schema}
+use Rattle.plant_view.specs.{tables_of}
+use Rattle.sql_tables.specs.{Fault, Keeps}
 use Rattle.sql_tables.proofs.TransactionEnds.{IsStore}
-use Rattle.plant_tables.specs.DeskCrashStates.{IsAt}
-use Rattle.plant_tables.specs.Missing.{AddsMissing, AreAllTaken, HasCreatedIndexes}
+use Rattle.plant_tables.specs.{IsAt, AddsMissing, AreAllTaken, HasCreatedIndexes}
 use Rattle.plant_messages.specs.{DeskFault}
-use Rattle.plant_desk_store.specs.Calls.{HasIndexed}
-use Rattle.plant_desk_store.specs.Faults.{desk_fault}
-use Rattle.plant_desk_store.specs.Parts.{HasMended}
-use Rattle.plant_desk_store.specs.DeskStates.{HasCrashStates, IsDurablyAt}
+use Rattle.plant_desk_store.specs.{HasIndexed, desk_fault, HasMended, HasCrashStates, IsDurablyAt}
 use Rattle.plant_desk_store.proofs.ForeignTablesKept.{others_kept, others_committed, others_cut, open_foreign_tables}
 use Rattle.plant_desk_store.proofs.ReadingKeepsState.{open_at, cut_at, left_still, still_open}
 use Rattle.plant_desk_store.proofs.FaultsOfCalls.{unshut as not_shut}

@@ -1,17 +1,14 @@
 -- What comes of the tables of a schema that are judged, and of valid ones that are raised.
-use Rattle.std.proofs.Common.{◌≡◌, ◌∙◌, ℕ, ◌≤◌, pos, sym, subst, inl, inr}
-use Rattle.std.specs.Prelude.{◌⊎◌}
-use Rattle.std.proofs.Math.Nat.{eq-or-lt_of_le}
+use Rattle.std.proofs.Common.{◌≡◌, ◌∙◌, ℕ, ◌≤◌, pos, sym, subst, inl, inr, ◌⊎◌, eq-or-lt_of_le}
 use Rattle.sqlite.specs.Tree.{Trees}
 use Rattle.sqlite.specs.Effect.{Database}
 use Rattle.sqlite.specs.State as store
 use Rattle.sqlite.specs.State.{HasCleanDisk, Survives}
-use Rattle.plant_base.specs.State.{newest_schema}
-use Rattle.sql_tables.specs.AtRest.{Keeps}
-use Rattle.sql_tables.specs.StoredRows.{KeepsOtherTables}
-use Rattle.plant_tables.specs.DeskTableDefs.{desk_table_defs}
-use Rattle.plant_tables_read.specs.Version.{IsVersion}
-use Rattle.plant_desk_store.specs.Adopting.{HoldsValidState, ShowsUnchanged, IsUnraised, NamesFirst}
+use Rattle.plant_base.specs.{newest_schema}
+use Rattle.sql_tables.specs.{Keeps, KeepsOtherTables}
+use Rattle.plant_tables.specs.{desk_table_defs}
+use Rattle.plant_tables_read.specs.{IsVersion}
+use Rattle.plant_desk_store.specs.{HoldsValidState, ShowsUnchanged, IsUnraised, NamesFirst}
 use Rattle.plant_desk_store.specs.declared.adopting.AdoptFault.{AdoptFault}
 use Rattle.plant_desk_store.specs.declared.adopting.AdoptFault.TheVariants as fault
 

@@ -1,22 +1,20 @@
 -- What a call that only reads leaves of the state that a store represents, and what a commit makes of it.
-use Rattle.std.proofs.Common.{◌≡◌, ◌∙◌, inl, inr, sym, ap, refl}
-use Rattle.std.specs.Prelude.{◌⊎◌}
+use Rattle.std.proofs.Common.{◌≡◌, ◌∙◌, inl, inr, sym, ap, refl, ◌⊎◌}
 use Rattle.sqlite.specs.Tree.{Trees}
 use Rattle.sqlite.specs.Effect.{Database}
 use Rattle.sqlite.specs.State as store
 use Rattle.sqlite.specs.State.{HasCleanDisk, Survives}
-use Rattle.plant_base.specs.State.{State, newest_schema}
-use Rattle.plant_view.specs.Tables.{tables_of}
+use Rattle.plant_base.specs.{State, newest_schema}
+use Rattle.plant_view.specs.{tables_of}
 use Rattle.plant_answers.proofs.PlainTables.{whole_in_newest}
 use Rattle.plant_invariant.specs.StateInvariant.{StateInvariant}
-use Rattle.sql_tables.specs.AtRest.{Keeps}
+use Rattle.sql_tables.specs.{Keeps}
 use Rattle.sql_tables.proofs.TransactionEnds.{IsStore}
-use Rattle.plant_tables.specs.DeskCrashStates.{IsAt, FindsTables, FailureLeaves}
+use Rattle.plant_tables.specs.{IsAt, FindsTables, FailureLeaves}
 use Rattle.plant_tables.proofs.WritingEnds.{finds_same}
 use Rattle.plant_migrate.proofs.NothingWritten.{at_still}
-use Rattle.plant_desk.specs.Keepers.{States}
-use Rattle.plant_desk_store.specs.KeptCrashStates.{kept_crash_states}
-use Rattle.plant_desk_store.specs.DeskStates.{ShowsState, FindsState, HasCrashStates, IsDurablyAt}
+use Rattle.plant_desk.specs.{States}
+use Rattle.plant_desk_store.specs.{kept_crash_states, ShowsState, FindsState, HasCrashStates, IsDurablyAt}
 
 -- ---- a call that only reads
 

@@ -1,18 +1,14 @@
 -- A run ends at a valid state.
 use Rattle.std.proofs.Common.{Bool, List, length, take, Option, None, Some}
 use Rattle.sqlite.specs.State as store
-use Rattle.plant_base.specs.State.{State}
-use Rattle.plant_base.specs.{Envelope}
+use Rattle.plant_base.specs.{State, Envelope}
 use Rattle.plant_view.proofs.LotsAreBalanced.{balanced}
 use Rattle.plant_view.proofs.StockIsConserved.{conserved}
 use Rattle.plant_invariant.specs.StateInvariant.{StateInvariant}
-use Rattle.plant_desk.specs.Keepers.{States}
-use Rattle.plant_desk.specs.Runs.{fold}
+use Rattle.plant_desk.specs.{States, fold}
 use Rattle.plant_messages.specs.{DeskFault, Reply}
 use Rattle.plant_messages.specs.declared.reply.DeskFault.TheVariants.{Store, Memory, Shut}
-use Rattle.plant_desk_store.specs.Calls.{IsAccounted}
-use Rattle.plant_desk_store.specs.Runs.{Ran}
-use Rattle.plant_desk_store.specs.DeskStates.{Represents, HasCrashStates}
+use Rattle.plant_desk_store.specs.{IsAccounted, Ran, Represents, HasCrashStates}
 
 pub accounted_valid : (s : State) → StateInvariant s → IsAccounted s
 accounted_valid s valid = record { conserved = conserved s valid.sound; balanced = balanced s valid.sound; acyclic = valid.sound.genealogy.acyclic }

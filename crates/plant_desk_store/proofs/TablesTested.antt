@@ -4,14 +4,11 @@ use Rattle.sqlite.specs.Effect.{Database}
 use Rattle.sqlite.specs.State as store
 use Rattle.sqlite.specs.State.{HasCleanDisk, IsUnchanged, Survives}
 use Rattle.sqlite.proofs.StateLemmas.{survives_then, survives_weaker}
-use Rattle.plant_base.specs.State.{State, newest_schema}
+use Rattle.plant_base.specs.{State, newest_schema}
 use Rattle.sql_tables.proofs.TransactionEnds.{IsStore}
-use Rattle.plant_tables_read.specs.Version.{IsKnown}
-use Rattle.plant_tables_read.specs.{DeskRows}
+use Rattle.plant_tables_read.specs.{IsKnown, DeskRows}
 use Rattle.plant_migrate.proofs.RaisingEnds.{raised_since}
-use Rattle.plant_desk_store.specs.Adopting.{HoldsValidState, IsNewlyOpened, IsRaised}
-use Rattle.plant_desk_store.specs.Parts.{HasChecked, HasRaised, HasTaken}
-use Rattle.plant_desk_store.specs.DeskStates.{KeepsForeignTables}
+use Rattle.plant_desk_store.specs.{HoldsValidState, IsNewlyOpened, IsRaised, HasChecked, HasRaised, HasTaken, KeepsForeignTables}
 use Rattle.plant_desk_store.specs.declared.adopting.AdoptFault.{AdoptFault}
 use Rattle.plant_desk_store.proofs.CheckedStore.{still_new, stays_valid}
 use Rattle.plant_desk_store.proofs.AdoptedTrees.{raised_from}

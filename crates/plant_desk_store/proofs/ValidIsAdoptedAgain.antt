@@ -1,7 +1,6 @@
 -- The tables of a valid state are adopted again.
-use Rattle.std.proofs.Common.{◌≡◌, ◌∙◌, ◌<◌, ◌≤◌, ℕ, ◌^◌, pos, List, [], ◌∷◌, inl, inr, refl, sym, subst, arith}
-use Rattle.std.specs.Prelude.{◌⊎◌, All}
-use Rattle.std.specs.Int.Signed.{◌≤ℤ◌, le_z_yes}
+use Rattle.std.proofs.Common.{◌≡◌, ◌∙◌, ◌<◌, ◌≤◌, ℕ, ◌^◌, pos, List, [], ◌∷◌, inl, inr, refl, sym, subst, arith, ◌⊎◌, All, ◌≤ℤ◌}
+use Rattle.std.specs.Int.Signed.{le_z_yes}
 use Rattle.std.proofs.lemmas.Bool.Decides.{nat_tests}
 use Rattle.std.proofs.lemmas.Option.{slice_get-get_or}
 use lib.Dec.{le→leb}
@@ -15,20 +14,15 @@ use Rattle.sqlite_rules.specs.Lists.{Has}
 use Rattle.sqlite_rules.proofs.ListLemmas.{has_got}
 use Rattle.sqlite_catalog.specs.Listing.{IsSound, IsTableRow}
 use Rattle.sqlite_catalog.proofs.LayoutLemmas.{zipped_left}
-use Rattle.plant_base.specs.Values.{greatest_moment, greatest_seq}
-use Rattle.plant_base.specs.State.{State}
-use Rattle.plant_view.specs.Tables.{tables_of}
-use Rattle.sql_tables.specs.TableDefs.{TableDef, table_of}
-use Rattle.sql_tables.specs.StoredRows.{HasTable, HasStoredRows, AreFree, IsFree}
-use Rattle.plant_tables.specs.DeskTableDefs.{desk_table_defs, meta_table, table_defs_of, later_table_defs}
-use Rattle.plant_tables.specs.Keyed.{HoldsTablesOf}
+use Rattle.plant_base.specs.{greatest_moment, greatest_seq, State}
+use Rattle.plant_view.specs.{tables_of}
+use Rattle.sql_tables.specs.{TableDef, table_of, HasTable, HasStoredRows, AreFree, IsFree}
+use Rattle.plant_tables.specs.{desk_table_defs, meta_table, table_defs_of, later_table_defs, HoldsTablesOf}
 use Rattle.plant_invariant.specs.StateInvariant.{StateInvariant}
-use Rattle.plant_tables_read.specs.Version.{IsVersion, IsKnown, HasTablesOf}
-use Rattle.plant_tables_read.specs.Loading.{AreLoaded}
+use Rattle.plant_tables_read.specs.{IsVersion, IsKnown, HasTablesOf, AreLoaded}
 use Rattle.plant_tables_read.proofs.OneVersion.{one_version, each_free, free_reports_nothing}
 use Rattle.plant_check_laws.proofs.InvariantImpliesChecksPass.{read_valid}
-use Rattle.plant_desk_store.specs.Adopting.{HoldsValidState, IsRefusedBy, IsFirstBroken}
-use Rattle.plant_desk_store.specs.DeskLaws.{IsAdoptable}
+use Rattle.plant_desk_store.specs.{HoldsValidState, IsRefusedBy, IsFirstBroken, IsAdoptable}
 use Rattle.plant_check.specs.{Rule}
 use Rattle.plant_desk_store.specs.declared.adopting.AdoptFault.{AdoptFault}
 use Rattle.plant_desk_store.specs.declared.adopting.AdoptFault.TheVariants as fault

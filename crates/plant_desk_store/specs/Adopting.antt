@@ -4,23 +4,17 @@ use Rattle.sqlite.specs.Tree.{Trees}
 use Rattle.sqlite.specs.Effect.{Database}
 use Rattle.sqlite.specs.State as store
 use Rattle.sqlite.specs.State.{HasCleanDisk}
-use Rattle.plant_base.specs.State.{State, opening, newest_schema}
-use Rattle.plant_view.specs.Tables.{tables_of, IsWholeIn}
+use Rattle.plant_base.specs.{State, opening, newest_schema}
+use Rattle.plant_view.specs.{tables_of, IsWholeIn}
 use Rattle.plant_invariant.specs.StateInvariant.{StateInvariant}
-use Rattle.sql_tables.specs.StoredRows.{AreFree}
-use Rattle.sql_tables.specs.AtRest.{Keeps}
+use Rattle.sql_tables.specs.{AreFree, Keeps}
 pub use Rattle.sql_queries.specs.Opened.{IsNewlyOpened}
 pub use Rattle.plant_check.specs.Damaged.{LacksTables, AreFirstBroken, IsFirstBroken, IsDamaged}
-use Rattle.plant_tables.specs.DeskTableDefs.{desk_table_defs, later_table_defs}
-use Rattle.plant_tables.specs.DeskCrashStates.{MakesDesk, IsAtOf, FindsTables, opening_tables}
-use Rattle.plant_tables.specs.Keyed.{HoldsTablesOf}
-use Rattle.plant_tables_read.specs.Version.{IsVersion, IsKnown}
-use Rattle.plant_tables_read.specs.{Loaded}
-use Rattle.plant_migrate.specs.FailureLeaves.{IsBetween}
-use Rattle.plant_migrate.specs.Steps.{FindsRisable}
-use Rattle.plant_check.specs.Broken.{first_broken}
-use Rattle.plant_check.specs.{Rule}
-use Rattle.plant_desk.specs.Keepers.{States}
+use Rattle.plant_tables.specs.{desk_table_defs, later_table_defs, MakesDesk, IsAtOf, FindsTables, opening_tables, HoldsTablesOf}
+use Rattle.plant_tables_read.specs.{IsVersion, IsKnown, Loaded}
+use Rattle.plant_migrate.specs.{IsBetween, FindsRisable}
+use Rattle.plant_check.specs.{first_broken, Rule}
+use Rattle.plant_desk.specs.{States}
 use Rattle.plant_desk_store.specs.DeskStates.{IsDurablyAt, FindsStateOf}
 use Rattle.plant_desk_store.specs.declared.adopting.AdoptFault.{AdoptFault}
 use Rattle.plant_desk_store.specs.declared.adopting.AdoptFault.TheVariants as fault

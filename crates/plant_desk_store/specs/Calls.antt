@@ -4,16 +4,13 @@ use Rattle.sqlite.specs.Tree.{Trees}
 use Rattle.sqlite.specs.Effect.{Database}
 use Rattle.sqlite.specs.State as store
 use Rattle.sqlite.specs.State.{HasCleanDisk, Survives}
-use Rattle.plant_base.specs.State.{State, newest_schema}
-use Rattle.plant_base.specs.{Envelope}
-use Rattle.plant_trace.specs.Reach.{IsAcyclic}
-use Rattle.plant_view.specs.Conservation.{IsConserved, IsBalanced}
-use Rattle.plant_view.specs.Genealogy.{edges_of}
-use Rattle.plant_tables.specs.Missing.{AddsMissing, AreAllTaken}
+use Rattle.plant_base.specs.{State, newest_schema, Envelope}
+use Rattle.plant_trace.specs.{IsAcyclic}
+use Rattle.plant_view.specs.{IsConserved, IsBalanced, edges_of}
+use Rattle.plant_tables.specs.{AddsMissing, AreAllTaken}
 use Rattle.plant_check.specs.{Rule}
 use Rattle.plant_causes.specs.{Checked}
-use Rattle.plant_desk.specs.Keepers.{Executes, Checks, Asks, shuts, writes_nothing}
-use Rattle.plant_desk.specs.Runs.{fold}
+use Rattle.plant_desk.specs.{Executes, Checks, Asks, shuts, writes_nothing, fold}
 use Rattle.plant_messages.specs.{Answer, DeskFault, Question, Reply}
 use Rattle.plant_messages.specs.declared.reply.DeskFault.TheVariants.{Shut}
 use Rattle.plant_desk_store.specs.Adopting.{IsNewlyOpened, AdoptedFrom, KeepsValidState, ValidStateSurvives, ShowsUnchanged, IsRefusedBy, IsUnraised, Adopts}

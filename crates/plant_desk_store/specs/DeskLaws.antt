@@ -3,17 +3,12 @@ use Rattle.std.specs.Prelude.{◌≡◌, ◌⊎◌, ◌↔◌, ◌≤◌, ℕ, A
 use Rattle.std.specs.List.Sorted.{IsStrictlySortedBy}
 use Rattle.sqlite.specs.Tree.{Trees}
 use Rattle.sqlite.specs.Effect.{Database, IsDatabase}
-use Rattle.plant_base.specs.Recalls.{mark_order}
-use Rattle.plant_base.specs.State.{State, opening, newest_schema}
-use Rattle.plant_base.specs.{Mark}
-use Rattle.plant_view.specs.Genealogy.{edges_of}
-use Rattle.plant_view.specs.Recalls.{Reaches, node_of}
-use Rattle.plant_view.specs.Tables.{tables_of}
-use Rattle.sql_tables.specs.StoredRows.{AreFree, IsFree, KeepsOtherTables, HasStoredRows}
-use Rattle.plant_tables_columns.specs.TableColumns.{row_of_mark}
-use Rattle.plant_tables.specs.DeskTableDefs.{desk_table_defs, later_table_defs, mark_table}
-use Rattle.plant_tables.specs.Keyed.{HoldsTables}
-use Rattle.plant_tables_read.specs.Version.{IsKnown}
+use Rattle.plant_base.specs.{mark_order, State, opening, newest_schema, Mark}
+use Rattle.plant_view.specs.{edges_of, Reaches, node_of, tables_of}
+use Rattle.sql_tables.specs.{AreFree, IsFree, KeepsOtherTables, HasStoredRows}
+use Rattle.plant_tables_columns.specs.{row_of_mark}
+use Rattle.plant_tables.specs.{desk_table_defs, later_table_defs, mark_table, HoldsTables}
+use Rattle.plant_tables_read.specs.{IsKnown}
 use Rattle.plant_desk_store.specs.Adopting.{HoldsValidState, IsAdopted, IsRefusedBy}
 use Rattle.plant_desk_store.specs.DeskStates.{FindsStateOf}
 use Rattle.plant_desk_store.specs.declared.adopting.AdoptFault.{AdoptFault}

@@ -5,17 +5,13 @@ use Rattle.sqlite.specs.Schema.{Schema}
 use Rattle.sqlite.specs.Effect.{Database}
 use Rattle.sqlite.specs.State as store
 use Rattle.sqlite_catalog.specs.Listing.{IsSound}
-use Rattle.plant_base.specs.State.{State, newest_schema}
-use Rattle.plant_base.specs.{Envelope}
-use Rattle.plant_view.specs.Tables.{tables_of, IsWholeIn}
-use Rattle.plant_rules.specs.Step.{step}
+use Rattle.plant_base.specs.{State, newest_schema, Envelope}
+use Rattle.plant_view.specs.{tables_of, IsWholeIn}
+use Rattle.plant_rules.specs.{step}
 use Rattle.plant_invariant.specs.StateInvariant.{StateInvariant}
-use Rattle.sql_tables.specs.StoredRows.{KeepsOtherTables}
-use Rattle.plant_tables.specs.DeskTableDefs.{desk_table_defs}
-use Rattle.plant_tables.specs.DeskCrashStates.{IsAt}
-use Rattle.plant_tables.specs.Keyed.{HoldsTablesOf}
-use Rattle.plant_desk.specs.Keepers.{States}
-use Rattle.plant_desk.specs.Replies.{reply}
+use Rattle.sql_tables.specs.{KeepsOtherTables}
+use Rattle.plant_tables.specs.{desk_table_defs, IsAt, HoldsTablesOf}
+use Rattle.plant_desk.specs.{States, reply}
 use Rattle.plant_messages.specs.{DeskFault, Reply}
 use Rattle.plant_messages.specs.declared.reply.DeskFault.TheVariants.{Store, Memory, Shut}
 

@@ -5,15 +5,14 @@ use Rattle.sqlite.specs.Held.{Held, state}
 use Rattle.sqlite.specs.State as store
 use Rattle.sqlite.specs.State.{HasCleanDisk, IsLive}
 use Rattle.sqlite_trees.specs.declared.store.Store.{Ghosts}
-use Rattle.plant_base.specs.State.{State}
-use Rattle.plant_base.specs.{Envelope}
-use Rattle.plant_rules.specs.Step.{step}
-use Rattle.sql_tables.specs.StoredRows.{AreFree}
-use Rattle.sql_queries.specs.Opened.{IsNewlyOpened}
-use Rattle.plant_tables.specs.DeskTableDefs.{desk_table_defs}
+use Rattle.plant_base.specs.{State, Envelope}
+use Rattle.plant_rules.specs.{step}
+use Rattle.sql_tables.specs.{AreFree}
+use Rattle.sql_queries.specs.{IsNewlyOpened}
+use Rattle.plant_tables.specs.{desk_table_defs}
 use Rattle.plant_check.specs.{Rule}
 use Rattle.plant_causes.specs.{Checked}
-use Rattle.plant_desk.specs.Replies.{reply}
+use Rattle.plant_desk.specs.{reply}
 use Rattle.plant_messages.specs.{Answer, DeskFault, Question, Reply}
 use Rattle.plant_messages.specs.declared.reply.DeskFault.TheVariants.{Store, Memory, Shut}
 use Rattle.plant_desk_store.specs.Calls.{HasAdopted, HasRefused, HasExecuted, HasForetold, HasAsked, HasRun, HasVerified, HasIndexed}

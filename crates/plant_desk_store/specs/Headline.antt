@@ -7,22 +7,15 @@ use Rattle.sqlite.specs.Held.{Held, state}
 use Rattle.sqlite.specs.State as store
 use Rattle.sqlite.specs.State.{HasCleanDisk}
 use Rattle.sqlite_trees.specs.declared.store.Store.{Ghosts}
-use Rattle.plant_base.specs.State.{State, opening, newest_schema, same, lot_at}
-use Rattle.plant_base.specs.{Envelope, Sublot}
-use Rattle.plant_stock.specs.Stock.{entered, left, born_of, left_of}
-use Rattle.plant_trace.specs.Reach.{IsReached, Lists}
-use Rattle.plant_trace.specs.{Direction, Node}
-use Rattle.plant_view.specs.Genealogy.{edges_of}
-use Rattle.plant_view.specs.Tables.{tables_of, IsWholeIn, place_of_row}
+use Rattle.plant_base.specs.{State, opening, newest_schema, same, lot_at, Envelope, Sublot}
+use Rattle.plant_stock.specs.{entered, left, born_of, left_of}
+use Rattle.plant_trace.specs.{IsReached, Lists, Direction, Node}
+use Rattle.plant_view.specs.{edges_of, tables_of, IsWholeIn, place_of_row}
 use Rattle.plant_invariant.specs.StateInvariant.{StateInvariant}
-use Rattle.sql_tables.specs.StoredRows.{AreFree}
-use Rattle.plant_tables.specs.DeskTableDefs.{desk_table_defs}
-use Rattle.plant_tables.specs.Keyed.{HoldsTablesOf, HoldsTables}
-use Rattle.plant_causes.specs.Causes.{checked}
-use Rattle.plant_causes.specs.{Checked}
-use Rattle.plant_answers.specs.AnswerLaws.{StandsFrom, standing_order}
-use Rattle.plant_answers.specs.Answers.{answer}
-use Rattle.plant_answers.specs.Traces.{missing}
+use Rattle.sql_tables.specs.{AreFree}
+use Rattle.plant_tables.specs.{desk_table_defs, HoldsTablesOf, HoldsTables}
+use Rattle.plant_causes.specs.{checked, Checked}
+use Rattle.plant_answers.specs.{StandsFrom, standing_order, answer, missing}
 use Rattle.plant_messages.specs.{Answer, LotAnswer, Question, StandingLot}
 use Rattle.plant_messages.specs.declared.question.Question.TheVariants as Q
 use Rattle.plant_messages.specs.declared.question.Answer.TheVariants as A

@@ -11,5 +11,18 @@ pub mod Runs
 pub mod Resent
 pub mod DeskStates
 pub mod Checks
+pub use Adopting.{AdoptedFrom, Adopts, AreMade, BrokenBy, HoldsValidState, IsAdopted, IsFirstBroken, IsNewlyOpened, IsRaised, IsRefusedBy, IsRisingAt, IsUnraised, NamesFirst, ShowsUnchanged, ValidStateSurvives}
+pub use Calls.{HasAdopted, HasIndexed, HasRefused, IsAccounted}
+pub use Faults.{adopt_fault, desk_fault, looked_up, rows_to_adopt, rows_to_test, schema_found}
+pub use Headline.{AreStandingIn, HasOpenableCrashState, IsAnsweredIn, IsAtState, IsFoundAt, IsKeptAt, IsLotIn, IsSoAt, IsTraceIn, SaysOf}
+pub use DeskLaws.{IsAdoptable, IsOpenedAfter, MarksAreReached, ValidIsAdoptedAgain}
+pub use KeptCrashStates.{kept_crash_states}
+pub use Executions.{Attempt, Execution, PossibleOutcome, StorePhase, acknowledged, adopted, asked, attempt_as, begun, cut_off, desk, executed, foretold, found, given_back, in_flight, indexed, opened, ran, refused, stopped, unadopted, verified}
+pub use Lookups.{IsDecidedAt, IsRepeat}
+pub use Parts.{HasAnswered, HasChecked, HasDecided, HasForeseen, HasMade, HasMended, HasRaised, HasStepped, HasTaken, IsCommitted, OnlyReads, PossibleOutcomes}
+pub use Runs.{Ran, RunEnds}
+pub use Resent.{AreResent, ExecutionsApplyOnce, ExecutionsAreSendings, IsNext, StoresApplyOnce, acknowledged_of, all_attempts}
+pub use DeskStates.{Executed, FindsState, FindsStateOf, HasCrashStates, HasForeignTables, IsDurablyAt, KeepsForeignTables, Represents, ShowsState}
+pub use Checks.{FailsChecks, FailsChecksBy, FailsChecksOf, PassesChecks, PassesChecksOf}
 pub use declared.adopting.AdoptFault.{AdoptFault}
 pub use declared.stored.Desk.{Desk}

@@ -1,9 +1,7 @@
 -- What is decided by look-ups over a store.
 use Rattle.std.specs.Prelude.{◌≡◌, Some, None}
-use Rattle.plant_base.specs.State.{State}
-use Rattle.plant_base.specs.{Envelope, Receipt}
-use Rattle.plant_rules.specs.Step.{IsDecision}
-use Rattle.plant_rules.specs.Wrong.{wrong, kept_for}
+use Rattle.plant_base.specs.{State, Envelope, Receipt}
+use Rattle.plant_rules.specs.{IsDecision, wrong, kept_for}
 use Rattle.plant_desk_store.specs.declared.lookups.Decided.{Decided}
 
 -- the definitions' decision of the command at this state, and the number of commands accepted there

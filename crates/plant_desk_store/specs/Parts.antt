@@ -4,29 +4,17 @@ use Rattle.sqlite.specs.Tree.{Trees}
 use Rattle.sqlite.specs.Effect.{Database, IsDatabase}
 use Rattle.sqlite.specs.State as store
 use Rattle.sqlite.specs.State.{HasCleanDisk, IsUnchanged, Survives}
-use Rattle.plant_base.specs.State.{State, opening, newest_schema}
-use Rattle.plant_base.specs.Values.{greatest_seq}
-use Rattle.plant_base.specs.{Envelope}
-use Rattle.plant_view.specs.OneBatch.{PutsOneBatch}
-use Rattle.plant_view.specs.Tables.{tables_of, changed_all}
-use Rattle.plant_view.specs.{RowChange}
+use Rattle.plant_base.specs.{State, opening, newest_schema, greatest_seq, Envelope}
+use Rattle.plant_view.specs.{PutsOneBatch, tables_of, changed_all, RowChange}
 use Rattle.plant_invariant.specs.StateInvariant.{StateInvariant}
-use Rattle.sql_tables.specs.AtRest.{Keeps}
-use Rattle.sql_tables.specs.StoredRows.{AreFree}
-use Rattle.sql_tables.specs.CrashStates.{IsSettled}
-use Rattle.plant_tables.specs.DeskTableDefs.{desk_table_defs}
-use Rattle.plant_tables.specs.Keyed.{AreFresh}
-use Rattle.plant_tables.specs.Missing.{AddsMissing, AreAllTaken}
-use Rattle.plant_tables_read.specs.Version.{IsKnown, IsVersion}
-use Rattle.plant_tables_read.specs.Collecting.{rows_in, rows_listed}
-use Rattle.plant_tables_read.specs.{DeskRows}
-use Rattle.plant_migrate.specs.Raised.{edges_from}
-use Rattle.plant_migrate.specs.Steps.{IsRaisedBy}
+use Rattle.sql_tables.specs.{Keeps, AreFree, IsSettled}
+use Rattle.plant_tables.specs.{desk_table_defs, AreFresh, AddsMissing, AreAllTaken}
+use Rattle.plant_tables_read.specs.{IsKnown, IsVersion, rows_in, rows_listed, DeskRows}
+use Rattle.plant_migrate.specs.{edges_from, IsRaisedBy}
 use Rattle.plant_check.specs.{Rule}
-use Rattle.plant_answers.specs.Answers.{answer}
-use Rattle.plant_causes.specs.Causes.{checked}
-use Rattle.plant_causes.specs.{Checked}
-use Rattle.plant_desk.specs.Keepers.{writes_nothing}
+use Rattle.plant_answers.specs.{answer}
+use Rattle.plant_causes.specs.{checked, Checked}
+use Rattle.plant_desk.specs.{writes_nothing}
 use Rattle.plant_messages.specs.{Answer, DeskFault, Question, Reply}
 use Rattle.plant_messages.specs.declared.reply.Reply.TheVariants.{Accepted}
 use Rattle.plant_messages.specs.declared.reply.DeskFault.TheVariants.{Store, Shut}

@@ -3,11 +3,8 @@ use Rattle.std.specs.Prelude.{◌≡◌, List, [], ◌∷◌, IsSome, ⊤}
 use Rattle.sqlite.specs.Held.{Held, state}
 use Rattle.sqlite.specs.State.{HasCleanDisk}
 use Rattle.sqlite_trees.specs.declared.store.Store.{Ghosts}
-use Rattle.plant_base.specs.State.{State}
-use Rattle.plant_base.specs.{Envelope}
-use Rattle.plant_desk.specs.AppliedOnce.{once, plain, but_receipts}
-use Rattle.plant_desk.specs.Replies.{reply}
-use Rattle.plant_desk.specs.Sendings.{Outcome, answered, stopped_before, stopped_after, Sending, after, state_after_sending}
+use Rattle.plant_base.specs.{State, Envelope}
+use Rattle.plant_desk.specs.{once, plain, but_receipts, reply, Outcome, answered, stopped_before, stopped_after, Sending, after, state_after_sending}
 use Rattle.plant_desk_store.specs.Headline.{IsAtState, IsSoAt}
 use Rattle.plant_desk_store.specs.Executions.{Attempt, acknowledged, in_flight, PossibleOutcome, IsOpened, StorePhase, Execution}
 

@@ -1,10 +1,8 @@
 -- Lists of commands over a keeper.
 use Rattle.std.specs.Prelude.{◌≡◌, ◌⊎◌, ℕ, Bool, true, false, List, take, slice_get, length, Option, Some, None}
-use Rattle.plant_base.specs.State.{State}
-use Rattle.plant_base.specs.{Envelope}
-use Rattle.plant_rules.specs.Step.{step}
-use Rattle.plant_desk.specs.Keepers.{States}
-use Rattle.plant_desk.specs.Runs.{fold, replies}
+use Rattle.plant_base.specs.{State, Envelope}
+use Rattle.plant_rules.specs.{step}
+use Rattle.plant_desk.specs.{States, fold, replies}
 use Rattle.plant_messages.specs.{DeskFault, Reply}
 use Rattle.plant_messages.specs.declared.reply.DeskFault.TheVariants.{Store, Memory, Shut}
 

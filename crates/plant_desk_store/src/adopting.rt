@@ -2,7 +2,7 @@
 
 ghost use Rattle.std.specs.Prelude.{◌≡◌, ◌≤◌, ◌<◌, false, IfOk, IfErr, MatchResult};
 ghost use Rattle.sqlite.specs.Held.{state};
-ghost use Rattle.plant_base.specs.State.{newest_schema};
+ghost use Rattle.plant_base.specs.{newest_schema};
 ghost use Rattle.plant_desk_store.specs.Adopting.{BrokenBy};
 ghost use Rattle.plant_desk_store.specs.Calls.{HasAdopted, HasRefused};
 ghost use Rattle.plant_desk_store.specs.Faults as spec;

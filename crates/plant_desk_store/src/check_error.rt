@@ -1,7 +1,8 @@
 //! Whether loaded rows are those of a desk.
 
 ghost use Rattle.std.specs.Prelude.{IfOk, IfErr};
-ghost use Rattle.plant_desk_store.specs.Checks.{PassesChecks, FailsChecksBy, PassesChecksOf, FailsChecksOf};
+ghost use Rattle.plant_desk_store.specs.Checks.{PassesChecks, FailsChecksBy, PassesChecksOf};
+ghost use Rattle.plant_desk_store.specs.Checks.{FailsChecksOf};
 
 use plant_check::Rule;
 use plant_check_rows::check_rows;

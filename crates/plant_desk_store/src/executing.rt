@@ -2,9 +2,9 @@
 
 ghost use Rattle.std.specs.Prelude.{◌≡◌, ◌+◌, ◌<◌, ◌≤◌, ◌^◌, ℕ, false, true, Ok};
 ghost use Rattle.sqlite.specs.Held.{state};
-ghost use Rattle.plant_base.specs.Values.{greatest_seq};
-ghost use Rattle.plant_view.specs.OneBatch.{PutsOneBatch};
-ghost use Rattle.plant_desk.specs.Keepers.{writes_nothing};
+ghost use Rattle.plant_base.specs.{greatest_seq};
+ghost use Rattle.plant_view.specs.{PutsOneBatch};
+ghost use Rattle.plant_desk.specs.{writes_nothing};
 ghost use Rattle.plant_desk_store.specs.Parts.{HasCommitted, HasStepped, HasWritten};
 
 use crate::lookups::{Decided, decide_on};

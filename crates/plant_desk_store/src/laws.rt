@@ -5,9 +5,10 @@ ghost use Rattle.sqlite.specs.Held.{state};
 ghost use Rattle.plant_desk_store.specs.Calls.{HasExecuted, HasForetold, HasAsked};
 ghost use Rattle.plant_desk_store.specs.Headline.{Headline};
 ghost use Rattle.plant_desk_store.specs.DeskLaws.{StopsAreReopened, ValidIsNotRefused};
-ghost use Rattle.plant_desk_store.specs.DeskLaws.{ValidIsAdoptedAgain, OpeningIsAdopted, UnknownTablesAreKept};
-ghost use Rattle.plant_desk_store.specs.DeskLaws.{MarksAreReached};
-ghost use Rattle.plant_desk_store.specs.Resent.{ExecutionsAreSendings, ExecutionsApplyOnce, StoresApplyOnce};
+ghost use Rattle.plant_desk_store.specs.DeskLaws.{ValidIsAdoptedAgain, OpeningIsAdopted};
+ghost use Rattle.plant_desk_store.specs.DeskLaws.{UnknownTablesAreKept, MarksAreReached};
+ghost use Rattle.plant_desk_store.specs.Resent.{ExecutionsAreSendings, ExecutionsApplyOnce};
+ghost use Rattle.plant_desk_store.specs.Resent.{StoresApplyOnce};
 
 use crate::stored::Desk;
 use plant_base::Envelope;

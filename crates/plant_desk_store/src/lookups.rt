@@ -3,13 +3,11 @@
 ghost use Rattle.std.specs.Prelude.{◌≡◌, ◌≤◌, IfOk, OnOk, IsTrue};
 ghost use Rattle.sqlite.specs.Held.{state};
 ghost use Rattle.sqlite.specs.State.{HasCleanDisk};
-ghost use Rattle.plant_base.specs.State.{State, newest_schema};
-ghost use Rattle.plant_base.specs.Values.{greatest_seq};
-ghost use Rattle.plant_view.specs.OneBatch.{PutsOneBatch};
-ghost use Rattle.plant_causes.specs.Causes.{checked};
-ghost use Rattle.plant_answers.specs.Answers.{answer};
-ghost use Rattle.plant_keyed.specs.LookupOutcomes.{PreservesFrame};
-ghost use Rattle.plant_keyed.specs.Caching.{IsCacheOf};
+ghost use Rattle.plant_base.specs.{State, newest_schema, greatest_seq};
+ghost use Rattle.plant_view.specs.{PutsOneBatch};
+ghost use Rattle.plant_causes.specs.{checked};
+ghost use Rattle.plant_answers.specs.{answer};
+ghost use Rattle.plant_keyed.specs.{PreservesFrame, IsCacheOf};
 ghost use Rattle.plant_desk_store.specs.Lookups.{IsDecidedAt};
 ghost use Rattle.plant_desk_store.specs.Parts.{HasDecided, HasForeseen, HasAnswered};
 ghost use Rattle.plant_desk_store.specs.DeskStates.{ShowsState};

@@ -1,8 +1,8 @@
 //! Lists of commands over a keeper.
 
 ghost use Rattle.std.specs.Prelude.{◌≡◌, ◌≢◌, ◌≤◌, [], false, true, Some, length};
-ghost use Rattle.plant_base.specs.State.{State};
-ghost use Rattle.plant_desk.specs.Keepers.{IsSameDesk};
+ghost use Rattle.plant_base.specs.{State};
+ghost use Rattle.plant_desk.specs.{IsSameDesk};
 ghost use Rattle.plant_messages.specs.declared.reply.DeskFault.TheVariants as fault;
 ghost use Rattle.plant_desk_store.specs.Runs.{Ran};
 

@@ -1,5 +1,5 @@
 ghost use Rattle.std.specs.Prelude.{◌≡◌, false};
-ghost use Rattle.plant_desk.specs.Keepers.{shuts};
+ghost use Rattle.plant_desk.specs.{shuts};
 
 use crate::executing::execute_on;
 use crate::indexing::index_on;
@@ -109,11 +109,12 @@ impl<S: Alter> Keeper for Desk<S> {
     ghost use Rattle.std.specs.Prelude.{◌≡◌, ◌≢◌, true, false, IfErr, IsErrOf};
     ghost use Rattle.sqlite.specs.Held.{state};
     ghost use Rattle.sqlite.specs.State.{HasCleanDisk, Survives};
-    ghost use Rattle.plant_base.specs.State.{State, newest_schema};
+    ghost use Rattle.plant_base.specs.{State, newest_schema};
     ghost use Rattle.sqlite.specs.Effect.{Database};
-    ghost use Rattle.plant_desk.specs.Keepers.{IsSameDesk, Executes, writes_nothing};
+    ghost use Rattle.plant_desk.specs.{IsSameDesk, Executes, writes_nothing};
     ghost use Rattle.plant_desk_store.specs.Lookups.{IsRepeat};
-    ghost use Rattle.plant_desk_store.specs.DeskStates.{Represents, HasCrashStates, HasForeignTables};
+    ghost use Rattle.plant_desk_store.specs.DeskStates.{Represents, HasCrashStates};
+    ghost use Rattle.plant_desk_store.specs.DeskStates.{HasForeignTables};
     ghost use Rattle.plant_desk_store.specs.KeptCrashStates.{never_nothing, kept_crash_states};
 
     ghost honest = { λ d. HasCleanDisk (state S.Store d.connection) };

@@ -2,7 +2,7 @@
 
 ghost use Rattle.std.specs.Prelude.{◌≡◌, IfOk, IfErr};
 ghost use Rattle.sqlite.specs.Held.{state};
-ghost use Rattle.plant_check.specs.Broken.{first_broken};
+ghost use Rattle.plant_check.specs.{first_broken};
 ghost use Rattle.plant_desk_store.specs.Parts.{HasTested};
 
 use crate::check_error::{CheckError, check_desk};

@@ -1,21 +1,17 @@
 -- What comes of the keeper's replies, where a stop of an open keeper leaves the state that it represents.
 use Rattle.std.proofs.Common.{◌≡◌, ℕ, Bool, true, false, Result, Ok, Err, refl, sym, subst, ap, ◌∙◌, inl, inr}
-use Rattle.plant_base.specs.State.{State}
-use Rattle.plant_base.specs.{Envelope}
-use Rattle.plant_desk.specs.Keepers.{States, Executes, Asks, shuts}
+use Rattle.plant_base.specs.{State, Envelope}
+use Rattle.plant_desk.specs.{States, Executes, Asks, shuts}
 use Rattle.plant_messages.specs.{Answer as DeskAnswer, DeskFault, Question, Reply}
 use Rattle.plant_messages.specs.declared.reply.DeskFault.TheVariants.{Store, Memory, Shut}
-use Rattle.plant_text.specs.CrashStates.{RepresentsDurably}
+use Rattle.plant_text.specs.{RepresentsDurably, ChecksAs, check_when_shut}
 use Rattle.plant_text.proofs.RunCrashStates.{CrashStateIsOwn}
-use Rattle.plant_http_requests.specs.Jobs.{is_of_body, Reads}
-use Rattle.plant_http_requests.specs.{BodyFormat, Job}
+use Rattle.plant_http_requests.specs.{is_of_body, Reads, BodyFormat, Job}
 use Rattle.plant_http_requests.specs.declared.job.Job.TheVariants as J
 use Rattle.plant_text_commands.specs.{ToCheck}
 use Rattle.plant_text_commands.specs.declared.checks.ToCheck.TheVariants as to_check
 use Rattle.plant_text_checks.specs.{CheckAnswer}
-use Rattle.plant_text.specs.Checks.{ChecksAs, check_when_shut}
-use Rattle.plant_http.specs.Answers.{Out, fault_out, reply_out, answer_out, check_out, shut_out, is_silent, rendered, Executed, Asked, Checked}
-use Rattle.plant_http.specs.Serving.{Performs, OutWhenShut, DoneWhenShut}
+use Rattle.plant_http.specs.{Out, fault_out, reply_out, answer_out, check_out, shut_out, is_silent, rendered, Executed, Asked, Checked, Performs, OutWhenShut, DoneWhenShut}
 use Rattle.plant_http.specs.declared.answer.Answer.{Answer}
 
 pub command_performs : (k : ℕ) (s : State) (e : Envelope) (r : Result Reply DeskFault) (a : Answer) (represents : States) (shut : Bool) (crash_states : States → Type 0)

@@ -1,19 +1,16 @@
 -- From a job that was read to the request of the whole input.
-use Rattle.std.proofs.Common.{◌≡◌, ℕ, ◌≤◌, ◌==◌, Bool, true, false, List, [], ◌∷◌, length, Option, Some, None, Result, Ok, Err, refl, sym, arith}
-use Rattle.std.specs.Prelude.{nat_le, if◌then◌else◌, ⊤}
+use Rattle.std.proofs.Common.{◌≡◌, ℕ, ◌≤◌, ◌==◌, Bool, true, false, List, [], ◌∷◌, length, Option, Some, None, Result, Ok, Err, refl, sym, arith, nat_le, if◌then◌else◌, length-append}
+use Rattle.std.specs.Prelude.{⊤}
 use Rattle.std.specs.Io.KnownBytes.{Keeps}
 use Rattle.std.proofs.lemmas.Bool.Decides.{nat_tests}
-use Rattle.std.proofs.lemmas.List.{length-append}
-use Rattle.plant_base.specs.State.{State}
-use Rattle.plant_desk.specs.Keepers.{States}
-use Rattle.plant_http_requests.specs.HeadEnd.{end_of_head, end_where}
-use Rattle.plant_http_requests.specs.PieceReading.{Agrees, SpentAll}
+use Rattle.plant_base.specs.{State}
+use Rattle.plant_desk.specs.{States}
+use Rattle.plant_http_requests.specs.{end_of_head, end_where, Agrees, SpentAll, AsksFor, EndJob, InputFault, Job, Profile}
 use Rattle.plant_http_requests.specs.declared.reading.HeadEnd.{HeadEnd}
 use Rattle.plant_http_requests.specs.declared.reading.HeadEnd.TheVariants as head
-use Rattle.plant_http_requests.specs.Jobs.{AsksFor, EndJob}
-use Rattle.plant_http_requests.specs.{InputFault, Job, Profile}
-use Rattle.plant_http.specs.Serving.{Serves, ServesShut, Answers, AnswersJobShut, end_of}
-use Rattle.plant_text.specs.CrashStates.{RepresentsDurably}
+use Rattle.plant_http.specs.{Serves, ServesShut, AnswersJobShut, end_of}
+use Rattle.plant_http.specs.Serving.{Answers}
+use Rattle.plant_text.specs.{RepresentsDurably}
 use Rattle.plant_http_requests.specs.declared.reading.InputFault.TheVariants as input
 use Rattle.plant_http.specs.declared.serve.Served.{Served}
 use Rattle.plant_http.specs.declared.serve.Served.TheVariants.{Answered, Nothing}

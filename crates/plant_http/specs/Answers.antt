@@ -2,24 +2,19 @@
 use Rattle.std.specs.Prelude.{◌≡◌, ℕ, Bool, false, List, [], ◌++◌, length, codes, decimal, string_bytes, if◌then◌else◌, ◌==◌, ◌⊎◌, Result, Ok, Err}
 use Rattle.desk_page.specs.declared.page.TheConstants.{PAGE}
 use Rattle.desk_page.specs.declared.policy.TheConstants.{POLICY}
-use Rattle.plant_base.specs.State.{State}
-use Rattle.plant_base.specs.Refusals.{number_of}
+use Rattle.plant_base.specs.{State, number_of}
 use Rattle.plant_base.specs.declared.refusal.Refusal.TheVariants.{BadForm}
-use Rattle.plant_orders.specs.Orders.{kind_name}
-use Rattle.plant_orders.specs.{CsvFault}
-use Rattle.plant_answers.specs.Answers.{answer}
-use Rattle.plant_desk.specs.Replies.{reply}
+use Rattle.plant_orders.specs.{kind_name, CsvFault}
+use Rattle.plant_answers.specs.{answer}
+use Rattle.plant_desk.specs.{reply}
 use Rattle.plant_messages.specs.{Answer as DeskAnswer, BatchView, DeskFault, Reply}
 use Rattle.plant_messages.specs.declared.question.Answer.TheVariants as A
 use Rattle.plant_messages.specs.declared.reply.Reply.TheVariants.{Accepted, Refused}
 use Rattle.plant_messages.specs.declared.reply.DeskFault.TheVariants as fault
-use Rattle.plant_record.specs.Record.{record_text}
-use Rattle.plant_text_answers.specs.Answers.{text_of_answer}
-use Rattle.plant_text_answers.specs.Replies.{reply_text, fault_text}
-use Rattle.plant_text_checks.specs.Answers.{check_text}
-use Rattle.plant_text_checks.specs.Checks.{check_answer}
-use Rattle.plant_text_checks.specs.{CheckAnswer}
-use Rattle.plant_text.specs.Checks.{check_when_shut}
+use Rattle.plant_record.specs.{record_text}
+use Rattle.plant_text_answers.specs.{text_of_answer, reply_text, fault_text}
+use Rattle.plant_text_checks.specs.{check_text, check_answer, CheckAnswer}
+use Rattle.plant_text.specs.{check_when_shut}
 use Rattle.plant_http_requests.specs.{Allow, BodyFormat, Job, Status}
 use Rattle.plant_http_requests.specs.declared.job.Job.TheVariants as J
 use Rattle.plant_http_requests.specs.declared.job.BodyFormat.TheVariants.{Json, Record}

@@ -1,17 +1,14 @@
 -- What serving a request does.
 use Rattle.std.specs.Prelude.{◌≡◌, ℕ, ◌≤◌, Bool, true, false, List, [], length, Option, Some, ◌⊎◌, Result, Ok, Err, ⊤}
 use Rattle.std.specs.Io.KnownBytes.{Appends, Keeps}
-use Rattle.plant_base.specs.State.{State}
-use Rattle.plant_desk.specs.Keepers.{States}
+use Rattle.plant_base.specs.{State}
+use Rattle.plant_desk.specs.{States}
 use Rattle.plant_messages.specs.{DeskFault}
 use Rattle.plant_messages.specs.declared.reply.DeskFault.TheVariants as fault
-use Rattle.plant_text.specs.CrashStates.{RepresentsDurably, CrashStatesAtFault}
-use Rattle.plant_text.specs.Session.{Entry, nothing, command, question, check, after, CrashStatesOfFault}
-use Rattle.plant_text.specs.Writes.{AppendsPrefix}
+use Rattle.plant_text.specs.{RepresentsDurably, CrashStatesAtFault, Entry, nothing, command, question, check, after, CrashStatesOfFault, AppendsPrefix}
 use Rattle.plant_text_commands.specs.declared.checks.ToCheck.TheVariants as to_check
-use Rattle.plant_http_requests.specs.{InputFault, Job, Profile}
+use Rattle.plant_http_requests.specs.{InputFault, Job, Profile, JobOf, is_of_body}
 use Rattle.plant_http_requests.specs.declared.reading.InputFault.TheVariants as input
-use Rattle.plant_http_requests.specs.Jobs.{JobOf, is_of_body}
 use Rattle.plant_http_requests.specs.declared.job.Job.TheVariants as J
 use Rattle.plant_http.specs.Answers.{Out, out_of, fault_out, shut_out, is_silent, code_of, answer_bytes}
 use Rattle.plant_http.specs.declared.serve.Served.{Served}

@@ -1,9 +1,10 @@
 //! Answers, before they are written.
 ghost use Rattle.std.specs.Prelude.{◌≡◌, ◌⊎◌, false, IfOk, string_bytes};
-ghost use Rattle.plant_base.specs.Refusals.{number_of};
-ghost use Rattle.plant_http.specs.Answers.{body_bytes, Is, error_out, fault_out, csv_out, reply_out};
-ghost use Rattle.plant_http.specs.Answers.{answer_out, text_in, refused_status, reply_status, answer_status};
-ghost use Rattle.plant_http.specs.Answers.{body_format_for, page_out, check_out};
+ghost use Rattle.plant_base.specs.{number_of};
+ghost use Rattle.plant_http.specs.Answers.{body_bytes, Is, error_out, fault_out, csv_out};
+ghost use Rattle.plant_http.specs.Answers.{reply_out, answer_out, text_in, refused_status};
+ghost use Rattle.plant_http.specs.Answers.{reply_status, answer_status, body_format_for, page_out};
+ghost use Rattle.plant_http.specs.Answers.{check_out};
 
 use crate::media::{MediaType, media_of};
 use crate::room::{Room, csv_text, status_text};

@@ -1,7 +1,7 @@
 //! A job, done by a keeper.
 ghost use Rattle.std.specs.Prelude.{◌≡◌, true, false};
-ghost use Rattle.plant_base.specs.State.{State};
-ghost use Rattle.plant_desk.specs.Keepers.{IsSameDesk};
+ghost use Rattle.plant_base.specs.{State};
+ghost use Rattle.plant_desk.specs.{IsSameDesk};
 ghost use Rattle.plant_http.specs.Answers.{is_silent, rendered, shut_out, Executed, Asked, Checked};
 ghost use Rattle.plant_http.specs.Serving.{Performs, DoneWhenShut};
 ghost use Rattle.plant_http_requests.specs.declared.job.Job.TheVariants as J;

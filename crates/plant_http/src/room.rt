@@ -1,6 +1,6 @@
 //! Short texts in a room of fixed size.
 ghost use Rattle.std.specs.Prelude.{◌≡◌, ◌+◌, ◌≤◌, ◌++◌, [], length, decimal};
-ghost use Rattle.plant_orders.specs.Orders.{kind_name};
+ghost use Rattle.plant_orders.specs.{kind_name};
 ghost use Rattle.plant_http.specs.Answers.{head_text, guard_lines, status_text, csv_text};
 
 use crate::media::{MediaType, policy, type_of};

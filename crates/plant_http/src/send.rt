@@ -1,7 +1,7 @@
 //! Answers, written.
 ghost use Rattle.std.specs.Prelude.{◌≡◌, ◌++◌, length, OnOk, OnErr};
 ghost use Rattle.std.specs.Io.KnownBytes.{Appends};
-ghost use Rattle.plant_text.specs.Writes.{AppendsPrefix};
+ghost use Rattle.plant_text.specs.{AppendsPrefix};
 ghost use Rattle.plant_http.specs.Answers.{answer_bytes, rendered};
 
 use crate::answer::Answer;

@@ -1,9 +1,10 @@
 //! One request, served.
 ghost use Rattle.std.specs.Prelude.{◌≡◌, ℕ, true, false, List};
-ghost use Rattle.plant_base.specs.State.{State};
-ghost use Rattle.plant_desk.specs.Keepers.{IsSameDesk};
-ghost use Rattle.plant_http_requests.specs.PieceReading.{Agrees};
-ghost use Rattle.plant_http.specs.Serving.{Serves, ServesShut, IfUnasked, Answers, AnswersJobShut, end_of};
+ghost use Rattle.plant_base.specs.{State};
+ghost use Rattle.plant_desk.specs.{IsSameDesk};
+ghost use Rattle.plant_http_requests.specs.{Agrees};
+ghost use Rattle.plant_http.specs.Serving.{Serves, ServesShut, IfUnasked, Answers, AnswersJobShut};
+ghost use Rattle.plant_http.specs.Serving.{end_of};
 
 use crate::perform::perform;
 use crate::send::send;

@@ -1,8 +1,7 @@
 -- What was read on is of the input.
-use Rattle.std.proofs.Common.{◌≡◌, ℕ, List, [], ◌++◌, Option, Some, None, refl, sym, ap, ◌∙◌, append_assoc}
+use Rattle.std.proofs.Common.{◌≡◌, ℕ, List, [], ◌++◌, Option, Some, None, refl, sym, ap, ◌∙◌, append_assoc, append-nil}
 use Rattle.std.specs.Io.KnownBytes.{IsAtEnd}
-use Rattle.std.proofs.lemmas.List.{append-nil}
-use Rattle.plant_http_requests.specs.PieceReading.{Agrees, GoesOn}
+use Rattle.plant_http_requests.specs.{Agrees, GoesOn}
 
 -- the bytes are there now and those after them, which are none where the reader is at its end
 pub gone_on : (start left : Option (List ℕ)) (old new : List ℕ) → GoesOn start left old new

@@ -1,12 +1,10 @@
 -- Where a head ends, in a text and in what begins with it.
-use Rattle.std.proofs.Common.{◌≡◌, ℕ, ◌+◌, ◌-◌, ◌<◌, ◌≤◌, ◌==◌, ◌&&◌, Bool, true, false, List, [], ◌∷◌, ◌++◌, length, get_or, take, drop, Option, Some, None, refl, sym, ap, ◌∙◌, arith}
-use Rattle.std.specs.Prelude.{option_map, slice_index, nat_le, if◌then◌else◌}
+use Rattle.std.proofs.Common.{◌≡◌, ℕ, ◌+◌, ◌-◌, ◌<◌, ◌≤◌, ◌==◌, ◌&&◌, Bool, true, false, List, [], ◌∷◌, ◌++◌, length, get_or, take, drop, Option, Some, None, refl, sym, ap, ◌∙◌, arith, option_map, slice_index, nat_le, if◌then◌else◌, append-nil, length-append, take_all}
 use Rattle.std.specs.Io.KnownBytes.{Consumes}
 use Rattle.std.proofs.Math.Seq.{take-append-add}
 use Rattle.std.proofs.lemmas.Bool.Decides.{nat_tests}
-use Rattle.std.proofs.lemmas.List.{append-nil, length-append, take-append-le, take_all, at_drop_more, drop_all}
-use Rattle.plant_http_requests.specs.HeadEnd.{end_of_head, end_where, head_length, blank_length, or_else}
-use Rattle.plant_http_requests.specs.PieceReading.{Agrees, FindsHead}
+use Rattle.std.proofs.lemmas.List.{take-append-le, at_drop_more, drop_all}
+use Rattle.plant_http_requests.specs.{end_of_head, end_where, head_length, blank_length, or_else, Agrees, FindsHead}
 use Rattle.plant_http_requests.specs.declared.reading.HeadEnd.{HeadEnd}
 use Rattle.plant_http_requests.specs.declared.reading.HeadEnd.TheVariants.{Found, TooLong, Early, Nothing}
 

@@ -1,27 +1,20 @@
 -- What bodies ask for, and that an input asks for one thing.
-use Rattle.std.proofs.Common.{◌≡◌, ℕ, Bool, true, false, List, [], drop, take, Option, Some, None, Result, Ok, Err, refl, sym, ap, ◌∙◌}
-use Rattle.std.specs.Prelude.{nat_lt, IfOk, IsErrOf, ◌↔◌}
+use Rattle.std.proofs.Common.{◌≡◌, ℕ, Bool, true, false, List, [], drop, take, Option, Some, None, Result, Ok, Err, refl, sym, ap, ◌∙◌, nat_lt, IfOk, IsErrOf, ◌↔◌, MatchBool}
 use Rattle.std.specs.Result.{result_ok}
-use Rattle.std.specs.Bool.{MatchBool}
 use Rattle.httparse.specs.Grammar.{RequestHead}
 use Rattle.httparse.proofs.GrammarLemmas.{request_unique}
 use Rattle.plant_base.specs.{Envelope, OrderRow}
-use Rattle.plant_orders.specs.Orders.{FailsAs}
-use Rattle.plant_orders.specs.{CsvFault, CsvKind, ImportMetadata}
+use Rattle.plant_orders.specs.{FailsAs, CsvFault, CsvKind, ImportMetadata}
 use Rattle.plant_orders.specs.declared.fault.CsvKind.TheVariants as csv
-use Rattle.plant_text.specs.{Line}
+use Rattle.plant_text.specs.{Line, line_says}
 use Rattle.plant_text.specs.declared.LineFault.{LineFault}
 use Rattle.plant_text.specs.declared.read.Line.TheVariants as L
 use Rattle.plant_text.specs.declared.LineFault.TheVariants as line
 use Rattle.plant_http_requests.specs.declared.reading.HeadEnd.{HeadEnd}
 use Rattle.plant_http_requests.specs.declared.reading.HeadEnd.TheVariants as end
-use Rattle.plant_http_requests.specs.HeadEnd.{end_of_head}
-use Rattle.plant_http_requests.specs.Heads.{field_lines, Parsed}
-use Rattle.plant_http_requests.specs.Steps.{fails}
+use Rattle.plant_http_requests.specs.{end_of_head, field_lines, Parsed, fails, command_job, command_of, check_job, file_job, fault_job_of, body_job, is_of_body, Reads, EndJob, JobOf, parsed_step, finish}
 use Rattle.plant_message_schema.specs.{FormatError}
 use Rattle.plant_text_commands.specs.declared.checks.ToCheck.TheVariants as to_check
-use Rattle.plant_text.specs.Lines.{line_says}
-use Rattle.plant_http_requests.specs.Jobs.{command_job, command_of, check_job, file_job, fault_job_of, body_job, is_of_body, Reads, EndJob, JobOf, parsed_step, finish}
 use Rattle.plant_http_requests.specs.declared.job.Content.TheVariants as content
 use Rattle.plant_http_requests.specs.declared.job.Job.{Job}
 use Rattle.plant_http_requests.specs.declared.job.Job.TheVariants as J

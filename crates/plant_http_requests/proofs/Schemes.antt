@@ -1,6 +1,5 @@
 -- A scheme before a host.
-use Rattle.std.proofs.Common.{◌≡◌, ℕ, ◌==◌, ◌&&◌, Bool, true, false, List, [], ◌∷◌, ◌++◌, length, take, drop, refl}
-use Rattle.std.specs.Prelude.{bytes_eq}
+use Rattle.std.proofs.Common.{◌≡◌, ℕ, ◌==◌, ◌&&◌, Bool, true, false, List, [], ◌∷◌, ◌++◌, length, take, drop, refl, bytes_eq}
 
 and_after : (a b c d : Bool) → (b && c) ≡ d → ((a && b) && c) ≡ (a && d)
 and_after true b c d h = h

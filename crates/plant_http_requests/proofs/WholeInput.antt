@@ -1,17 +1,13 @@
 -- From what was read to the whole input.
-use Rattle.std.proofs.Common.{◌≡◌, ℕ, ◌+◌, ◌-◌, ◌<◌, ◌≤◌, true, false, nat_le, List, [], ◌++◌, length, take, drop, Option, Some, None, refl, sym, ap, ◌∙◌, arith, append_assoc}
-use Rattle.std.specs.Prelude.{slice_range}
+use Rattle.std.proofs.Common.{◌≡◌, ℕ, ◌+◌, ◌-◌, ◌<◌, ◌≤◌, true, false, nat_le, List, [], ◌++◌, length, take, drop, Option, Some, None, refl, sym, ap, ◌∙◌, arith, append_assoc, slice_range, append-nil, length-append, length-drop}
 use Rattle.std.specs.Io.KnownBytes.{Consumes, IsAtEnd}
 use Rattle.std.proofs.lemmas.Bool.Decides.{nat_tests}
-use Rattle.std.proofs.lemmas.List.{append-nil, take-append-le, length-append, length-drop, drop-append-le}
-use Rattle.plant_http_requests.specs.HeadEnd.{end_of_head}
-use Rattle.plant_http_requests.specs.PieceReading.{Agrees, FindsHead, GoesOn, SpentAll}
+use Rattle.std.proofs.lemmas.List.{take-append-le, drop-append-le}
+use Rattle.plant_http_requests.specs.{end_of_head, Agrees, FindsHead, GoesOn, SpentAll, body_job, finish, EndJob, HeadJob, HeadAsksFor, AsksFor, Reads, ReadsSome, StepOf, refusal_of}
 use Rattle.plant_http_requests.specs.declared.reading.HeadEnd.{HeadEnd}
 use Rattle.plant_http_requests.specs.declared.reading.HeadEnd.TheVariants as end
 use Rattle.plant_http_requests.proofs.BodyIsOfInput.{gone_on}
 use Rattle.plant_http_requests.proofs.HeadEnds.{known_end}
-use Rattle.plant_http_requests.specs.Jobs.{body_job, finish, EndJob, HeadJob, HeadAsksFor, AsksFor, Reads, ReadsSome, StepOf}
-use Rattle.plant_http_requests.specs.Steps.{refusal_of}
 use Rattle.plant_http_requests.specs.declared.job.Content.{Content}
 use Rattle.plant_http_requests.specs.declared.job.Job.{Job}
 use Rattle.plant_http_requests.specs.declared.job.HeadStep.{HeadStep}

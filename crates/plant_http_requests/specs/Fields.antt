@@ -1,10 +1,7 @@
 -- The fields of a request, and what they say of an order file in its body.
 use Rattle.std.specs.Prelude.{ℕ, ◌+◌, Bool, ◌==◌, List, [], ◌∷◌, map, codes, bytes_eq, Option, Some, None, option_map, option_and_then, if◌then◌else◌}
 use Rattle.std.specs.Char.{to_ascii_lowercase}
-use Rattle.plant_base.specs.Options.{◌>>=◌}
-use Rattle.plant_base.specs.Digits.{digits_of}
-use Rattle.plant_base.specs.Values.{is_id, is_moment, is_text, only}
-use Rattle.plant_base.specs.{Stamp}
+use Rattle.plant_base.specs.{◌>>=◌, digits_of, is_id, is_moment, is_text, only, Stamp}
 use Rattle.plant_orders.specs.{ImportMetadata}
 
 -- names and values, in their order

@@ -1,6 +1,6 @@
 -- What the fields of a request say of its body, and whether it may be answered.
 use Rattle.std.specs.Prelude.{ℕ, Bool, ◌==◌, nat_lt, nat_le, codes, Option, Some, None, option_and_then, Result, Ok, Err, if◌then◌else◌}
-use Rattle.plant_base.specs.Digits.{digits_of}
+use Rattle.plant_base.specs.{digits_of}
 use Rattle.plant_http_requests.specs.Fields.{Fields, count_named, value_named}
 use Rattle.plant_http_requests.specs.Origins.{is_permitted}
 use Rattle.plant_http_requests.specs.declared.profile.Profile.{Profile}

@@ -1,12 +1,9 @@
 -- What an input asks for.
-use Rattle.std.specs.Prelude.{◌≡◌, ℕ, ◌<◌, Bool, true, false, nat_lt, nat_le, List, length, take, drop, map, Option, Some, None, Result, Ok, Err, if◌then◌else◌}
-use Rattle.std.specs.Bool.{MatchBool}
+use Rattle.std.specs.Prelude.{◌≡◌, ℕ, ◌<◌, Bool, true, false, nat_lt, nat_le, List, length, take, drop, map, Option, Some, None, Result, Ok, Err, if◌then◌else◌, MatchBool}
 use Rattle.httparse.specs.Grammar.{RequestHead}
 use Rattle.httparse.specs.Spans.{name_and_value}
 use Rattle.plant_base.specs.{OrderRow}
-use Rattle.plant_orders.specs.Importing.{import}
-use Rattle.plant_orders.specs.Orders.{orders_of}
-use Rattle.plant_orders.specs.{CsvFault, CsvKind, ImportMetadata}
+use Rattle.plant_orders.specs.{import, orders_of, CsvFault, CsvKind, ImportMetadata}
 use Rattle.plant_orders.specs.declared.fault.CsvKind.TheVariants as csv
 use Rattle.plant_message_schema.specs.declared.members.Member.TheVariants as m
 use Rattle.plant_message_schema.specs.{FormatError}
@@ -14,8 +11,7 @@ use Rattle.plant_message_schema.specs.declared.format_errors.FormatError.TheVari
 use Rattle.plant_message_schema.specs.declared.format_errors.ShapeError.TheVariants as shape_error
 use Rattle.plant_text_commands.specs.{ToCheck}
 use Rattle.plant_text_commands.specs.declared.checks.ToCheck.TheVariants as to_check
-use Rattle.plant_text.specs.Lines.{line_of, line_says}
-use Rattle.plant_text.specs.{Line}
+use Rattle.plant_text.specs.{line_of, line_says, Line}
 use Rattle.plant_text.specs.declared.LineFault.{LineFault}
 use Rattle.plant_text.specs.declared.read.Line.TheVariants as L
 use Rattle.plant_text.specs.declared.LineFault.TheVariants as line

@@ -1,6 +1,6 @@
 -- Which host a request has to name, and of which site it may come.
 use Rattle.std.specs.Prelude.{ℕ, Bool, true, false, ◌&&◌, ◌||◌, ◌==◌, List, [], ◌∷◌, ◌++◌, length, take, drop, codes, bytes_eq, Option, Some, None, is_some, if◌then◌else◌}
-use Rattle.plant_base.specs.Digits.{digits_of}
+use Rattle.plant_base.specs.{digits_of}
 use Rattle.plant_http_requests.specs.Fields.{Fields, count_named, value_named}
 use Rattle.plant_http_requests.specs.declared.profile.Profile.{Profile}
 use Rattle.plant_http_requests.specs.declared.profile.Profile.TheVariants as profile

@@ -4,8 +4,7 @@ use Rattle.plant_messages.specs.{Question}
 use Rattle.plant_messages.specs.declared.question.Question.TheVariants as Q
 use Rattle.plant_trace.specs.declared.direction.Direction.TheVariants.{Back, Forward}
 use Rattle.plant_trace.specs.declared.node.Node.TheVariants as node
-use Rattle.plant_http_routes.specs.Routes.{target_of}
-use Rattle.plant_http_routes.specs.{Kind, Target}
+use Rattle.plant_http_routes.specs.{target_of, Kind, Target}
 use Rattle.plant_http_routes.specs.declared.routes.Kind.TheVariants as kind
 use Rattle.plant_http_routes.specs.declared.routes.Target.TheVariants as target
 use Rattle.plant_http_requests.specs.Fields.{Fields, import_metadata_in}

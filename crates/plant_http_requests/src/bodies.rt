@@ -1,8 +1,9 @@
 //! What a body asks for.
 ghost use Rattle.std.specs.Prelude.{◌≡◌, Ok, Some, None, IfSome};
-ghost use Rattle.plant_orders.specs.Orders.{orders_of};
-ghost use Rattle.plant_text.specs.Lines.{line_of, line_says};
-ghost use Rattle.plant_http_requests.specs.Jobs.{command_job, command_of, checked_as, check_job, file_job, fault_job, body_job, Reads};
+ghost use Rattle.plant_orders.specs.{orders_of};
+ghost use Rattle.plant_text.specs.{line_of, line_says};
+ghost use Rattle.plant_http_requests.specs.Jobs.{command_job, command_of, checked_as, check_job};
+ghost use Rattle.plant_http_requests.specs.Jobs.{file_job, fault_job, body_job, Reads};
 
 use crate::job::{Content, Job};
 use crate::status::Status;

@@ -1,9 +1,9 @@
 //! The fields of a request, and what they say of an order file in its body.
 ghost use Rattle.std.specs.Prelude.{◌≡◌, ◌≤◌, map, length, All, option_map, IfOk, IfSome};
 ghost use Rattle.httparse.specs.Spans.{IsHeaderWithin, header_bytes};
-ghost use Rattle.plant_base.specs.Values.{is_id, is_moment, is_text, only};
-ghost use Rattle.plant_http_requests.specs.Fields.{is_name, count_named, value_named};
-ghost use Rattle.plant_http_requests.specs.Fields.{moment_in, only_moment, operator_in, reference_in};
+ghost use Rattle.plant_base.specs.{is_id, is_moment, is_text, only};
+ghost use Rattle.plant_http_requests.specs.Fields.{is_name, count_named, value_named, moment_in};
+ghost use Rattle.plant_http_requests.specs.Fields.{only_moment, operator_in, reference_in};
 ghost use Rattle.plant_http_requests.specs.Fields.{reference_named, stamp_in, import_metadata_in};
 
 use httparse::spans::HeaderSpan;

@@ -1,9 +1,9 @@
 //! Which host a request names (RFC 9110, section 7.2), and of which site it comes (the field Origin, RFC 6454, section 7).
 ghost use Rattle.std.specs.Prelude.{◌≡◌, length, map, All};
 ghost use Rattle.httparse.specs.Spans.{IsHeaderWithin, header_bytes};
-ghost use Rattle.plant_http_requests.specs.Origins.{is_port, is_host_of, is_further_host, is_served_host};
-ghost use Rattle.plant_http_requests.specs.Origins.{is_origin_of, is_own_origin, has_own_origin};
-ghost use Rattle.plant_http_requests.specs.Origins.{is_of_own_site, is_permitted};
+ghost use Rattle.plant_http_requests.specs.Origins.{is_port, is_host_of, is_further_host};
+ghost use Rattle.plant_http_requests.specs.Origins.{is_served_host, is_origin_of, is_own_origin};
+ghost use Rattle.plant_http_requests.specs.Origins.{has_own_origin, is_of_own_site, is_permitted};
 
 use crate::fields::{count_named, value_named};
 use crate::profile::Profile;

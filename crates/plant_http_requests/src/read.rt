@@ -1,6 +1,6 @@
 //! From the input to what it asks for.
-ghost use Rattle.std.specs.Prelude.{◌≡◌, ℕ, ◌≤◌, ◌+◌, ◌++◌, List, [], Some, None, length, take, drop, IfOk};
-ghost use Rattle.std.specs.Prelude.{IsErrOf, OnErr};
+ghost use Rattle.std.specs.Prelude.{◌≡◌, ℕ, ◌≤◌, ◌+◌, ◌++◌, List, [], Some, None, length, take};
+ghost use Rattle.std.specs.Prelude.{drop, IfOk, IsErrOf, OnErr};
 ghost use Rattle.plant_http_requests.specs.PieceReading.{Agrees, SpentAll};
 ghost use Rattle.plant_http_requests.specs.Jobs.{AsksFor, HeadAsksFor, LacksBody, most_reads};
 

@@ -2,8 +2,8 @@
 ghost use Rattle.std.specs.Prelude.{◌≡◌, ℕ, ◌≤◌, ◌<◌, ◌+◌, List, [], length, IfOk, IsErrOf, OnErr};
 ghost use Rattle.std.specs.Io.KnownBytes.{Consumes};
 ghost use Rattle.plant_http_requests.specs.HeadEnd.{end_of_head, LiesWithin};
-ghost use Rattle.plant_http_requests.specs.PieceReading.{Agrees, TakesPiece, GoesOn, FindsHead, FindsBody};
-ghost use Rattle.plant_http_requests.specs.PieceReading.{Spent, SpentAll};
+ghost use Rattle.plant_http_requests.specs.PieceReading.{Agrees, TakesPiece, GoesOn, FindsHead};
+ghost use Rattle.plant_http_requests.specs.PieceReading.{FindsBody, Spent, SpentAll};
 
 use crate::head_end::head_length;
 use std::io::Read;

@@ -1,8 +1,9 @@
 //! What the head of a request decides.
 ghost use Rattle.std.specs.Prelude.{◌≡◌, bytes_eq, length, map, All};
 ghost use Rattle.httparse.specs.Spans.{IsHeaderWithin, IsWithin, header_bytes, span_bytes};
-ghost use Rattle.plant_http_requests.specs.Steps.{refusal_of, fails, is_head, question_of, body_format_of, post_step};
-ghost use Rattle.plant_http_requests.specs.Steps.{posted_step, asked_step, target_step, is_page, page_step};
+ghost use Rattle.plant_http_requests.specs.Steps.{refusal_of, fails, is_head, question_of};
+ghost use Rattle.plant_http_requests.specs.Steps.{body_format_of, post_step, posted_step};
+ghost use Rattle.plant_http_requests.specs.Steps.{asked_step, target_step, is_page, page_step};
 ghost use Rattle.plant_http_requests.specs.Steps.{routed_step, request_step};
 
 use crate::fields::import_metadata_in;

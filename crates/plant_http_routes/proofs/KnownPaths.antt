@@ -1,9 +1,8 @@
 -- Paths that are known.
 use Rattle.std.proofs.Common.{◌≡◌, Some, None, codes, refl}
 use Rattle.matchit.proofs.OnLiterals.{matchit_on_literals}
-use Rattle.plant_http_routes.specs.Routes.{target_of, found_in}
-use Rattle.plant_base.specs.Dates.{two_of, is_due_day, due_day_of}
-use Rattle.plant_base.specs.Digits.{digits_of}
+use Rattle.plant_http_routes.specs.{target_of, found_in}
+use Rattle.plant_base.specs.{two_of, is_due_day, due_day_of, digits_of}
 use Rattle.plant_base.specs.declared.states.JobState.TheVariants.{Open}
 use Rattle.plant_base.specs.declared.states.RecipeState.TheVariants.{Approved}
 use Rattle.plant_worklists.specs.declared.list.Worklist.TheVariants as list

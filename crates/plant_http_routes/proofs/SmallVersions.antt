@@ -5,7 +5,7 @@ use Rattle.std.specs.List.{list_all}
 use Rattle.std.specs.Str.Parse.{digits_value}
 use Rattle.std.proofs.lemmas.Bool.Decides.{nat_tests}
 use Rattle.std.proofs.lemmas.Str.Parse.{digits_value_short, numerals_by_value, tells_all_ascii_digits}
-use Rattle.plant_base.specs.Digits.{digits_of}
+use Rattle.plant_base.specs.{digits_of}
 
 abbrev or_zero : Option ℕ → ℕ
 or_zero None = 0

@@ -7,14 +7,11 @@ use Rattle.matchit.specs.Router.{RouteOf}
 use Rattle.matchit.specs.Order.{placed}
 use Rattle.matchit.specs.Params.{walk}
 use Rattle.matchit.specs.Seek.{first}
-use Rattle.plant_base.specs.Digits.{digits_of}
-use Rattle.plant_base.specs.Values.{is_amount, is_id, only}
-use Rattle.plant_message_schema.specs.Words.{order_state, recipe_state}
-use Rattle.plant_message_schema.specs.{ListKind}
+use Rattle.plant_base.specs.{digits_of, is_amount, is_id, only}
+use Rattle.plant_message_schema.specs.{order_state, recipe_state, ListKind}
 use Rattle.plant_message_schema.specs.declared.words.ListKind.TheVariants as k
-use Rattle.plant_worklists.specs.{DueCursor, HoldCursor, MovementCursor, RecipeCursor, Worklist}
+use Rattle.plant_worklists.specs.{DueCursor, HoldCursor, MovementCursor, RecipeCursor, Worklist, due_cursor, hold_cursor, recipe_cursor, movement_cursor}
 use Rattle.plant_worklists.specs.declared.list.Worklist.TheVariants as list
-use Rattle.plant_worklists.specs.Cursors.{due_cursor, hold_cursor, recipe_cursor, movement_cursor}
 use Rattle.plant_http_routes.specs.declared.routes.Kind.{Kind}
 use Rattle.plant_http_routes.specs.declared.routes.Kind.TheVariants as kind
 use Rattle.plant_http_routes.specs.declared.routes.Route.{Route}

@@ -2,11 +2,12 @@
 ghost use Rattle.std.specs.Prelude.{◌≡◌, option_and_then, option_copied};
 ghost use Rattle.std.specs.Str.{IsAscii};
 ghost use Rattle.matchit.specs.Params.{walk};
-ghost use Rattle.plant_base.specs.Digits.{digits_of};
-ghost use Rattle.plant_base.specs.Values.{is_amount, only};
-ghost use Rattle.plant_http_routes.specs.Routes.{first_part, second_part, cursor_at, list_named, page_at, listed_at};
-ghost use Rattle.plant_http_routes.specs.Routes.{recipe_cursor_at, due_cursor_at, hold_cursor_at, movement_cursor_at, number_at};
-ghost use Rattle.plant_http_routes.specs.Routes.{recipes_at, due_at, holds_at, ledger_at, commands_at};
+ghost use Rattle.plant_base.specs.{digits_of, is_amount, only};
+ghost use Rattle.plant_http_routes.specs.Routes.{first_part, second_part, cursor_at, list_named};
+ghost use Rattle.plant_http_routes.specs.Routes.{page_at, listed_at, recipe_cursor_at};
+ghost use Rattle.plant_http_routes.specs.Routes.{due_cursor_at, hold_cursor_at, movement_cursor_at};
+ghost use Rattle.plant_http_routes.specs.Routes.{number_at, recipes_at, due_at, holds_at};
+ghost use Rattle.plant_http_routes.specs.Routes.{ledger_at, commands_at};
 
 use crate::path::{first_in, read_id, second_in};
 use crate::routes::Target;

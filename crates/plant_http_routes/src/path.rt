@@ -5,7 +5,7 @@ ghost use Rattle.std.specs.Char.{is_ascii};
 ghost use Rattle.std.specs.List.{list_all};
 ghost use Rattle.std.specs.Str.{IsAscii};
 ghost use Rattle.matchit.specs.Params.{walk};
-ghost use Rattle.plant_base.specs.Values.{is_id, only};
+ghost use Rattle.plant_base.specs.{is_id, only};
 ghost use Rattle.plant_http_routes.specs.Routes.{first_part, second_part};
 
 use matchit::Params;

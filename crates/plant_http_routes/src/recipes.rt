@@ -2,7 +2,7 @@
 ghost use Rattle.std.specs.Prelude.{◌≡◌, option_copied};
 ghost use Rattle.std.specs.Str.{IsAscii};
 ghost use Rattle.matchit.specs.Params.{walk};
-ghost use Rattle.plant_base.specs.Digits.{digits_of};
+ghost use Rattle.plant_base.specs.{digits_of};
 ghost use Rattle.plant_http_routes.specs.Routes.{first_part, second_part, recipe_named};
 
 use crate::path::{first_in, read_id, second_in};

@@ -2,7 +2,8 @@
 ghost use Rattle.std.specs.Prelude.{◌≡◌, IfOk, OnOk, option_and_then};
 ghost use Rattle.std.specs.Str.{IsAscii};
 ghost use Rattle.matchit.specs.Seek.{first};
-ghost use Rattle.plant_http_routes.specs.Routes.{the_routes, around_routes, list_routes, cursor_routes, recipe_routes, whole_list_routes};
+ghost use Rattle.plant_http_routes.specs.Routes.{the_routes, around_routes, list_routes};
+ghost use Rattle.plant_http_routes.specs.Routes.{cursor_routes, recipe_routes, whole_list_routes};
 ghost use Rattle.plant_http_routes.specs.Routes.{target_by, found_in, target_of};
 
 use crate::lists::list_at;

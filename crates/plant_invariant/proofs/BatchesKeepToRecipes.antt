@@ -1,19 +1,16 @@
 -- Batches keep to their control recipes after one more command.
 use Rattle.std.proofs.Common.{◌≡◌, ◌∙◌, ℕ, true, false, List, is_some, ap}
-use Rattle.plant_base.specs.State.{State, same, put, lot_order, control_line_order, lot_at}
-use Rattle.plant_base.specs.{ControlLine, Lot, Movement, MovementKind, RecipeLine}
+use Rattle.plant_base.specs.{State, same, put, lot_order, control_line_order, lot_at, ControlLine, Lot, Movement, MovementKind, RecipeLine}
 use Rattle.plant_base.specs.declared.rows.MovementKind.TheVariants as kind
-use Rattle.plant_stock.specs.Stock.{goes_to, comes_from}
-use Rattle.plant_view.specs.Genealogy.{batch_by, IsBatchThere}
-use Rattle.plant_view.specs.Production.{control_line, control_among, is_batch_among}
-use Rattle.plant_view.specs.Rows.{numbered, put_all}
-use Rattle.plant_view.specs.DecisionInvariant.{DecisionInvariant, IsThere}
+use Rattle.plant_stock.specs.{goes_to, comes_from}
+use Rattle.plant_view.specs.{batch_by, IsBatchThere, control_line, control_among, is_batch_among, numbered, put_all, IsThere, is_taken, is_made}
+use Rattle.plant_view.specs.DecisionInvariant.{DecisionInvariant}
 use Rattle.plant_view.proofs.CommandsPreserveInvariant.{all_two, lot_known, lot_stays}
 use Rattle.plant_view.proofs.RowsInTurn.{filter_past_all, all_numbered}
 use Rattle.plant_view.proofs.RowKeys.{control_line_order_total, control_batch_tied, ids_apart}
-use Rattle.plant_rules.specs.Splitting.{def_of}
-use Rattle.plant_view.specs.Materials.{is_taken, is_made}
-use Rattle.plant_invariant.specs.KeepToRecipes.{IsAsked, KeepToRecipes}
+use Rattle.plant_rules.specs.{def_of}
+use Rattle.plant_invariant.specs.{IsAsked}
+use Rattle.plant_invariant.specs.KeepToRecipes.{KeepToRecipes}
 
 -- ---- a new lot
 

@@ -1,23 +1,19 @@
 -- The columns of the tables of a valid state.
-use Rattle.std.proofs.Common.{◌≡◌, ◌∙◌, ℕ, ◌≤◌, Bool, true, false, List, [], ◌∷◌, Option, Some, None, is_some, refl, arith}
-use Rattle.std.specs.Prelude.{◌==◌, ◌&&◌}
+use Rattle.std.proofs.Common.{◌≡◌, ◌∙◌, ℕ, ◌≤◌, Bool, true, false, List, [], ◌∷◌, Option, Some, None, is_some, refl, arith, ◌==◌, ◌&&◌, eqb-true}
 use Rattle.std.specs.List.{AllByRecursion}
-use Rattle.std.proofs.lemmas.Bool.{false≢true, eqb-true}
+use Rattle.std.proofs.lemmas.Bool.{false≢true}
 use Rattle.std.proofs.lemmas.Bool.Decides.{nat_tests}
-use Rattle.plant_base.specs.State.{State, newest_schema, same, place_at}
-use Rattle.plant_base.specs.{Batch, Movement, MovementKind, Place}
+use Rattle.plant_base.specs.{State, newest_schema, same, place_at, Batch, Movement, MovementKind, Place}
 use Rattle.plant_base.specs.declared.rows.MovementKind.TheVariants as kind
 use Rattle.plant_base.proofs.PutKeepsOrder.{all_weaker}
 use Rattle.plant_base.proofs.FindIsFirst.{found_passes, found_keeps}
 use Rattle.plant_base.proofs.KeyOrders.{same_key, key_itself}
 use Rattle.plant_recipe.proofs.EventFold.{after_in_range}
-use Rattle.plant_stock.specs.Stock.{goes_to, is_sublot_key, is_division, entries}
-use Rattle.plant_view.specs.DecisionInvariant.{IsThere}
-use Rattle.plant_view.specs.Tables.{tables_of, phases_among, events_among, batch_row, sublot_row}
+use Rattle.plant_stock.specs.{goes_to, is_sublot_key, is_division, entries}
+use Rattle.plant_view.specs.{IsThere, tables_of, phases_among, events_among, batch_row, sublot_row}
 use Rattle.plant_view.proofs.CommandsPreserveInvariant.{all_two}
 use Rattle.plant_view.proofs.RowsInTurn.{all_of, all_mapped}
-use Rattle.plant_invariant.specs.Births.{IsDivision, IsBorn}
-use Rattle.plant_invariant.specs.Columns.{HasProgressValues, BeginsAtZero, HasColumns}
+use Rattle.plant_invariant.specs.{IsDivision, IsBorn, HasProgressValues, BeginsAtZero, HasColumns}
 use Rattle.plant_invariant.specs.StateInvariant.{StateInvariant}
 use Rattle.plant_invariant.proofs.ListsThatGrow.{all_swap, all_passing}
 

@@ -1,22 +1,16 @@
 -- The lines of a merge are one booking, which makes its lot.
 use Rattle.std.proofs.Common.{◌≡◌, ℕ, ◌+◌, ◌≤◌, true, false, List, [], ◌∷◌, length, map, is_some, refl, arith}
 use Rattle.std.specs.List.{AllByRecursion}
-use Rattle.plant_base.specs.Values.{is_id}
-use Rattle.plant_base.specs.WellFormedCommands.{HasPartValues}
-use Rattle.plant_base.specs.State.{State, put, lot_order, place_at}
-use Rattle.plant_base.specs.{Lot, Movement, Part, Stamp}
+use Rattle.plant_base.specs.{is_id, HasPartValues, State, put, lot_order, place_at, Lot, Movement, Part, Stamp}
 use Rattle.plant_base.specs.declared.rows.MovementKind.TheVariants.{Merged}
 use Rattle.plant_base.proofs.KeyOrders.{same_itself}
-use Rattle.plant_stock.specs.Stock.{comes_from, are_one_merge, is_one_source, greatest_parts}
-use Rattle.plant_view.specs.DecisionInvariant.{IsThere}
+use Rattle.plant_stock.specs.{comes_from, are_one_merge, is_one_source, greatest_parts}
+use Rattle.plant_view.specs.{IsThere}
 use Rattle.plant_view.proofs.CommandsPreserveInvariant.{all_two}
-use Rattle.plant_rules.specs.Merging.{part_line, part_lines}
+use Rattle.plant_rules.specs.{part_line, part_lines}
 use Rattle.plant_rules.proofs.MergePreservesInvariant.{all_lines}
 use Rattle.plant_rules.proofs.MergeParts.{Apart, AreApart}
-use Rattle.plant_invariant.specs.RowValues.{HasMovementValues}
-use Rattle.plant_invariant.specs.Bookings.{AreCounted, AreOfOneMerge, AreDistinct, IsBooking}
-use Rattle.plant_invariant.specs.Births.{are_one_birth, IsBirth}
-use Rattle.plant_invariant.specs.KeepToRecipes.{IsAsked}
+use Rattle.plant_invariant.specs.{HasMovementValues, AreCounted, AreOfOneMerge, AreDistinct, IsBooking, are_one_birth, IsBirth, IsAsked}
 use Rattle.plant_invariant.specs.StateInvariant.{StateInvariant}
 use Rattle.plant_invariant.proofs.SublotBirths.{PossibleOutcomes}
 use Rattle.plant_invariant.proofs.OneMoreCommand.{IsNextStamp, IsNextBooking, sub_small}

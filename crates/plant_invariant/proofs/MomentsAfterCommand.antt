@@ -6,8 +6,7 @@ use Rattle.plant_base.specs.{Batch, BatchEvent, Hold, Movement, Position}
 use Rattle.plant_base.proofs.PutKeepsOrder.{all_weaker}
 use Rattle.plant_view.proofs.CommandsPreserveInvariant.{all_two}
 use Rattle.plant_view.proofs.RowsInTurn.{all_mapped}
-use Rattle.plant_invariant.specs.Bookings.{IsNumbered}
-use Rattle.plant_invariant.specs.Moments.{mark_of_movement, mark_of_event, marks, IsNoLater, HasMoments}
+use Rattle.plant_invariant.specs.{IsNumbered, mark_of_movement, mark_of_event, marks, IsNoLater, HasMoments}
 use Rattle.plant_invariant.proofs.ListsThatGrow.{all_append, all_middle, all_end}
 
 -- ---- marks

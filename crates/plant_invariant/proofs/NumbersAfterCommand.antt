@@ -1,18 +1,15 @@
 -- What the movements or the event of one more command do to the numbers.
-use Rattle.std.proofs.Common.{◌≡◌, ◌∙◌, ℕ, ◌+◌, ◌<◌, Bool, true, false, List, [], ◌∷◌, ◌++◌, map, Option, Some, None, refl, sym, ap, subst, arith}
-use Rattle.std.specs.Prelude.{◌==◌}
+use Rattle.std.proofs.Common.{◌≡◌, ◌∙◌, ℕ, ◌+◌, ◌<◌, Bool, true, false, List, [], ◌∷◌, ◌++◌, map, Option, Some, None, refl, sym, ap, subst, arith, ◌==◌, nat_cmp, Less, eqb-true}
 use Rattle.std.specs.List.{AllByRecursion}
 use Rattle.std.specs.List.Sorted.{IsStrictlySortedBy}
-use Rattle.std.specs.Ordering.{nat_cmp, ordering_then}
-use Rattle.std.specs.declared.cmp.Ordering.TheVariants.{Less}
+use Rattle.std.specs.Ordering.{ordering_then}
 use Rattle.std.proofs.lemmas.Cmp.{tied_itself, nat_cmp_total}
-use Rattle.std.proofs.lemmas.Bool.{false≢true, eqb-true}
-use Rattle.plant_base.specs.{BatchEvent, Movement}
+use Rattle.std.proofs.lemmas.Bool.{false≢true}
+use Rattle.plant_base.specs.{BatchEvent, Movement, event_order, movement_order}
 use Rattle.plant_base.proofs.PutKeepsOrder.{all_weaker, all_push}
-use Rattle.plant_stock.specs.Stock.{goes_to, comes_from, is_sublot_key}
+use Rattle.plant_stock.specs.{goes_to, comes_from, is_sublot_key}
 use Rattle.plant_view.proofs.CommandsPreserveInvariant.{all_two}
-use Rattle.plant_base.specs.State.{event_order, movement_order}
-use Rattle.plant_invariant.specs.Bookings.{AreCounted, booked, IsBooking, IsEnteredBefore, IsNumbered}
+use Rattle.plant_invariant.specs.{AreCounted, booked, IsBooking, IsEnteredBefore, IsNumbered}
 use Rattle.plant_invariant.proofs.ListsThatGrow.{all_append, filter_old, filter_added, sorted_append, sorted_push, number_less, numbers_differ}
 
 -- ---- the order of movements

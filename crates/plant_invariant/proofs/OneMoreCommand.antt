@@ -1,28 +1,20 @@
 -- What one more command does to a valid state, by what it adds.
-use Rattle.std.proofs.Common.{◌≡◌, ℕ, ◌+◌, ◌≤◌, ◌<◌, true, false, List, [], ◌∷◌, ◌++◌, Option, Some, None, is_some, refl, ap, arith}
-use Rattle.std.specs.Prelude.{◌&&◌, ◌==◌}
+use Rattle.std.proofs.Common.{◌≡◌, ℕ, ◌+◌, ◌≤◌, ◌<◌, true, false, List, [], ◌∷◌, ◌++◌, Option, Some, None, is_some, refl, ap, arith, ◌&&◌, ◌==◌}
 use Rattle.std.specs.List.{AllByRecursion}
 use Rattle.std.proofs.lemmas.Bool.{false≢true}
-use Rattle.plant_base.specs.Values.{is_id, is_text, is_amount, is_moment, greatest_sublot, greatest_seq}
-use Rattle.plant_base.specs.State.{State, same, put, lot_order, place_order, lot_at, place_at}
-use Rattle.plant_base.specs.{Batch, BatchEvent, Class, ControlLine, Definition, Hold, Job, Lot, MasterLine, Movement, MovementKind, Place, Recall, Recipe, Stamp}
+use Rattle.plant_base.specs.{is_id, is_text, is_amount, is_moment, greatest_sublot, greatest_seq, State, same, put, lot_order, place_order, lot_at, place_at, Batch, BatchEvent, Class, ControlLine, Definition, Hold, Job, Lot, MasterLine, Movement, MovementKind, Place, Recall, Recipe, Stamp, HasClassValues, HasDefinitionValues, HasLotValues, HasHoldValues}
 use Rattle.plant_base.proofs.FindIsFirst.{found_passes, found_keeps}
 use Rattle.plant_base.proofs.KeyOrders.{same_key}
 use Rattle.plant_base.proofs.PutKeepsOrder.{all_weaker, all_put, all_push}
-use Rattle.plant_stock.specs.Stock.{goes_to, comes_from}
-use Rattle.plant_view.specs.DecisionInvariant.{DecisionInvariant, IsThere}
+use Rattle.plant_stock.specs.{goes_to, comes_from}
+use Rattle.plant_view.specs.{IsThere}
+use Rattle.plant_view.specs.DecisionInvariant.{DecisionInvariant}
 use Rattle.plant_view.proofs.StockColumn.{no_place}
-use Rattle.plant_rules.specs.Booking.{line_of}
-use Rattle.plant_rules.specs.Scrapping.{taken_as}
+use Rattle.plant_rules.specs.{line_of, taken_as}
 use Rattle.plant_rules.proofs.TakingRows.{Takes}
-use Rattle.plant_base.specs.RowValues.{HasClassValues, HasDefinitionValues, HasLotValues, HasHoldValues}
-use Rattle.plant_invariant.specs.RowValues.{HasEventValues, HasKindValues, HasMovementValues, HasPlaceValues}
-use Rattle.plant_invariant.specs.Bookings.{IsBooking}
-use Rattle.plant_invariant.specs.Births.{IsBirth, AreBorn}
-use Rattle.plant_invariant.specs.KeepToRecipes.{IsAsked, KeepToRecipes}
+use Rattle.plant_invariant.specs.{HasEventValues, HasKindValues, HasMovementValues, HasPlaceValues, IsBooking, IsBirth, AreBorn, IsAsked, AreValidReceipts, AreValidRecalls}
+use Rattle.plant_invariant.specs.KeepToRecipes.{KeepToRecipes}
 use Rattle.plant_invariant.specs.StateInvariant.{StateInvariant}
-use Rattle.plant_invariant.specs.Receipts.{AreValidReceipts}
-use Rattle.plant_invariant.specs.Recalls.{AreValidRecalls}
 use Rattle.plant_invariant.proofs.ReceiptsStayValid.{stay_valid}
 use Rattle.plant_invariant.proofs.RecallsStayValid.{recalls_later, recalls_with_lot}
 use Rattle.plant_invariant.proofs.ListsThatGrow.{all_append}

@@ -1,14 +1,12 @@
 -- Recalls stay valid.
 use Rattle.std.proofs.Common.{◌≡◌, ◌∙◌, ◌≤◌, ℕ, false, List, Option, Some, None, find, is_some, refl, ap, arith}
-use Rattle.plant_base.specs.RowValues.{HasLiftingValues}
-use Rattle.plant_base.specs.State.{State, same, put, lot_order, recall_order, lot_at}
-use Rattle.plant_base.specs.{Lifting, Lot, Recall, Stamp}
+use Rattle.plant_base.specs.{HasLiftingValues, State, same, put, lot_order, recall_order, lot_at, Lifting, Lot, Recall, Stamp}
 use Rattle.plant_base.proofs.FindIsFirst.{found_keeps}
 use Rattle.plant_base.proofs.PutKeepsOrder.{all_weaker, all_put}
 use Rattle.plant_view.specs.DecisionInvariant.{DecisionInvariant}
 use Rattle.plant_view.proofs.CommandsPreserveInvariant.{lot_stays}
-use Rattle.plant_rules.specs.Recalling.{lifted, with_lifted}
-use Rattle.plant_invariant.specs.Recalls.{IsLiftedBetween, IsValidRecall, AreValidRecalls}
+use Rattle.plant_rules.specs.{lifted, with_lifted}
+use Rattle.plant_invariant.specs.{IsLiftedBetween, IsValidRecall, AreValidRecalls}
 
 lifted_later : (opened at now : ℕ) → at ≤ now → (o : Option Lifting) → IsLiftedBetween opened at o → IsLiftedBetween opened now o
 lifted_later opened at now on None between = tt

@@ -1,19 +1,14 @@
 -- Receipts stay valid.
-use Rattle.std.proofs.Common.{◌≡◌, ◌≤◌, ◌<◌, ◌+◌, ℕ, false, List, [], ◌∷◌, arith}
-use Rattle.std.specs.Prelude.{◌==◌}
+use Rattle.std.proofs.Common.{◌≡◌, ◌≤◌, ◌<◌, ◌+◌, ℕ, false, List, [], ◌∷◌, arith, ◌==◌, Ordering, Less, Equal, Greater}
 use Rattle.std.specs.List.{AllByRecursion}
 use Rattle.std.specs.List.Sorted.{IsStrictlySortedBy}
 use Rattle.std.specs.Ordering.{match_ordering}
-use Rattle.std.specs.declared.cmp.Ordering.{Ordering}
-use Rattle.std.specs.declared.cmp.Ordering.TheVariants.{Less, Equal, Greater}
 use Rattle.std.proofs.lemmas.Bool.Decides.{nat_tests}
-use Rattle.plant_base.specs.Content.{content_of}
-use Rattle.plant_base.specs.State.{put, receipt_order}
-use Rattle.plant_base.specs.{Receipt}
+use Rattle.plant_base.specs.{content_of, put, receipt_order, Receipt}
 use Rattle.plant_base.proofs.PutKeepsOrder.{all_weaker, all_put, sorted_put}
 use Rattle.plant_base.proofs.KeyOrders.{id_total}
 use Rattle.plant_base.proofs.ContentIsInjective.{content_written}
-use Rattle.plant_invariant.specs.Receipts.{HasReceiptValues, AreApart, OpeningHasNone, StayValid, AreValidWith}
+use Rattle.plant_invariant.specs.{HasReceiptValues, AreApart, OpeningHasNone, StayValid, AreValidWith}
 
 pub none_valid : OpeningHasNone
 unfolding IsStrictlySortedBy

@@ -1,14 +1,10 @@
 -- Every command leaves a valid state valid, and the opening state is valid.
-use Rattle.std.proofs.Common.{◌≡◌, ◌∙◌, ℕ, ◌≤◌, refl, sym, ap, subst, is_some, is_none, true, List, [], ◌∷◌, Option, Some, None, arith, nat_lt, length}
-use Rattle.std.specs.Prelude.{not, ◌+◌, ◌&&◌, filter, IfSome}
+use Rattle.std.proofs.Common.{◌≡◌, ◌∙◌, ℕ, ◌≤◌, refl, sym, ap, subst, is_some, is_none, true, List, [], ◌∷◌, Option, Some, None, arith, nat_lt, length, not, ◌+◌, ◌&&◌, filter, IfSome, ltb-false}
 use Rattle.std.specs.List.{AllByRecursion}
 use Rattle.std.specs.List.Sorted.{IsStrictlySortedBy}
-use Rattle.std.proofs.lemmas.Bool.{false≢true, ltb-false}
+use Rattle.std.proofs.lemmas.Bool.{false≢true}
 use Rattle.std.proofs.lemmas.List.Elements.{recursion_from_All}
-use Rattle.plant_base.specs.Values.{is_id}
-use Rattle.plant_base.specs.State.{State, opening, same, put, class_order, definition_order, batch_order, lot_order, hold_order, receipt_order, recall_order, control_lines_of, definition_at, lot_at, place_at, batch_at, job_at, recall_at}
-use Rattle.plant_base.specs.WellFormedCommands.{HasValues, HasBodyValues, HasPartValues, is_phase_number, are_parts, stamp_of}
-use Rattle.plant_base.specs.{Batch, Class, Command, Definition, Envelope, Hold, Lot, Part, Place, Receipt, Refusal, Stamp}
+use Rattle.plant_base.specs.{is_id, State, opening, same, put, class_order, definition_order, batch_order, lot_order, hold_order, receipt_order, recall_order, control_lines_of, definition_at, lot_at, place_at, batch_at, job_at, recall_at, HasValues, HasBodyValues, HasPartValues, is_phase_number, are_parts, stamp_of, Batch, Class, Command, Definition, Envelope, Hold, Lot, Part, Place, Receipt, Refusal, Stamp, content_of, HasClassValues, HasDefinitionValues, HasLotValues, HasHoldValues}
 use Rattle.plant_base.specs.declared.refusal.Refusal.TheVariants.{BadForm, MomentBack}
 use Rattle.plant_base.specs.declared.states.Word.TheVariants.{Done}
 use Rattle.plant_base.specs.declared.states.Event.TheVariants as event
@@ -17,36 +13,23 @@ use Rattle.plant_base.specs.declared.command.Command.TheVariants as body
 use Rattle.plant_base.proofs.FindIsFirst.{found_keeps}
 use Rattle.plant_base.proofs.PutKeepsOrder.{all_weaker, all_put, found_new}
 use Rattle.plant_base.proofs.KeyOrders.{same_itself}
-use Rattle.plant_view.specs.Refusals.{sublot_standing}
+use Rattle.plant_view.specs.{sublot_standing, is_taken, is_made}
 use Rattle.plant_view.specs.DecisionInvariant.{DecisionInvariant}
 use Rattle.plant_view.proofs.CommandsPreserveInvariant.{passed, is_there}
 use Rattle.plant_view.proofs.RowsInTurn.{all_filtered}
 use Rattle.plant_view.proofs.TestsAndSums.{and_left, not_false}
-use Rattle.plant_rules_production.specs.Batches.{event_row, close_batch}
-use Rattle.plant_rules_production.specs.Releasing.{control_of_job, lines_in, released_batch, release}
-use Rattle.plant_rules_production.specs.Recipes.{add_recipe, approve, withdraw}
-use Rattle.plant_rules_production.specs.Orders.{import_orders, cancel_order}
-use Rattle.plant_rules.specs.Booking.{line_of}
-use Rattle.plant_view.specs.Materials.{is_taken, is_made}
-use Rattle.plant_rules.specs.Division.{next_number}
-use Rattle.plant_rules.specs.Recalling.{opened, with_lifted}
-use Rattle.plant_rules.specs.Splitting.{def_of}
-use Rattle.plant_rules.specs.Merging.{def_at, def_of_parts, part_lines}
-use Rattle.plant_base.specs.Content.{content_of}
-use Rattle.plant_rules.specs.Wrong.{is_whole, wrong, wrong_body, wrong_there, decoded, kept_for}
-use Rattle.plant_rules.specs.Step.{step, step_body, unless_refused, noted, taken}
+use Rattle.plant_rules_production.specs.{event_row, close_batch, control_of_job, lines_in, released_batch, release, add_recipe, approve, withdraw, import_orders, cancel_order}
+use Rattle.plant_rules.specs.{line_of, next_number, opened, with_lifted, def_of, def_at, def_of_parts, part_lines, is_whole, wrong, wrong_body, wrong_there, decoded, kept_for, step, step_body, unless_refused, noted, taken}
 use Rattle.plant_rules.proofs.NextSublotNumber.{next_free}
 use Rattle.plant_rules.proofs.MergeParts.{formed_some, formed_few, formed_apart, parts_there, parts_ready, parts_pass}
 use Rattle.plant_rules.proofs.StepPreservesInvariant.{plain_preserves_invariant, noted_consistent, opening_has_invariant}
 use Rattle.plant_rules.proofs.TakingRows.{scrap_takes, consumption_takes}
-use Rattle.plant_base.specs.RowValues.{HasClassValues, HasDefinitionValues, HasLotValues, HasHoldValues}
 use Rattle.plant_invariant.specs.StateInvariant.{StateInvariant}
 use Rattle.plant_invariant.proofs.BatchesKeepToRecipes.{kept_with_batch}
 use Rattle.plant_invariant.proofs.SublotBirths.{births_divided}
 use Rattle.plant_invariant.proofs.LineValues.{row_values}
 use Rattle.plant_invariant.proofs.OneMoreCommand.{IsNextStamp, valid_catalogued, valid_held, valid_recalled, valid_planned, no_later, held_no_later, recalls_stay, valid_happened, valid_taken, valid_divided, valid_born, sub_small, one_line}
-use Rattle.plant_invariant.specs.Receipts.{AreValidReceipts}
-use Rattle.plant_invariant.specs.Recalls.{IsValidRecall}
+use Rattle.plant_invariant.specs.{AreValidReceipts, IsValidRecall}
 use Rattle.plant_invariant.proofs.ReceiptsStayValid.{none_valid, valid_with}
 use Rattle.plant_invariant.proofs.RecallsStayValid.{recalls_lifted}
 use Rattle.plant_rules.proofs.AcceptedHasNumber.{failing, behind, not_failing, number_left}

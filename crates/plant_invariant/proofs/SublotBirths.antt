@@ -1,26 +1,23 @@
 -- How sublots came to be, after the movements of one more command.
-use Rattle.std.proofs.Common.{◌≡◌, ◌∙◌, ℕ, ◌+◌, ◌≤◌, Bool, true, false, List, [], ◌∷◌, ◌++◌, length, map, filter, Option, Some, None, is_some, refl, sym, ap, subst, arith}
-use Rattle.std.specs.Prelude.{◌==◌, ◌&&◌}
+use Rattle.std.proofs.Common.{◌≡◌, ◌∙◌, ℕ, ◌+◌, ◌≤◌, Bool, true, false, List, [], ◌∷◌, ◌++◌, length, map, filter, Option, Some, None, is_some, refl, sym, ap, subst, arith, ◌==◌, ◌&&◌, nat_cmp, Equal}
 use Rattle.std.specs.List.{AllByRecursion}
-use Rattle.std.specs.Ordering.{nat_cmp, ordering_then}
-use Rattle.std.specs.declared.cmp.Ordering.TheVariants.{Equal}
+use Rattle.std.specs.Ordering.{ordering_then}
 use Rattle.std.proofs.lemmas.Cmp.{tied_itself, nat_list_cmp_total, nat_list_eq_equiv}
 use Rattle.std.proofs.lemmas.List.{map-append}
 use Rattle.std.proofs.Math.Nat.{le-max_left, le-max_right}
-use Rattle.plant_base.specs.State.{State, same, put, id_cmp, lot_order, place_order, lot_at, place_at}
-use Rattle.plant_base.specs.{Lot, Movement, Place}
+use Rattle.plant_base.specs.{State, same, put, id_cmp, lot_order, place_order, lot_at, place_at, Lot, Movement, Place}
 use Rattle.plant_base.proofs.PutKeepsOrder.{all_weaker, all_put}
 use Rattle.plant_base.proofs.KeyOrders.{same_id, same_itself, key_itself, same_key_tie, test_tie, place_order_total, place_tie}
-use Rattle.plant_stock.specs.Stock.{goes_to, is_sublot_key, entries}
-use Rattle.plant_view.specs.DecisionInvariant.{DecisionInvariant, IsThere}
+use Rattle.plant_stock.specs.{goes_to, is_sublot_key, entries}
+use Rattle.plant_view.specs.{IsThere}
+use Rattle.plant_view.specs.DecisionInvariant.{DecisionInvariant}
 use Rattle.plant_view.proofs.CommandsPreserveInvariant.{all_two}
 use Rattle.plant_view.proofs.RowsInTurn.{none_passes, none_left, filtered_passes, filter_past, filter_put, put_last}
 use Rattle.plant_view.proofs.RowKeys.{ids_apart, keys_apart}
 use Rattle.plant_view.proofs.StockColumn.{no_place}
 use Rattle.plant_rules.proofs.NextSublotNumber.{next_free}
-use Rattle.plant_rules.specs.Division.{greatest, next_number}
-use Rattle.plant_invariant.specs.Bookings.{AreCounted}
-use Rattle.plant_invariant.specs.Births.{numbers_among, AreFromZero, IsBirth, IsDivision, IsBorn, AreBorn}
+use Rattle.plant_rules.specs.{greatest, next_number}
+use Rattle.plant_invariant.specs.{AreCounted, numbers_among, AreFromZero, IsBirth, IsDivision, IsBorn, AreBorn}
 use Rattle.plant_invariant.proofs.ListsThatGrow.{filter_old, filter_added, number_less}
 use Rattle.plant_invariant.proofs.NumbersAfterCommand.{IsUnentered}
 

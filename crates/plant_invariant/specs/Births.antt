@@ -1,10 +1,9 @@
 -- How lots and their sublots came to be.
 use Rattle.std.specs.Prelude.{◌≡◌, ℕ, ◌≤◌, Bool, true, false, List, [], ◌∷◌, length, map, filter}
 use Rattle.std.specs.List.{AllByRecursion}
-use Rattle.plant_base.specs.State.{same}
-use Rattle.plant_base.specs.{Lot, Movement, MovementKind, Place}
+use Rattle.plant_base.specs.{same, Lot, Movement, MovementKind, Place}
 use Rattle.plant_base.specs.declared.rows.MovementKind.TheVariants as kind
-use Rattle.plant_stock.specs.Stock.{is_division, entries}
+use Rattle.plant_stock.specs.{is_division, entries}
 use Rattle.plant_invariant.specs.Bookings.{AreCounted}
 
 -- ---- numbers of sublots

@@ -2,9 +2,8 @@
 use Rattle.std.specs.Prelude.{◌≡◌, ℕ, ◌+◌, ◌≤◌, ◌<◌, true, false, ◌==◌, List, [], ◌∷◌, length, map, filter, Option, Some, None, ⊤}
 use Rattle.std.specs.List.{AllByRecursion}
 use Rattle.std.specs.List.Sorted.{IsStrictlySortedBy}
-use Rattle.plant_base.specs.State.{movement_order, event_order}
-use Rattle.plant_base.specs.{BatchEvent, Movement}
-use Rattle.plant_stock.specs.Stock.{goes_to, comes_from, is_sublot_key, greatest_parts, are_one_merge, is_one_source}
+use Rattle.plant_base.specs.{movement_order, event_order, BatchEvent, Movement}
+use Rattle.plant_stock.specs.{goes_to, comes_from, is_sublot_key, greatest_parts, are_one_merge, is_one_source}
 
 -- the numbers are k, k + 1 and so on
 abbrev pub AreCounted : ℕ → List ℕ → Type 0

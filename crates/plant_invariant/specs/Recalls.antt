@@ -1,9 +1,7 @@
 -- Recalls that commands lead to.
 use Rattle.std.specs.Prelude.{◌≡◌, ℕ, ◌≤◌, true, List, Option, Some, None, is_some, find, ⊤}
 use Rattle.std.specs.List.{AllByRecursion}
-use Rattle.plant_base.specs.RowValues.{HasRecallValues}
-use Rattle.plant_base.specs.State.{same}
-use Rattle.plant_base.specs.{Lifting, Lot, Recall}
+use Rattle.plant_base.specs.{HasRecallValues, same, Lifting, Lot, Recall}
 
 -- where it was lifted, that is no earlier than the recall itself and no later than the desk's moment
 abbrev pub IsLiftedBetween : ℕ → ℕ → Option Lifting → Type 0

@@ -2,11 +2,7 @@
 use Rattle.std.specs.Prelude.{◌≡◌, ℕ, ◌+◌, ◌≤◌, true, false, ◌==◌, List, [], ◌∷◌, ⊤}
 use Rattle.std.specs.List.{AllByRecursion}
 use Rattle.std.specs.List.Sorted.{IsStrictlySortedBy}
-use Rattle.plant_base.specs.Values.{is_id}
-use Rattle.plant_base.specs.WellFormedCommands.{HasValues}
-use Rattle.plant_base.specs.Content.{is_content, content_of}
-use Rattle.plant_base.specs.State.{put, receipt_order}
-use Rattle.plant_base.specs.{Envelope, Receipt}
+use Rattle.plant_base.specs.{is_id, HasValues, is_content, content_of, put, receipt_order, Envelope, Receipt}
 
 pub record HasReceiptValues (r : Receipt) : Type 0 where
   pub reference : is_id r.reference ≡ true

@@ -1,11 +1,7 @@
 -- The values of the rows obey their rules.
 use Rattle.std.specs.Prelude.{◌≡◌, ◌≤◌, true, ⊤}
 use Rattle.std.specs.List.{AllByRecursion}
-use Rattle.plant_base.specs.Values.{is_id, is_text, is_amount, is_moment, greatest_sublot, greatest_seq}
-use Rattle.plant_base.specs.WellFormedCommands.{is_version, HasLineValues}
-use Rattle.plant_base.specs.RowValues.{HasClassValues, HasDefinitionValues, HasPhaseNumber, HasLotValues, HasHoldValues}
-use Rattle.plant_base.specs.State.{State}
-use Rattle.plant_base.specs.{BatchEvent, ControlLine, MasterLine, Movement, MovementKind, Place}
+use Rattle.plant_base.specs.{is_id, is_text, is_amount, is_moment, greatest_sublot, greatest_seq, is_version, HasLineValues, HasClassValues, HasDefinitionValues, HasPhaseNumber, HasLotValues, HasHoldValues, State, BatchEvent, ControlLine, MasterLine, Movement, MovementKind, Place}
 use Rattle.plant_base.specs.declared.rows.MovementKind.TheVariants as kind
 
 pub record HasMasterValues (l : MasterLine) : Type 0 where

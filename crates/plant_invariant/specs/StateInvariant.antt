@@ -1,10 +1,8 @@
 -- The states that commands lead to, with all that holds of their rows.
-use Rattle.plant_base.specs.State.{State, opening, newest_schema}
-use Rattle.plant_base.specs.WellFormedCommands.{HasValues}
-use Rattle.plant_base.specs.{Envelope}
+use Rattle.plant_base.specs.{State, opening, newest_schema, HasValues, Envelope}
 use Rattle.plant_view.specs.DecisionInvariant.{DecisionInvariant}
-use Rattle.plant_view.specs.Tables.{tables_of}
-use Rattle.plant_rules.specs.Step.{step}
+use Rattle.plant_view.specs.{tables_of}
+use Rattle.plant_rules.specs.{step}
 use Rattle.plant_invariant.specs.RowValues.{HasRowValues}
 use Rattle.plant_invariant.specs.Bookings.{IsNumbered}
 use Rattle.plant_invariant.specs.Moments.{HasMoments}

@@ -1,6 +1,7 @@
 //! Laws of the states that commands lead to.
 
-ghost use Rattle.plant_invariant.specs.StateInvariant.{OpeningHasInvariant, StepPreservesInvariant, InvariantImpliesColumns};
+ghost use Rattle.plant_invariant.specs.StateInvariant.{OpeningHasInvariant, StepPreservesInvariant};
+ghost use Rattle.plant_invariant.specs.StateInvariant.{InvariantImpliesColumns};
 
 /// What the opening state and each state after a command has, as laws about them; the function itself does nothing.
 ///

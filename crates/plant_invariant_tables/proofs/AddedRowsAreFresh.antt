@@ -1,33 +1,25 @@
 -- Row changes that make the tables after a command add each row under a key of its own.
-use Rattle.std.proofs.Common.{◌≡◌, ◌∙◌, ◌≤◌, Bool, true, false, List, [], ◌∷◌, ◌++◌, length, filter, Some, refl, sym, ap, subst, append_assoc, arith}
-use Rattle.std.specs.Prelude.{◌&&◌, ◌==◌, count_by}
+use Rattle.std.proofs.Common.{◌≡◌, ◌∙◌, ◌≤◌, Bool, true, false, List, [], ◌∷◌, ◌++◌, length, filter, Some, refl, sym, ap, subst, append_assoc, arith, ◌&&◌, ◌==◌, count_by, nat_cmp, is_eq, Ordering, Less, Equal, Greater, leb-true, append-nil}
 use Rattle.std.specs.Cmp.{both_tied, unsigned_ties}
 use Rattle.std.specs.Cmp.Lexicographic.{texts_ties}
 use Rattle.std.specs.List.{AllByRecursion}
 use Rattle.std.specs.List.Sorted.{IsStrictlySortedBy}
-use Rattle.std.specs.Ordering.{nat_cmp, is_eq, match_ordering}
-use Rattle.std.specs.declared.cmp.Ordering.{Ordering}
-use Rattle.std.specs.declared.cmp.Ordering.TheVariants.{Less, Equal, Greater}
-use Rattle.std.proofs.lemmas.Bool.{false≢true, leb-true}
-use Rattle.std.proofs.lemmas.List.{append-nil}
+use Rattle.std.specs.Ordering.{match_ordering}
+use Rattle.std.proofs.lemmas.Bool.{false≢true}
 use Rattle.std.proofs.lemmas.List.Sums.{length-filter}
 use Rattle.std.proofs.lemmas.Option.{same_Some}
-use Rattle.plant_base.specs.State.{State, newest_schema, same, put, event_order, movement_order}
-use Rattle.plant_base.specs.WellFormedCommands.{HasValues}
-use Rattle.plant_base.specs.{Batch, BatchEvent, BatchRow, Envelope, Movement}
+use Rattle.plant_base.specs.{State, newest_schema, same, put, event_order, movement_order, HasValues, Batch, BatchEvent, BatchRow, Envelope, Movement}
 use Rattle.plant_base.proofs.PutKeepsOrder.{all_weaker}
 use Rattle.plant_base.proofs.KeyOrders.{same_id, same_itself}
-use Rattle.plant_view.specs.Production.{batch_among}
+use Rattle.plant_view.specs.{batch_among, tables_of, changed, changed_all, batch_row, batch_row_order, RowChange, is_batch, puts_one_batch}
 use Rattle.plant_view.specs.DecisionInvariant.{DecisionInvariant}
-use Rattle.plant_view.specs.Tables.{Tables, tables_of, changed, changed_all, batch_row, batch_row_order}
-use Rattle.plant_view.specs.{RowChange}
+use Rattle.plant_view.specs.Tables.{Tables}
 use Rattle.plant_view.specs.declared.change.RowChange.TheVariants as change
 use Rattle.plant_view.proofs.RowsInTurn.{all_mapped}
-use Rattle.plant_rules.specs.Step.{step}
+use Rattle.plant_rules.specs.{step}
 use Rattle.plant_invariant.specs.StateInvariant.{StateInvariant}
 use Rattle.plant_invariant.proofs.StepPreservesInvariant.{step_preserves_validity}
-use Rattle.plant_tables.specs.Keyed.{IsFresh, AreFresh}
-use Rattle.plant_view.specs.OneBatch.{is_batch, puts_one_batch}
+use Rattle.plant_tables.specs.{IsFresh, AreFresh}
 
 -- ---- rows at the end
 

@@ -1,18 +1,13 @@
 -- The rows of the tables of a valid state are in the order of their keys.
-use Rattle.std.proofs.Common.{ℕ, Bool, true, false, List, [], nat_le}
-use Rattle.std.specs.Prelude.{if◌then◌else◌}
+use Rattle.std.proofs.Common.{ℕ, Bool, true, false, List, [], nat_le, if◌then◌else◌, Ordering}
 use Rattle.std.specs.List.Sorted.{IsStrictlySortedBy}
-use Rattle.std.specs.declared.cmp.Ordering.{Ordering}
-use Rattle.plant_base.specs.Recalls.{mark_order}
-use Rattle.plant_base.specs.State.{State, receipt_order, recall_order}
-use Rattle.plant_view.specs.Genealogy.{edges_of}
-use Rattle.plant_view.specs.Recalls.{marks}
-use Rattle.plant_view.specs.Tables.{tables_of, sublot_order, sublot_row, batch_row_order, batch_row}
+use Rattle.plant_base.specs.{mark_order, State, receipt_order, recall_order}
+use Rattle.plant_view.specs.{edges_of, marks, tables_of, sublot_order, sublot_row, batch_row_order, batch_row}
 use Rattle.plant_view.proofs.EdgeRowOrder.{edges_sorted}
 use Rattle.plant_view.proofs.MarkChanges.{marks_sorted}
 use Rattle.plant_view.proofs.RowsInTurn.{sorted_mapped}
 use Rattle.plant_invariant.specs.StateInvariant.{StateInvariant}
-use Rattle.plant_tables.specs.Keyed.{AreKeyed}
+use Rattle.plant_tables.specs.{AreKeyed}
 
 -- the rows, or none in a schema that keeps none
 kept_sorted : {R : Type 0} (order : R → R → Ordering) (keeps : Bool) (rows : List R) → IsStrictlySortedBy order rows → IsStrictlySortedBy order (if keeps then rows else [])

@@ -1,47 +1,31 @@
 -- The values of a valid state's tables, and the order of their rows.
-use Rattle.std.proofs.Common.{◌≡◌, ◌∙◌, ℕ, ◌+◌, ◌≤◌, true, List, [], ◌∷◌, Option, Some, None, is_some, map, length, refl, sym, ap, subst, arith}
-use Rattle.std.specs.Prelude.{Bool, false, if◌then◌else◌, option_map, IfSome, ◌&&◌, ◌==◌, nat_le}
-use Rattle.std.specs.List.{AllByRecursion, filter_map, cons_option, flat_map}
-use Rattle.std.proofs.lemmas.Bool.{false≢true, le-leb, leb-true, eq-eqb, and_from}
+use Rattle.std.proofs.Common.{◌≡◌, ◌∙◌, ℕ, ◌+◌, ◌≤◌, true, List, [], ◌∷◌, Option, Some, None, is_some, map, length, refl, sym, ap, subst, arith, Bool, false, if◌then◌else◌, option_map, IfSome, ◌&&◌, ◌==◌, nat_le, filter_map, flat_map, le-leb, leb-true, eq-eqb}
+use Rattle.std.specs.List.{AllByRecursion, cons_option}
+use Rattle.std.proofs.lemmas.Bool.{false≢true, and_from}
 use Rattle.std.proofs.lemmas.List.{length-map}
-use Rattle.plant_base.specs.Edges.{edge_order, edge_total}
-use Rattle.plant_base.specs.Recalls.{is_open, mark_order, mark_total}
-use Rattle.plant_base.specs.RowValues.{HasRecallValues}
-use Rattle.plant_base.specs.State.{State, same, newest_schema, batch_at}
-use Rattle.plant_base.specs.Values.{is_id, greatest_amount, greatest_sublot, greatest_seq}
-use Rattle.plant_base.specs.{Batch, BatchEvent, ControlLine, EdgeKind, EdgeRow, Header, Job, MasterLine, Movement, MovementKind, Place, Recall, Receipt, Recipe, RecipeLine, Sublot}
+use Rattle.plant_base.specs.{edge_order, edge_total, is_open, mark_order, mark_total, HasRecallValues, State, same, newest_schema, batch_at, is_id, greatest_amount, greatest_sublot, greatest_seq, Batch, BatchEvent, ControlLine, EdgeKind, EdgeRow, Header, Job, MasterLine, Movement, MovementKind, Place, Recall, Receipt, Recipe, RecipeLine, Sublot}
 use Rattle.plant_base.specs.declared.rows.EdgeKind.TheVariants as edge
 use Rattle.plant_base.specs.declared.rows.MovementKind.TheVariants as kind
 use Rattle.plant_base.proofs.PutKeepsOrder.{all_weaker}
 use Rattle.plant_base.proofs.FindIsFirst.{found_passes, found_keeps}
 use Rattle.plant_base.proofs.KeyOrders.{same_id, same_key, same_itself, key_itself}
-use Rattle.plant_recipe.specs.WellFormed.{is_well_formed, greatest_lines}
+use Rattle.plant_recipe.specs.{is_well_formed, greatest_lines}
 use Rattle.plant_recipe.proofs.RecipeLines.{keeps_procedure}
-use Rattle.plant_view.specs.Production.{headers_of, header_among, orders_of, rows_among, lines_among, master_line, control_line, control_among, IsWholeRecipe, HasValidOrder, IsConsistentBatch, is_batch_among}
-use Rattle.plant_trace.specs.Reach.{leads}
-use Rattle.plant_trace.specs.{Node}
+use Rattle.plant_view.specs.{headers_of, header_among, orders_of, rows_among, lines_among, master_line, control_line, control_among, IsWholeRecipe, HasValidOrder, IsConsistentBatch, is_batch_among, edge_row_by, edge_row_of, edge_rows, ends_by, ends_of, edge_of, edges_of, mark_on, nodes_from, marks_of, marks, numbered, tables_of, batch_row, sublot_row}
+use Rattle.plant_trace.specs.{leads, Node}
 use Rattle.plant_trace.specs.declared.node.Node.TheVariants as node
-use Rattle.plant_view.specs.Genealogy.{edge_row_by, edge_row_of, edge_rows, ends_by, ends_of, edge_of, edges_of}
-use Rattle.plant_view.specs.Recalls.{mark_on, nodes_from, marks_of, marks}
-use Rattle.plant_view.specs.Rows.{numbered}
-use Rattle.plant_view.specs.Tables.{tables_of, batch_row, sublot_row}
 use Rattle.plant_view.proofs.CommandsPreserveInvariant.{all_two}
 use Rattle.plant_view.proofs.RowsInTurn.{all_mapped, all_unmapped, all_filtered, all_put_all}
 use Rattle.plant_view.proofs.TestsAndSums.{and_left, and_right}
 use Rattle.plant_rules_production.proofs.ControlIsWellFormed.{control_made}
 use Rattle.plant_invariant.specs.RowValues as kept
-use Rattle.plant_invariant.specs.Bookings.{AreCounted, booked}
-use Rattle.plant_invariant.specs.Columns.{HasProgressValues}
+use Rattle.plant_invariant.specs.{AreCounted, booked, HasProgressValues, IsValidRecall, HasReceiptValues}
 use Rattle.plant_invariant.specs.StateInvariant.{StateInvariant}
-use Rattle.plant_invariant.specs.Recalls.{IsValidRecall}
-use Rattle.plant_invariant.specs.Receipts.{HasReceiptValues}
 use Rattle.plant_invariant.proofs.KeptColumns.{columns}
 use Rattle.plant_invariant.proofs.ListsThatGrow.{all_append, all_swap, all_passing}
 use Rattle.plant_invariant_tables.proofs.RowsInKeyOrder.{keyed}
-use Rattle.plant_tables_columns.specs.Reading.{is_in, greatest_number}
-use Rattle.plant_tables_read.specs.Version.{IsKnown}
-use Rattle.plant_tables_read.specs.Collecting.{AreInOrder}
-use Rattle.plant_tables_columns.specs.ValidValues.{HasRecipeValues, IsLineNumber, HasMasterLineValues, HasBatchRowValues, HasControlLineValues, HasEventRowValues, HasSublotValues, HasKindRowValues, HasMovementRowValues, HasEdgeValues, HasReceiptRowValues, HasMarkValues, HasValidValues}
+use Rattle.plant_tables_columns.specs.{is_in, greatest_number, HasRecipeValues, IsLineNumber, HasMasterLineValues, HasBatchRowValues, HasControlLineValues, HasEventRowValues, HasSublotValues, HasKindRowValues, HasMovementRowValues, HasEdgeValues, HasReceiptRowValues, HasMarkValues, HasValidValues}
+use Rattle.plant_tables_read.specs.{IsKnown, AreInOrder}
 
 -- ---- order
 

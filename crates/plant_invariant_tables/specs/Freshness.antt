@@ -1,14 +1,10 @@
 -- What holds in valid states of the rows of tables that commands change: no row that is added has the key of another.
 use Rattle.std.specs.Prelude.{◌≡◌, ℕ, true, List}
-use Rattle.plant_base.specs.State.{State, newest_schema}
-use Rattle.plant_base.specs.WellFormedCommands.{HasValues}
-use Rattle.plant_base.specs.{Envelope}
-use Rattle.plant_view.specs.OneBatch.{puts_one_batch}
-use Rattle.plant_view.specs.Tables.{tables_of, changed_all}
-use Rattle.plant_view.specs.{RowChange}
-use Rattle.plant_rules.specs.Step.{step}
+use Rattle.plant_base.specs.{State, newest_schema, HasValues, Envelope}
+use Rattle.plant_view.specs.{puts_one_batch, tables_of, changed_all, RowChange}
+use Rattle.plant_rules.specs.{step}
 use Rattle.plant_invariant.specs.StateInvariant.{StateInvariant}
-use Rattle.plant_tables.specs.Keyed.{AreKeyed, AreFresh}
+use Rattle.plant_tables.specs.{AreKeyed, AreFresh}
 
 -- ---- laws
 

@@ -1,26 +1,20 @@
 -- Edges as a direction sees them, in the order of their near ends: what is found by halves is what begins at the node.
-use Rattle.std.proofs.Common.{◌≡◌, ◌∙◌, ℕ, ◌+◌, ◌-◌, ◌<◌, ◌≤◌, true, false, List, [], ◌∷◌, map, filter, drop, length, get_or, slice_range, Contains, IsPermutation, refl, sym, ap, subst, inl, inr, arith}
+use Rattle.std.proofs.Common.{◌≡◌, ◌∙◌, ℕ, ◌+◌, ◌-◌, ◌<◌, ◌≤◌, true, false, List, [], ◌∷◌, map, filter, drop, length, get_or, slice_range, Contains, IsPermutation, refl, sym, ap, subst, inl, inr, arith, is_le, is_lt, Ordering, Less, Equal, Greater, length-take, length-drop, get_or-take, get_or-drop}
 use Rattle.std.specs.List.Sorted.{IsNonDecreasingBy, IsPartitionPoint, IsPartitionedBy}
-use Rattle.std.specs.Ordering.{is_le, is_lt, ordering_index}
-use Rattle.std.specs.declared.cmp.Ordering.{Ordering}
-use Rattle.std.specs.declared.cmp.Ordering.TheVariants.{Less, Equal, Greater}
+use Rattle.std.specs.Ordering.{ordering_index}
 use Rattle.std.proofs.lemmas.Bool.{false≢true, cases_lt}
 use Rattle.std.proofs.lemmas.Cmp.{tied_itself}
-use Rattle.std.proofs.lemmas.List.{length-take, length-drop, get_or-take, get_or-drop}
 use Rattle.std.proofs.lemmas.List.Elements.{All-contains, All-contains_itself, All-drop, All-take}
 use Rattle.std.proofs.lemmas.List.Sorted.{Contains-permutation, IsPermutation-sym, searchable_from_sorted}
 use Rattle.plant_base.specs.{Movement}
 use Rattle.plant_view.proofs.MappedContains.{mapped_in}
 use Rattle.plant_trace.proofs.SortedNodes.{Lists-same}
-use Rattle.plant_trace.specs.Nodes.{node_cmp, node_total}
-use Rattle.plant_trace.specs.Reach.{IsNext, Lists}
-use Rattle.plant_trace.specs.Turned.{turned}
-use Rattle.plant_trace.specs.{Direction, Node}
+use Rattle.plant_trace.specs.{node_cmp, node_total, IsNext, Lists, turned, Direction, Node}
 use Rattle.plant_trace.specs.declared.direction.Direction.TheVariants.{Forward, Back}
 use Rattle.plant_worklists.proofs.RowsOfLot.{below_lt, below_le}
-use Rattle.plant_keyed.specs.Edges.{Ascend, AreTurned, HasEdgesAt}
+use Rattle.plant_keyed.specs.{Ascend, AreTurned, HasEdgesAt}
 use Rattle.plant_keyed.proofs.EdgesAtNode.{mapped_of, row_pair, pair_row}
-use Rattle.plant_view.specs.Genealogy.{edge_rows, edges_among, ends_of}
+use Rattle.plant_view.specs.{edge_rows, edges_among, ends_of}
 
 -- ---- turning
 

@@ -1,21 +1,16 @@
 -- The comparison of columns with parameters, as a test of the row.
-use Rattle.std.proofs.Common.{◌≡◌, ◌∙◌, ℕ, pos, Bool, true, false, ◌&&◌, ◌==◌, List, [], ◌∷◌, Option, Some, None, refl, sym, ap, ap₂}
+use Rattle.std.proofs.Common.{◌≡◌, ◌∙◌, ℕ, pos, Bool, true, false, ◌&&◌, ◌==◌, List, [], ◌∷◌, Option, Some, None, refl, sym, ap, ap₂, is_eq}
 use Rattle.std.specs.Cmp.{unsigned_ties}
 use Rattle.std.specs.Cmp.Lexicographic.{texts_ties}
-use Rattle.std.specs.Ordering.{is_eq}
 use Rattle.sqlite_value.specs.declared.value.Value.TheVariants.{Text}
 use Rattle.sqlite_value.specs.Order.{value_cmp}
 use Rattle.sqlite_value.proofs.OrderLemmas.{value_cmp-Text, value_cmp-Int}
-use Rattle.plant_base.specs.State.{same}
-use Rattle.plant_base.specs.{Movement, MovementKind}
+use Rattle.plant_base.specs.{same, Movement, MovementKind}
 use Rattle.plant_base.specs.declared.rows.MovementKind.TheVariants as kind
-use Rattle.plant_view.specs.Genealogy.{batch_by}
-use Rattle.plant_view.specs.Views.{is_named, is_scrap}
-use Rattle.plant_worklists.specs.Worklists.{other_lot}
-use Rattle.sql_queries.specs.Found.{has_values}
-use Rattle.plant_tables_columns.specs.Booked.{other_lot as column_lot}
-use Rattle.plant_tables_columns.specs.Kinds.{number, null_or}
-use Rattle.plant_tables_columns.specs.TableColumns.{row_of_movement}
+use Rattle.plant_view.specs.{batch_by, is_named, is_scrap}
+use Rattle.plant_worklists.specs.{other_lot}
+use Rattle.sql_queries.specs.{has_values}
+use Rattle.plant_tables_columns.specs.{other_lot as column_lot, number, null_or, row_of_movement}
 use Rattle.plant_tables.proofs.KeyTies.{and_true}
 use Rattle.plant_tables_read.proofs.SortedRowsAreUnique.{int_cmp_pos}
 use Rattle.std.proofs.Math.Bool.{and-true, and_comm}

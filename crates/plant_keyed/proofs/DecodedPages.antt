@@ -2,14 +2,11 @@
 use Rattle.std.proofs.Common.{◌≡◌, ℕ, List, Option, Some, Result, Ok, Err, IfOk, IfErr, sym, subst}
 use Rattle.sqlite.specs.Effect.{Database}
 use Rattle.sqlite.specs.Order.{Row}
-use Rattle.sql_tables.specs.TableDefs.{TableDef}
-use Rattle.sql_tables.specs.{Fault}
-use Rattle.sql_queries.specs.Paging.{IsPage}
-use Rattle.sql_queries.specs.{Page as StoredPage}
-use Rattle.plant_tables_columns.specs.DecodedRows.{all_from}
-use Rattle.plant_worklists.specs.Pages.{page_size}
-use Rattle.plant_worklists.specs.{Page}
-use Rattle.plant_keyed.specs.Paging.{IsPaged}
+use Rattle.sql_tables.specs.{TableDef, Fault}
+use Rattle.sql_queries.specs.{IsPage, Page as StoredPage}
+use Rattle.plant_tables_columns.specs.{all_from}
+use Rattle.plant_worklists.specs.{page_size, Page}
+use Rattle.plant_keyed.specs.{IsPaged}
 
 pub paged_by : {R : Type 0} (row_from : Row → Option R) (db : Database) (t : TableDef) (by places : List ℕ) (next : ℕ) (values : Row) (r : Result StoredPage Fault) (q : Result (Page R) Fault)
     → IfOk r (λ p. IsPage db t by places next values page_size p.rows.items p.has_more) → IfErr r (λ f. q ≡ Err f)

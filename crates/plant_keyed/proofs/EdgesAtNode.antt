@@ -1,25 +1,20 @@
 -- The rows of edges that look-ups find are the edges at a node.
-use Rattle.std.proofs.Common.{◌≡◌, ◌∙◌, ℕ, Bool, true, List, [], ◌∷◌, ◌++◌, map, filter, option_map, Option, Some, None, Contains, refl, sym, ap, subst, inl, inr}
-use Rattle.std.specs.Prelude.{◌==◌}
-use Rattle.std.specs.List.{filter_map, cons_option}
-use Rattle.std.proofs.lemmas.Bool.{and_from, eq-eqb}
+use Rattle.std.proofs.Common.{◌≡◌, ◌∙◌, ℕ, Bool, true, List, [], ◌∷◌, ◌++◌, map, filter, option_map, Option, Some, None, Contains, refl, sym, ap, subst, inl, inr, ◌==◌, filter_map, eq-eqb}
+use Rattle.std.specs.List.{cons_option}
+use Rattle.std.proofs.lemmas.Bool.{and_from}
 use Rattle.std.proofs.lemmas.List.Elements.{All-contains, All-contains_itself, All-filter, All-from_recursion, All-map, All-weaker, recursion_from_All, Contains-append_left, Contains-append_right, Contains-append_cases}
-use Rattle.plant_base.specs.Edges.{edge_kind_number, edge_order, edge_total}
-use Rattle.plant_base.specs.State.{same}
+use Rattle.plant_base.specs.{edge_kind_number, edge_order, edge_total, same, EdgeKind, EdgeRow, Movement}
 use Rattle.plant_base.proofs.KeyOrders.{same_itself}
-use Rattle.plant_base.specs.{EdgeKind, EdgeRow, Movement}
 use Rattle.plant_base.specs.declared.rows.EdgeKind.TheVariants.{LotToBatch}
 use Rattle.plant_base.proofs.EdgeIsItsKey.{one_edge}
 use Rattle.plant_view.proofs.MappedContains.{mapped_in, filtered_in, come}
 use Rattle.plant_tables_columns.proofs.OptionalValues.{some_same}
 use Rattle.plant_trace.proofs.SortedNodes.{Lists-same}
-use Rattle.plant_trace.specs.Reach.{IsNext, Lists}
-use Rattle.plant_trace.specs.Turned.{turned}
-use Rattle.plant_trace.specs.{Direction, Node}
+use Rattle.plant_trace.specs.{IsNext, Lists, turned, Direction, Node}
 use Rattle.plant_trace.specs.declared.direction.Direction.TheVariants.{Forward, Back}
-use Rattle.plant_view.specs.Genealogy.{edge_row_of, edge_rows, edges_among, ends_by, ends_of}
+use Rattle.plant_view.specs.{edge_row_of, edge_rows, edges_among, ends_by, ends_of}
 use Rattle.plant_view.proofs.RowsInTurn.{all_put_all}
-use Rattle.plant_keyed.specs.Edges.{near_id, begins_at, id_of, AreKindsAt, HasEdgesAt}
+use Rattle.plant_keyed.specs.{near_id, begins_at, id_of, AreKindsAt, HasEdgesAt}
 
 -- ---- lists
 

@@ -1,20 +1,18 @@
 -- Rows of a strictly ascending list are in its order again, whatever order they come in.
-use Rattle.std.proofs.Common.{◌≡◌, refl, sym, ap, ◌∙◌, ◌≤◌, List, [], ◌∷◌, length, filter, Bool, true, false, arith}
-use Rattle.std.specs.Ordering.{is_eq, match_ordering}
-use Rattle.std.specs.declared.cmp.Ordering.{Ordering}
-use Rattle.std.specs.declared.cmp.Ordering.TheVariants.{Less, Equal, Greater}
+use Rattle.std.proofs.Common.{◌≡◌, refl, sym, ap, ◌∙◌, ◌≤◌, List, [], ◌∷◌, length, filter, Bool, true, false, arith, is_eq, Ordering, Less, Equal, Greater, IsPermutation}
+use Rattle.std.specs.Ordering.{match_ordering}
 use Rattle.std.specs.Cmp.{IsTotalOrder}
 use Rattle.std.specs.List.{AllByRecursion}
-use Rattle.std.specs.List.Sorted.{IsStrictlySortedBy, IsPermutation}
+use Rattle.std.specs.List.Sorted.{IsStrictlySortedBy}
 use Rattle.std.proofs.lemmas.Bool.{false≢true}
 use Rattle.std.proofs.lemmas.Cmp.{tied_itself}
 use Rattle.std.proofs.lemmas.List.Kept.{IsStrictlySortedBy-filter}
 use Rattle.std.proofs.lemmas.List.Sorted.{IsPermutation-refl, IsPermutation-trans, IsPermutation-sym, IsPermutation-cons, IsPermutation-middle, length_permutation}
 use Rattle.sqlite_trees.proofs.ListLemmas.{IsPermutation-filter, all-permutation}
-use Rattle.plant_base.specs.State.{put}
+use Rattle.plant_base.specs.{put}
 use Rattle.plant_base.proofs.PutKeepsOrder.{sorted_put, all_weaker}
 use Rattle.plant_tables_read.proofs.SortedRowsAreUnique.{same_sorted}
-use Rattle.plant_worklists.specs.Sorting.{in_order}
+use Rattle.plant_worklists.specs.{in_order}
 
 module _ {R : Type 0} (order : R → R → Ordering) (total : IsTotalOrder order) where
   abbrev ties : R → R → Bool

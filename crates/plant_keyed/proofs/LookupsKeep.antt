@@ -4,16 +4,12 @@ use Rattle.std.proofs.lemmas.Result.{IfOk-weaker}
 use Rattle.sqlite.specs.Effect.{Database}
 use Rattle.sqlite.specs.State as store
 use Rattle.sqlite.specs.State.{HasCleanDisk, Survives}
-use Rattle.plant_base.specs.State.{State, newest_schema}
-use Rattle.plant_base.specs.{Position}
-use Rattle.plant_view.specs.Tables.{tables_of, position_of}
+use Rattle.plant_base.specs.{State, newest_schema, Position}
+use Rattle.plant_view.specs.{tables_of, position_of}
 use Rattle.plant_invariant.specs.StateInvariant.{StateInvariant}
-use Rattle.plant_tables.specs.Keyed.{HoldsTables}
-use Rattle.plant_keyed.specs.LookupOutcomes.{IsHonest, PreservesFrame, IsReported}
-use Rattle.plant_keyed.specs.Caching.{AreEdgesOf, IsCacheOf, IsTraced, CacheStaysValid}
+use Rattle.plant_tables.specs.{HoldsTables}
+use Rattle.plant_keyed.specs.{IsHonest, PreservesFrame, IsReported, AreEdgesOf, IsCacheOf, IsTraced, CacheStaysValid, honest_before, frame_trans, stays_trans, abstraction}
 use Rattle.plant_keyed.specs.declared.lookup_cache.LookupCache.{LookupCache}
-use Rattle.plant_keyed.specs.Frames.{honest_before, frame_trans, stays_trans}
-use Rattle.plant_keyed.specs.Abstraction.{abstraction}
 
 -- of a call that keeps this something holds if it holds of the valid state that was shown
 pub reported_by : (old new : store.State) (was failed : Bool) (P : Type 0) → PreservesFrame old new was failed

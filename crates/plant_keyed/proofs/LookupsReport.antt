@@ -4,14 +4,12 @@ use Rattle.sqlite.specs.Held.{state}
 use Rattle.sqlite.specs.State as store
 use Rattle.sqlite.specs.State.{HasCleanDisk}
 use Rattle.sqlite_trees.specs.declared.store.Store.{Ghosts}
-use Rattle.plant_base.specs.State.{newest_schema}
+use Rattle.plant_base.specs.{newest_schema}
 use Rattle.plant_trace.specs.HoldsIfHonest.{HoldsIfHonest}
-use Rattle.plant_view.specs.Tables.{tables_of}
+use Rattle.plant_view.specs.{tables_of}
 use Rattle.plant_invariant.specs.StateInvariant.{StateInvariant}
-use Rattle.plant_tables.specs.Keyed.{HoldsTables}
-use Rattle.plant_keyed.specs.LookupOutcomes.{IsHonest, PreservesFrame, IsReported}
-use Rattle.plant_keyed.specs.Caching.{IsCacheOf, IsTraced, CacheStaysValid}
-use Rattle.plant_keyed.specs.Abstraction.{abstraction}
+use Rattle.plant_tables.specs.{HoldsTables}
+use Rattle.plant_keyed.specs.{IsHonest, PreservesFrame, IsReported, IsCacheOf, IsTraced, CacheStaysValid, abstraction}
 use Rattle.plant_keyed.specs.declared.keyed.Keyed.{Keyed}
 use Rattle.plant_keyed.proofs.LookupsKeep.{stays_by, reported_by, reported_found}
 

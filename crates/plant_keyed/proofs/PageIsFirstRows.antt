@@ -1,12 +1,9 @@
 -- A page of a table of a valid state is the first of the rows that pass.
-use Rattle.std.proofs.Common.{◌≡◌, ◌∙◌, ◌≤◌, ◌+◌, ℕ, zero, suc, Bool, false, List, [], ◌∷◌, map, filter, take, length, nat_lt, Option, Some, refl, sym, ap, subst, arith}
-use Rattle.std.specs.Prelude.{IsSorted}
+use Rattle.std.proofs.Common.{◌≡◌, ◌∙◌, ◌≤◌, ◌+◌, ℕ, zero, suc, Bool, false, List, [], ◌∷◌, map, filter, take, length, nat_lt, Option, Some, refl, sym, ap, subst, arith, IsSorted, IsPermutation, is_lt, Ordering, Less, Equal, Greater}
 use Rattle.std.specs.List.{AllByRecursion}
-use Rattle.std.specs.List.Sorted.{IsStrictlySortedBy, IsPermutation}
+use Rattle.std.specs.List.Sorted.{IsStrictlySortedBy}
 use Rattle.std.specs.Cmp.{IsTotalOrder}
-use Rattle.std.specs.Ordering.{is_lt, ordering_reverse}
-use Rattle.std.specs.declared.cmp.Ordering.{Ordering}
-use Rattle.std.specs.declared.cmp.Ordering.TheVariants.{Less, Equal, Greater}
+use Rattle.std.specs.Ordering.{ordering_reverse}
 use Rattle.std.proofs.lemmas.Bool.{false≢true}
 use Rattle.std.proofs.lemmas.Cmp.{then_total, on_total}
 use Rattle.std.proofs.lemmas.List.{length-map}
@@ -17,23 +14,19 @@ use Rattle.sqlite.specs.Order.{Row, column}
 use Rattle.sqlite.specs.declared.types.Value.TheVariants.{Null}
 use Rattle.sqlite_value.proofs.OrderLemmas.{value_cmp_total}
 use Rattle.sqlite_trees.proofs.ListLemmas.{IsPermutation-filter, all-permutation}
-use Rattle.plant_base.specs.State.{put}
-use Rattle.sql_tables.specs.TableDefs.{TableDef}
-use Rattle.sql_tables.specs.Rows.{columns_of}
-use Rattle.sql_tables.specs.StoredRows.{HasStoredRows}
+use Rattle.plant_base.specs.{put}
+use Rattle.sql_tables.specs.{TableDef, columns_of, HasStoredRows}
 use Rattle.sql_queries.proofs.RowsUpToOrder.{one_tree}
-use Rattle.sql_queries.specs.Paging.{is_beyond, stored_order}
+use Rattle.sql_queries.specs.{is_beyond, stored_order}
 use Rattle.plant_tables.proofs.RowChangeIsTableChange.{all_filter}
-use Rattle.plant_tables_columns.specs.DecodedRows.{all_from}
+use Rattle.plant_tables_columns.specs.{all_from}
 use Rattle.plant_tables_columns.proofs.OptionalValues.{some_same}
 use Rattle.plant_tables_read.proofs.SortedRowsAreUnique.{sorted_keys}
 use Rattle.plant_tables_read.proofs.AllRowsDecoded.{map_same, all_again}
-use Rattle.plant_worklists.specs.Sorting.{in_order}
-use Rattle.plant_keyed.specs.Paging.{IsPaged}
+use Rattle.plant_worklists.specs.{in_order, page_size, page_of, Page}
+use Rattle.plant_keyed.specs.{IsPaged}
 use Rattle.plant_keyed.proofs.InOrderAgain.{IsOnce, again_in_order, kept_in_order, ordered}
 use Rattle.plant_worklists.proofs.FoundRows.{of_mapped, take_mapped}
-use Rattle.plant_worklists.specs.Pages.{page_size, page_of}
-use Rattle.plant_worklists.specs.{Page}
 
 stored_total : (places : List ℕ) → IsTotalOrder (stored_order places)
 stored_total [] = record { antisymm = λ a b. refl; trans = λ a b c less more. less; congr = λ a b c same. refl }

@@ -1,9 +1,7 @@
 -- What a page finds among the tables of a valid state.
-use Rattle.std.proofs.Common.{◌≡◌, ◌∙◌, ℕ, ◌+◌, Bool, true, false, ◌&&◌, ◌==◌, if◌then◌else◌, List, [], ◌∷◌, Option, Some, None, refl, sym, ap, ap₂, codes, pos}
+use Rattle.std.proofs.Common.{◌≡◌, ◌∙◌, ℕ, ◌+◌, Bool, true, false, ◌&&◌, ◌==◌, if◌then◌else◌, List, [], ◌∷◌, Option, Some, None, refl, sym, ap, ap₂, codes, pos, is_eq, is_gt, nat_cmp, Ordering, Less, Equal, Greater}
 use Rattle.std.specs.Cmp.{IsTotalOrder, unsigned_ties}
-use Rattle.std.specs.Ordering.{is_eq, is_gt, nat_cmp, ordering_then}
-use Rattle.std.specs.declared.cmp.Ordering.{Ordering}
-use Rattle.std.specs.declared.cmp.Ordering.TheVariants.{Less, Equal, Greater}
+use Rattle.std.specs.Ordering.{ordering_then}
 use Rattle.std.proofs.lemmas.Cmp.{nat_cmp_total, on_total}
 use Rattle.sqlite.specs.Effect.{Database}
 use Rattle.sqlite.specs.Order.{Row}
@@ -13,31 +11,21 @@ use Rattle.sqlite.specs.declared.types.Value.TheVariants.{Text}
 use Rattle.sqlite_sql.specs.Ops.{is_null}
 use Rattle.sqlite_value.specs.Order.{value_cmp}
 use Rattle.sqlite_value.proofs.OrderLemmas.{value_cmp-Int, value_cmp-Text}
-use Rattle.plant_base.specs.RowValues.{HasClassValues, HasDefinitionValues, HasLotValues, HasHoldValues, HasRecallValues}
-use Rattle.plant_base.specs.State.{State, newest_schema, id_cmp, same, class_order, definition_order, job_order, lot_order, hold_order, recall_order}
-use Rattle.plant_base.specs.Words.{job_state_name}
-use Rattle.plant_base.specs.{BatchRow, Class, Definition, Hold, Job, JobState, Lifting, Lot, Recall, Receipt, Sublot}
+use Rattle.plant_base.specs.{HasClassValues, HasDefinitionValues, HasLotValues, HasHoldValues, HasRecallValues, State, newest_schema, id_cmp, same, class_order, definition_order, job_order, lot_order, hold_order, recall_order, job_state_name, BatchRow, Class, Definition, Hold, Job, JobState, Lifting, Lot, Recall, Receipt, Sublot}
 use Rattle.plant_base.proofs.PutKeepsOrder.{all_weaker}
-use Rattle.plant_view.specs.Tables.{Tables, tables_of, batch_row_order, sublot_order}
-use Rattle.plant_invariant.specs.Receipts.{AreApart}
+use Rattle.plant_view.specs.{tables_of, batch_row_order, sublot_order}
+use Rattle.plant_view.specs.Tables.{Tables}
+use Rattle.plant_invariant.specs.{AreApart}
 use Rattle.plant_invariant.specs.StateInvariant.{StateInvariant}
-use Rattle.plant_tables.specs.DeskTableDefs.{class_table, definition_table, job_table, batch_table, lot_table, hold_table, receipt_table, recall_table, sublot_table}
-use Rattle.plant_tables.specs.Keyed.{HoldsTables}
-use Rattle.plant_tables_columns.specs.Kinds.{number, flag}
-use Rattle.plant_tables_columns.specs.Naming.{recall_state_name}
-use Rattle.plant_tables_columns.specs.{RecallState}
+use Rattle.plant_tables.specs.{class_table, definition_table, job_table, batch_table, lot_table, hold_table, receipt_table, recall_table, sublot_table, HoldsTables}
+use Rattle.plant_tables_columns.specs.{number, flag, recall_state_name, RecallState, HasJobValues, HasBatchRowValues, HasReceiptRowValues, HasSublotValues, HasValidValues, row_of_class, row_of_definition, row_of_job, row_of_batch, row_of_lot, row_of_hold, row_of_receipt, row_of_recall, row_of_sublot, class_from, definition_from, job_from, batch_from, lot_from, hold_from, receipt_from, recall_read, sublot_from}
 use Rattle.plant_tables_columns.specs.declared.recalls.RecallState.TheVariants as state
-use Rattle.plant_tables_columns.specs.ValidValues.{HasJobValues, HasBatchRowValues, HasReceiptRowValues, HasSublotValues, HasValidValues}
-use Rattle.plant_tables_columns.specs.TableColumns.{row_of_class, row_of_definition, row_of_job, row_of_batch, row_of_lot, row_of_hold, row_of_receipt, row_of_recall, row_of_sublot, class_from, definition_from, job_from, batch_from, lot_from, hold_from, receipt_from, recall_read, sublot_from}
 use Rattle.plant_tables_columns.proofs.RowLaws.{class_reads, definition_reads, job_reads, batch_reads, lot_reads, hold_reads, receipt_again, sublot_reads}
 use Rattle.plant_tables_read.proofs.SortedRowsAreUnique.{int_cmp_pos}
 use Rattle.plant_invariant_tables.proofs.TablesHaveValidValues.{in_order, valid_values, newest_known}
-use Rattle.sql_queries.specs.Paging.{is_beyond}
-use Rattle.sql_queries.specs.Selects.{first_of}
-use Rattle.plant_worklists.specs.Pages.{page_size, page_of}
-use Rattle.plant_worklists.specs.Worklists.{text_after, is_after, is_order_in, orders_in, agree, is_batch_in, batches_in, is_lot_of, lots_of, is_hold_on, holds_on, is_recall_in, recalls_in, classes_after, is_definition_in, definitions_in, lots_after, sublots_after, holds_after, number_after, number_order, is_number_after, receipts_by_number}
-use Rattle.plant_worklists.specs.{Page}
-use Rattle.plant_keyed.specs.Paging.{IsPaged}
+use Rattle.sql_queries.specs.{is_beyond, first_of}
+use Rattle.plant_worklists.specs.{page_size, page_of, text_after, is_after, is_order_in, orders_in, agree, is_batch_in, batches_in, is_lot_of, lots_of, is_hold_on, holds_on, is_recall_in, recalls_in, classes_after, is_definition_in, definitions_in, lots_after, sublots_after, holds_after, number_after, number_order, is_number_after, receipts_by_number, Page}
+use Rattle.plant_keyed.specs.{IsPaged}
 use Rattle.plant_keyed.proofs.InOrderAgain.{AreApart as ArePlacesApart, apart_once}
 use Rattle.plant_keyed.proofs.PageIsFirstRows.{page_again, page_in_order}
 use Rattle.plant_keyed.proofs.AbstractionIsState.{recall_again}

@@ -1,11 +1,9 @@
 -- What a page of a list finds whose keys are of two values.
-use Rattle.std.proofs.Common.{◌≡◌, ◌∙◌, ℕ, ◌+◌, Bool, true, false, ◌&&◌, ◌||◌, List, [], ◌∷◌, filter, map, Option, Some, refl, ap, ap₂, sym}
+use Rattle.std.proofs.Common.{◌≡◌, ◌∙◌, ℕ, ◌+◌, Bool, true, false, ◌&&◌, ◌||◌, List, [], ◌∷◌, filter, map, Option, Some, refl, ap, ap₂, sym, is_eq, is_gt, nat_cmp, Ordering, Less, Equal, Greater}
 use Rattle.std.specs.Cmp.{IsTotalOrder}
 use Rattle.std.specs.List.{AllByRecursion}
 use Rattle.std.specs.List.Sorted.{IsStrictlySortedBy}
-use Rattle.std.specs.Ordering.{is_eq, is_gt, nat_cmp, ordering_then}
-use Rattle.std.specs.declared.cmp.Ordering.{Ordering}
-use Rattle.std.specs.declared.cmp.Ordering.TheVariants.{Less, Equal, Greater}
+use Rattle.std.specs.Ordering.{ordering_then}
 use Rattle.std.proofs.lemmas.Bool.{false≢true}
 use Rattle.std.proofs.lemmas.Cmp.{nat_cmp_total, nat_list_cmp_total, on_total, then_total}
 use Rattle.sqlite.specs.Effect.{Database}
@@ -15,32 +13,20 @@ use Rattle.sqlite.specs.declared.types.Value.TheVariants.{Text}
 use Rattle.sqlite_trees.proofs.ListLemmas.{all-permutation}
 use Rattle.sqlite_value.specs.Order.{value_cmp}
 use Rattle.sqlite_value.proofs.OrderLemmas.{value_cmp-Text}
-use Rattle.plant_base.specs.State.{State, newest_schema, id_cmp, same, recipe_order, movement_order, job_order}
-use Rattle.plant_base.specs.Words.{recipe_state_name, job_state_name}
-use Rattle.plant_base.specs.{Job, JobState, Movement, MovementKind, Recipe, RecipeState}
+use Rattle.plant_base.specs.{State, newest_schema, id_cmp, same, recipe_order, movement_order, job_order, recipe_state_name, job_state_name, Job, JobState, Movement, MovementKind, Recipe, RecipeState}
 use Rattle.plant_base.specs.declared.rows.MovementKind.TheVariants as kind
-use Rattle.plant_view.specs.Tables.{tables_of}
-use Rattle.plant_view.specs.Views.{is_named}
+use Rattle.plant_view.specs.{tables_of, is_named}
 use Rattle.plant_view.proofs.RowKeys.{recipe_order_total}
 use Rattle.plant_invariant.specs.StateInvariant.{StateInvariant}
-use Rattle.sql_tables.specs.TableDefs.{TableDef}
-use Rattle.sql_tables.specs.StoredRows.{HasStoredRows}
-use Rattle.sql_queries.specs.Paging.{is_beyond, stored_order}
-use Rattle.sql_queries.specs.Selects.{first_of}
-use Rattle.plant_tables.specs.DeskTableDefs.{recipe_table, movement_table, job_table}
-use Rattle.plant_tables.specs.Keyed.{HoldsTables}
-use Rattle.plant_tables_columns.specs.Booked.{other_lot}
-use Rattle.plant_tables_columns.specs.Kinds.{number}
-use Rattle.plant_tables_columns.specs.ValidValues.{HasRecipeValues, HasMovementRowValues, HasJobValues, HasValidValues}
-use Rattle.plant_tables_columns.specs.TableColumns.{row_of_recipe, row_of_movement, row_of_job, recipe_from, movement_read, job_from}
+use Rattle.sql_tables.specs.{TableDef, HasStoredRows}
+use Rattle.sql_queries.specs.{is_beyond, stored_order, first_of}
+use Rattle.plant_tables.specs.{recipe_table, movement_table, job_table, HoldsTables}
+use Rattle.plant_tables_columns.specs.{other_lot, number, HasRecipeValues, HasMovementRowValues, HasJobValues, HasValidValues, row_of_recipe, row_of_movement, row_of_job, recipe_from, movement_read, job_from}
 use Rattle.plant_tables_columns.proofs.RowLaws.{recipe_reads, job_reads}
 use Rattle.plant_invariant_tables.proofs.TablesHaveValidValues.{in_order, valid_values, newest_known}
-use Rattle.plant_worklists.specs.Pages.{page_size, page_of}
-use Rattle.plant_worklists.specs.Worklists.{recipe_after, recipes_in, movement_after, is_movement_after, lot_made, is_in_ledger, ledger_of, due_after, due_order, orders_by_due}
-use Rattle.plant_worklists.specs.{DueCursor, MovementCursor, Page, RecipeCursor}
+use Rattle.plant_worklists.specs.{page_size, page_of, recipe_after, recipes_in, movement_after, is_movement_after, lot_made, is_in_ledger, ledger_of, due_after, due_order, orders_by_due, DueCursor, MovementCursor, Page, RecipeCursor, in_order as as_sorted}
 use Rattle.plant_worklists.proofs.MergedLists.{merged_filters}
-use Rattle.plant_keyed.specs.Paging.{IsOfBoth, IsPagedBeyond}
-use Rattle.plant_worklists.specs.Sorting.{in_order as as_sorted}
+use Rattle.plant_keyed.specs.{IsOfBoth, IsPagedBeyond}
 use Rattle.plant_keyed.proofs.InOrderAgain.{IsOnce, kept_in_order, once_by_key, ordered}
 use Rattle.plant_keyed.proofs.PagesFind.{by_number, by_text_number, by_two_texts, number_cmp}
 use Rattle.plant_keyed.proofs.PageIsFirstRows.{page_again, relisted}

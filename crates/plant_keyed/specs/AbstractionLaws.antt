@@ -1,10 +1,10 @@
 -- What a database shows.
 use Rattle.std.specs.Prelude.{◌≡◌}
 use Rattle.sqlite.specs.Effect.{Database}
-use Rattle.plant_base.specs.State.{State, newest_schema}
-use Rattle.plant_view.specs.Tables.{tables_of}
+use Rattle.plant_base.specs.{State, newest_schema}
+use Rattle.plant_view.specs.{tables_of}
 use Rattle.plant_invariant.specs.StateInvariant.{StateInvariant}
-use Rattle.plant_tables.specs.Keyed.{HoldsTables}
+use Rattle.plant_tables.specs.{HoldsTables}
 use Rattle.plant_keyed.specs.Abstraction.{abstraction}
 
 -- a database that holds the tables of a valid state shows that state

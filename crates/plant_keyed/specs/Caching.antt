@@ -2,11 +2,10 @@
 use Rattle.std.specs.Prelude.{◌≡◌, ◌↔◌, ℕ, ◌+◌, ◌/◌, min, Bool, true, false, nat_le, ◌&&◌, IfSome}
 use Rattle.sqlite.specs.Effect.{Database}
 use Rattle.sqlite.specs.State as store
-use Rattle.plant_base.specs.State.{State}
+use Rattle.plant_base.specs.{State}
 use Rattle.plant_trace.specs.{Direction}
 use Rattle.plant_trace.specs.declared.direction.Direction.TheVariants.{Forward, Back}
-use Rattle.plant_view.specs.Genealogy.{edges_of}
-use Rattle.plant_view.specs.Tables.{position_of}
+use Rattle.plant_view.specs.{edges_of, position_of}
 use Rattle.plant_keyed.specs.Edges.{AreTurned}
 use Rattle.plant_keyed.specs.LookupOutcomes.{IsHonest, IsReported}
 use Rattle.plant_keyed.specs.Abstraction.{abstraction}

@@ -2,11 +2,10 @@
 use Rattle.std.specs.Prelude.{◌≡◌, ℕ, List, Option, Some, slice_get}
 use Rattle.sqlite.specs.Effect.{Database}
 use Rattle.sqlite.specs.Order.{Row}
-use Rattle.sql_tables.specs.TableDefs.{TableDef}
-use Rattle.sql_queries.specs.Keys.{comes_before}
-use Rattle.sql_queries.specs.Reading.{Finds}
+use Rattle.sql_tables.specs.{TableDef}
+use Rattle.sql_queries.specs.{comes_before, Finds}
 use Rattle.sql_queries.specs.Rises.{Rises}
-use Rattle.plant_tables_columns.specs.DecodedRows.{all_from}
+use Rattle.plant_tables_columns.specs.{all_from}
 
 -- These rows of the desk were read of the table's rows that have the values in these columns, by the table's first key.
 pub record AreFound (db : Database) (table_def : TableDef) {R : Type 0} (row_from : Row → Option R) (places : List ℕ) (values : Row) (rows : List R) : Type 0 where

@@ -1,15 +1,10 @@
 -- The edges that begin at a node, as a direction sees them.
-use Rattle.std.specs.Prelude.{◌≡◌, ◌⊎◌, ◌↔◌, ◌==◌, ◌&&◌, ℕ, Bool, List, Option, Some, Contains}
-use Rattle.std.specs.List.Sorted.{IsSortedByKey}
-use Rattle.plant_base.specs.Edges.{edge_kind_number}
-use Rattle.plant_base.specs.State.{same}
-use Rattle.plant_base.specs.{EdgeKind, EdgeRow}
-use Rattle.plant_trace.specs.Nodes.{node_cmp}
-use Rattle.plant_trace.specs.Turned.{turned}
-use Rattle.plant_trace.specs.{Direction, Node}
+use Rattle.std.specs.Prelude.{◌≡◌, ◌⊎◌, ◌↔◌, ◌==◌, ◌&&◌, ℕ, Bool, List, Option, Some, Contains, IsSortedByKey}
+use Rattle.plant_base.specs.{edge_kind_number, same, EdgeKind, EdgeRow}
+use Rattle.plant_trace.specs.{node_cmp, turned, Direction, Node}
 use Rattle.plant_trace.specs.declared.direction.Direction.TheVariants.{Forward, Back}
 use Rattle.plant_trace.specs.declared.node.Node.TheVariants as node
-use Rattle.plant_view.specs.Genealogy.{ends_of}
+use Rattle.plant_view.specs.{ends_of}
 
 -- the id at which the edge begins, as the direction sees it
 abbrev pub near_id : Direction → EdgeRow → List ℕ

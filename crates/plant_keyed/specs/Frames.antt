@@ -1,13 +1,14 @@
 -- What look-ups keep, one after another: the laws of a view, which its impl names.
-use Rattle.std.proofs.Common.{◌≡◌, ◌∙◌, Bool, refl, subst, inl, arith}
+use Rattle.std.specs.Prelude.{◌≡◌, Bool, refl}
+use Rattle.std.proofs.Common.{◌∙◌, subst, inl, arith}
 use Rattle.sqlite.specs.Effect.{Database}
 use Rattle.sqlite.specs.State as store
 use Rattle.sqlite.specs.State.{HasCleanDisk}
 use Rattle.sqlite.proofs.StateLemmas.{survives_then}
-use Rattle.plant_base.specs.State.{newest_schema}
-use Rattle.plant_view.specs.Tables.{tables_of}
+use Rattle.plant_base.specs.{newest_schema}
+use Rattle.plant_view.specs.{tables_of}
 use Rattle.plant_invariant.specs.StateInvariant.{StateInvariant}
-use Rattle.plant_tables.specs.Keyed.{HoldsTables}
+use Rattle.plant_tables.specs.{HoldsTables}
 use Rattle.plant_keyed.specs.LookupOutcomes.{IsHonest, PreservesFrame}
 use Rattle.plant_keyed.specs.Caching.{CacheStaysValid}
 use Rattle.plant_keyed.specs.Abstraction.{abstraction}

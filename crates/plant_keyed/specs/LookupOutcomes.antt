@@ -2,11 +2,11 @@
 use Rattle.std.specs.Prelude.{◌≡◌, Bool, false, IsTrue}
 use Rattle.sqlite.specs.State as store
 use Rattle.sqlite.specs.State.{HasCleanDisk, Survives}
-use Rattle.plant_base.specs.State.{newest_schema}
-use Rattle.plant_view.specs.Tables.{tables_of}
+use Rattle.plant_base.specs.{newest_schema}
+use Rattle.plant_view.specs.{tables_of}
 use Rattle.plant_invariant.specs.StateInvariant.{StateInvariant}
-use Rattle.sql_tables.specs.AtRest.{Keeps}
-use Rattle.plant_tables.specs.Keyed.{HoldsTables}
+use Rattle.sql_tables.specs.{Keeps}
+use Rattle.plant_tables.specs.{HoldsTables}
 use Rattle.plant_keyed.specs.Abstraction.{abstraction}
 
 -- The store kept its specification, no look-up failed, and the tables are those of the valid state that they show.

@@ -5,12 +5,10 @@ use Rattle.std.specs.declared.cmp.Ordering.{Ordering}
 use Rattle.sqlite.specs.Effect.{Database}
 use Rattle.sqlite.specs.Order.{Row}
 use Rattle.sqlite.specs.declared.types.Value.{Value}
-use Rattle.sql_tables.specs.TableDefs.{TableDef}
-use Rattle.sql_queries.specs.Paging.{IsPage}
-use Rattle.plant_tables_columns.specs.DecodedRows.{all_from}
-use Rattle.plant_tables_columns.specs.Kinds.{number}
-use Rattle.plant_worklists.specs.Pages.{page_size, page_of}
-use Rattle.plant_worklists.specs.{Page}
+use Rattle.sql_tables.specs.{TableDef}
+use Rattle.sql_queries.specs.{IsPage}
+use Rattle.plant_tables_columns.specs.{all_from, number}
+use Rattle.plant_worklists.specs.{page_size, page_of, Page}
 
 -- These rows of the desk were read of a page of the table's rows, in the order of the columns with these indexes.
 pub record IsPaged (db : Database) (table_def : TableDef) (by : List ℕ) {R : Type 0} (row_from : Row → Option R) (places : List ℕ) (next : ℕ) (values : Row) (page : Page R) : Type 0 where

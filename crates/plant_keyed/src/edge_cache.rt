@@ -3,9 +3,7 @@
 ghost use Rattle.std.specs.Prelude.{◌≡◌, ◌≤◌, false, true, length, map, IfOk};
 ghost use Rattle.std.specs.List.Sorted.{IsPartitionPoint};
 ghost use Rattle.std.specs.Ordering.{is_le, is_lt};
-ghost use Rattle.plant_trace.specs.Nodes.{node_cmp};
-ghost use Rattle.plant_trace.specs.Reach.{IsNext, Lists};
-ghost use Rattle.plant_trace.specs.Turned.{turned};
+ghost use Rattle.plant_trace.specs.{node_cmp, IsNext, Lists, turned};
 ghost use Rattle.plant_trace.specs.declared.direction.Direction.TheVariants.{Forward};
 ghost use Rattle.plant_keyed.specs.Edges.{Ascend, AreTurned, HasEdgesAt};
 

@@ -3,12 +3,13 @@
 
 ghost use Rattle.std.specs.Prelude.{◌≡◌, filter, map, false, true, IfOk, IfSome, IsSome, OnOk};
 ghost use Rattle.sqlite.specs.Held.{state};
-ghost use Rattle.plant_base.specs.State.{State};
-ghost use Rattle.plant_trace.specs.Reach.{IsNext, Lists};
-ghost use Rattle.plant_view.specs.Genealogy.{edge_rows, edges_of, ends_of};
+ghost use Rattle.plant_base.specs.{State};
+ghost use Rattle.plant_trace.specs.{IsNext, Lists};
+ghost use Rattle.plant_view.specs.{edge_rows, edges_of, ends_of};
 ghost use Rattle.plant_keyed.specs.Edges.{begins_at, id_of, AreKindsAt, AreTurned, HasEdgesAt};
 ghost use Rattle.plant_keyed.specs.LookupOutcomes.{PreservesFrame, IsReported};
-ghost use Rattle.plant_keyed.specs.Caching.{AreEdgesOf, IsTraced, CacheStaysValid, one_more, are_few, are_seen};
+ghost use Rattle.plant_keyed.specs.Caching.{AreEdgesOf, IsTraced, CacheStaysValid, one_more};
+ghost use Rattle.plant_keyed.specs.Caching.{are_few, are_seen};
 ghost use Rattle.plant_keyed.specs.Abstraction.{abstraction};
 
 use crate::edge_cache::EdgeCache;

@@ -4,10 +4,9 @@ ghost use Rattle.std.specs.Prelude.{◌≡◌, ℕ, List, Some, None, Err, IfOk,
 ghost use Rattle.sqlite.specs.State.{HasCleanDisk, Survives};
 ghost use Rattle.sqlite.specs.Held.{state};
 ghost use Rattle.sqlite.specs.Values.{bound};
-ghost use Rattle.sql_queries.specs.Calls.{AnswersUnchanged, BeginsNone, KeepsVisible};
-ghost use Rattle.sql_queries.specs.Found.{AreGiven};
+ghost use Rattle.sql_queries.specs.{AnswersUnchanged, BeginsNone, KeepsVisible, AreGiven};
 ghost use Rattle.sql_queries.specs.Selects.{Selects};
-ghost use Rattle.plant_tables_columns.specs.DecodedRows.{all_from};
+ghost use Rattle.plant_tables_columns.specs.{all_from};
 ghost use Rattle.plant_keyed.specs.Decoding.{AreFound, AreDecoded};
 
 use crate::faults::if_memory;

@@ -2,10 +2,10 @@ ghost use Rattle.std.specs.Prelude.{◌≡◌, ◌≤◌, false, ℕ, List, IfOk
 ghost use Rattle.sqlite.specs.State.{HasCleanDisk};
 ghost use Rattle.sqlite.specs.Held.{state};
 ghost use Rattle.sqlite.specs.Values.{bound};
-ghost use Rattle.sql_queries.specs.Found.{AreGiven};
+ghost use Rattle.sql_queries.specs.{AreGiven};
 ghost use Rattle.sql_queries.specs.Selects.{Selects};
-ghost use Rattle.plant_base.specs.Values.{greatest_seq};
-ghost use Rattle.plant_view.specs.Tables.{position_of};
+ghost use Rattle.plant_base.specs.{greatest_seq};
+ghost use Rattle.plant_view.specs.{position_of};
 ghost use Rattle.plant_keyed.specs.Decoding.{AreFound, IsFirstFound, AreDecoded, IsDecoded};
 ghost use Rattle.plant_keyed.specs.LookupOutcomes.{PreservesFrame, IsReported};
 ghost use Rattle.plant_keyed.specs.Caching.{IsTraced, CacheStaysValid};

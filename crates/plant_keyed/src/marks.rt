@@ -2,7 +2,7 @@
 
 ghost use Rattle.std.specs.Prelude.{◌≡◌, IfOk};
 ghost use Rattle.sqlite.specs.Held.{state};
-ghost use Rattle.plant_view.specs.Recalls.{node_at, marks_on};
+ghost use Rattle.plant_view.specs.{node_at, marks_on};
 ghost use Rattle.plant_keyed.specs.Edges.{id_of};
 ghost use Rattle.plant_keyed.specs.LookupOutcomes.{IsReported};
 ghost use Rattle.plant_keyed.specs.Abstraction.{abstraction};

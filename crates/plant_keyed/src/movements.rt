@@ -2,7 +2,7 @@
 
 ghost use Rattle.std.specs.Prelude.{◌≡◌, IfOk};
 ghost use Rattle.sqlite.specs.Held.{state};
-ghost use Rattle.plant_view.specs.Views.{movements_of};
+ghost use Rattle.plant_view.specs.{movements_of};
 ghost use Rattle.plant_keyed.specs.LookupOutcomes.{IsReported};
 ghost use Rattle.plant_keyed.specs.Abstraction.{abstraction};
 

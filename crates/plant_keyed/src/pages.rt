@@ -1,21 +1,18 @@
 //! Pages of the rows that a query finds, judged by the rules of their values.
 
-ghost use Rattle.std.specs.Prelude.{◌≡◌, ◌+◌, [], ◌∷◌, false, ℕ, List, Some, Err, IfOk, IfErr, IfSome, IfNone};
+ghost use Rattle.std.specs.Prelude.{◌≡◌, ◌+◌, [], ◌∷◌, false, ℕ, List, Some, Err, IfOk, IfErr};
+ghost use Rattle.std.specs.Prelude.{IfSome, IfNone};
 ghost use Rattle.sqlite.specs.State.{HasCleanDisk, Survives};
 ghost use Rattle.sqlite.specs.Held.{state};
 ghost use Rattle.sqlite.specs.Values.{bound, bound_value};
 ghost use Rattle.sqlite.specs.declared.types.Value.TheVariants.{Text};
 ghost use Rattle.sqlite_sql.specs.Ops.{is_null};
 ghost use Rattle.sqlite_value.specs.Value.{owned};
-ghost use Rattle.sql_queries.specs.Calls.{AnswersUnchanged, BeginsNone, KeepsVisible};
-ghost use Rattle.sql_queries.specs.Paging.{SelectsPage, AreBounds};
-ghost use Rattle.sql_queries.specs.Selects.{first_of};
-ghost use Rattle.plant_tables_columns.specs.DecodedRows.{all_from};
-ghost use Rattle.plant_tables_columns.specs.Kinds.{number};
-ghost use Rattle.plant_worklists.specs.Pages.{page_size};
-ghost use Rattle.plant_worklists.specs.Worklists.{text_after};
-ghost use Rattle.plant_keyed.specs.LookupOutcomes.{PreservesFrame};
-ghost use Rattle.plant_keyed.specs.LookupOutcomes.{IsReported};
+ghost use Rattle.sql_queries.specs.{AnswersUnchanged, BeginsNone, KeepsVisible, SelectsPage};
+ghost use Rattle.sql_queries.specs.{AreBounds, first_of};
+ghost use Rattle.plant_tables_columns.specs.{all_from, number};
+ghost use Rattle.plant_worklists.specs.{page_size, text_after};
+ghost use Rattle.plant_keyed.specs.LookupOutcomes.{PreservesFrame, IsReported};
 ghost use Rattle.plant_keyed.specs.Paging.{IsPaged, IsPagedBeyond};
 
 use crate::faults::if_memory;

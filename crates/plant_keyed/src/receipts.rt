@@ -1,19 +1,16 @@
 //! The receipt of a reference, and pages of receipts by their numbers.
 
-ghost use Rattle.std.specs.Prelude.{◌≡◌, ◌+◌, [], ◌∷◌, ℕ, List, Some, None, Err, IfOk, IfErr, slice_get};
+ghost use Rattle.std.specs.Prelude.{◌≡◌, ◌+◌, [], ◌∷◌, ℕ, List, Some, None, Err, IfOk, IfErr};
+ghost use Rattle.std.specs.Prelude.{slice_get};
 ghost use Rattle.sqlite.specs.State.{HasCleanDisk, Survives};
 ghost use Rattle.sqlite.specs.Held.{state};
 ghost use Rattle.sqlite.specs.Values.{bound};
-ghost use Rattle.sql_queries.specs.Calls.{AnswersUnchanged, BeginsNone, KeepsVisible};
-ghost use Rattle.sql_queries.specs.Found.{AreGiven};
-ghost use Rattle.sql_queries.specs.Paging.{SelectsPage, AreBounds};
+ghost use Rattle.sql_queries.specs.{AnswersUnchanged, BeginsNone, KeepsVisible, AreGiven};
+ghost use Rattle.sql_queries.specs.{SelectsPage, AreBounds};
 ghost use Rattle.sql_queries.specs.Selects.{Selects};
-ghost use Rattle.plant_base.specs.State.{receipt_at};
-ghost use Rattle.plant_tables_columns.specs.DecodedRows.{all_from};
-ghost use Rattle.plant_tables_columns.specs.Kinds.{number};
-ghost use Rattle.plant_tables_columns.specs.TableColumns.{receipt_from};
-ghost use Rattle.plant_worklists.specs.Pages.{page_size};
-ghost use Rattle.plant_worklists.specs.Worklists.{number_after};
+ghost use Rattle.plant_base.specs.{receipt_at};
+ghost use Rattle.plant_tables_columns.specs.{all_from, number, receipt_from};
+ghost use Rattle.plant_worklists.specs.{page_size, number_after};
 ghost use Rattle.plant_keyed.specs.Decoding.{AreFound};
 ghost use Rattle.plant_keyed.specs.LookupOutcomes.{PreservesFrame, IsReported};
 ghost use Rattle.plant_keyed.specs.Paging.{IsPaged};

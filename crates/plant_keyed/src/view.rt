@@ -3,8 +3,8 @@
 ghost use Rattle.std.specs.Prelude.{◌≡◌, refl};
 ghost use Rattle.std.proofs.Common.{ap};
 ghost use Rattle.sqlite.specs.Held.{state};
-ghost use Rattle.plant_trace.specs.HoldsIfHonest.{same_along};
-ghost use Rattle.plant_view.specs.Genealogy.{edges_of};
+ghost use Rattle.plant_trace.specs.{same_along};
+ghost use Rattle.plant_view.specs.{edges_of};
 ghost use Rattle.plant_keyed.specs.LookupOutcomes.{IsHonest, PreservesFrame};
 ghost use Rattle.plant_keyed.specs.Abstraction.{abstraction};
 ghost use Rattle.plant_keyed.specs.Caching.{IsCacheOf, CacheStaysValid};

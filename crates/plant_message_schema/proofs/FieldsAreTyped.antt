@@ -1,10 +1,9 @@
 -- What was read of members has the types of their rules, and else the flaw says what is wrong.
-use Rattle.std.proofs.Common.{◌≡◌, ℕ, List, [], ◌∷◌, Bool, true, false, cond, Option, Some, None, Result, Ok, Err, option_map, option_and_then, refl}
-use Rattle.std.specs.Prelude.{⊤, IfOk, IfErr}
+use Rattle.std.proofs.Common.{◌≡◌, ℕ, List, [], ◌∷◌, Bool, true, false, cond, Option, Some, None, Result, Ok, Err, option_map, option_and_then, refl, IfOk, IfErr}
+use Rattle.std.specs.Prelude.{⊤}
 use Rattle.serde_json.specs.Data.{Data}
 use Rattle.serde_json.specs.Find.{get, as_str, as_array, as_object}
-use Rattle.plant_base.specs.Dates.{is_due}
-use Rattle.plant_base.specs.Values.{only, is_id, is_text, is_unit, is_amount, is_moment}
+use Rattle.plant_base.specs.{is_due, only, is_id, is_text, is_unit, is_amount, is_moment}
 use Rattle.plant_message_schema.specs.declared.members.Member.{Member}
 use Rattle.plant_message_schema.specs.declared.members.Member.TheVariants as m
 use Rattle.plant_message_schema.specs.declared.members.Rule.{Rule}
@@ -13,12 +12,8 @@ use Rattle.plant_message_schema.specs.declared.fields.Field.{Field}
 use Rattle.plant_message_schema.specs.declared.fields.Field.TheVariants as field
 use Rattle.plant_message_schema.specs.declared.format_errors.ShapeError.{ShapeError}
 use Rattle.plant_message_schema.specs.declared.format_errors.ShapeError.TheVariants as shape_error
-use Rattle.plant_message_schema.specs.Members.{name_of, rule_of, is_needed}
-use Rattle.plant_worklists.specs.Cursors.{due_cursor, hold_cursor, recipe_cursor, movement_cursor}
-use Rattle.plant_message_schema.specs.Words.{command_kind, asked_kind, line_kind, batch_word, order_state, recipe_state}
-use Rattle.plant_message_schema.specs.FormatErrors.{◌>>=◌, object, is_reported, format_error_is_reported}
-use Rattle.plant_message_schema.specs.Fields.{natural, is_between, field_of, by_rule, member_where, member_of, fields_of, first_other, other_where, none_other, exactly}
-use Rattle.plant_message_schema.specs.ValueLaws.{Means, field_in, May, may_in, Values, fields_in}
+use Rattle.plant_message_schema.specs.{name_of, rule_of, is_needed, command_kind, asked_kind, line_kind, batch_word, order_state, recipe_state, ◌>>=◌, object, is_reported, format_error_is_reported, natural, is_between, field_of, by_rule, member_where, member_of, fields_of, first_other, other_where, none_other, exactly, Means, field_in, May, may_in, Values, fields_in}
+use Rattle.plant_worklists.specs.{due_cursor, hold_cursor, recipe_cursor, movement_cursor}
 
 -- what was read is such, or else the error says what is wrong
 abbrev pub Good : {A E : Type 0} → (E → Bool) → (A → Type 0) → Result A E → Type 0

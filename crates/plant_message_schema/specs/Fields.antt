@@ -1,12 +1,10 @@
 -- The typed values of an object's members, or its first flaw. An object has a name once: where a text has it twice, the last one counts.
-use Rattle.std.specs.Prelude.{ℕ, List, [], ◌∷◌, Bool, ◌&&◌, ◌||◌, nat_le, if◌then◌else◌, Option, Some, None, option_map, option_and_then, Result, Ok, Err}
+use Rattle.std.specs.Prelude.{ℕ, List, [], ◌∷◌, Bool, ◌&&◌, ◌||◌, nat_le, if◌then◌else◌, Option, Some, None, option_map, option_and_then, Result, Ok, Err, bytes_eq}
 use Rattle.std.specs.List.{list_any}
-use Rattle.std.specs.Str.{bytes_eq}
 use Rattle.serde_json.specs.Data.{Data, Members, no_members, member}
 use Rattle.serde_json.specs.Find.{get, as_number, as_u64, as_str, as_array, as_object}
-use Rattle.plant_base.specs.Dates.{is_due}
-use Rattle.plant_base.specs.Values.{only, is_id, is_text, is_unit, is_amount, is_moment}
-use Rattle.plant_worklists.specs.Cursors.{due_cursor, hold_cursor, recipe_cursor, movement_cursor}
+use Rattle.plant_base.specs.{is_due, only, is_id, is_text, is_unit, is_amount, is_moment}
+use Rattle.plant_worklists.specs.{due_cursor, hold_cursor, recipe_cursor, movement_cursor}
 use Rattle.plant_message_schema.specs.declared.members.Member.{Member}
 use Rattle.plant_message_schema.specs.declared.members.Rule.{Rule}
 use Rattle.plant_message_schema.specs.declared.members.Rule.TheVariants as rule

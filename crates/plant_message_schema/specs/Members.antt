@@ -1,6 +1,6 @@
 -- The names of members, and the rules of their values.
 use Rattle.std.specs.Prelude.{ℕ, List, ◌++◌, codes, decimal, Bool, true, false}
-use Rattle.plant_base.specs.Values.{greatest_amount, greatest_moment, greatest_sublot, greatest_version, greatest_priority, greatest_phase}
+use Rattle.plant_base.specs.{greatest_amount, greatest_moment, greatest_sublot, greatest_version, greatest_priority, greatest_phase}
 use Rattle.plant_message_schema.specs.declared.members.Member.{Member}
 use Rattle.plant_message_schema.specs.declared.members.Member.TheVariants as m
 use Rattle.plant_message_schema.specs.declared.members.Rule.{Rule}

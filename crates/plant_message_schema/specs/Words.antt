@@ -1,6 +1,5 @@
 -- The words that choose a shape, those for a batch, and the states of orders and recipes.
-use Rattle.std.specs.Prelude.{ℕ, List, if◌then◌else◌, codes, Option, Some, None, option_map}
-use Rattle.std.specs.Str.{bytes_eq}
+use Rattle.std.specs.Prelude.{ℕ, List, if◌then◌else◌, codes, Option, Some, None, option_map, bytes_eq}
 use Rattle.plant_base.specs.{JobState, RecipeState, Word}
 use Rattle.plant_base.specs.declared.states.JobState.TheVariants as job_state
 use Rattle.plant_base.specs.declared.states.RecipeState.TheVariants as recipe

@@ -1,10 +1,10 @@
 //! The typed values of an object's members, or its first flaw.
 ghost use Rattle.std.specs.Prelude.{◌≡◌, ◌≤◌, length, ◌||◌, true, IfOk, IfErr};
 ghost use Rattle.serde_json.specs.View.{view, members_view};
-ghost use Rattle.plant_base.specs.Dates.{is_due};
-ghost use Rattle.plant_base.specs.Values.{is_id, is_text, is_unit, only};
+ghost use Rattle.plant_base.specs.{is_due, is_id, is_text, is_unit, only};
 ghost use Rattle.plant_message_schema.specs.Fields.{field_of, member_of, fields_of, is_listed};
-ghost use Rattle.plant_message_schema.specs.Fields.{chosen, first_other, other_where, none_other, exactly};
+ghost use Rattle.plant_message_schema.specs.Fields.{chosen, first_other, other_where, none_other};
+ghost use Rattle.plant_message_schema.specs.Fields.{exactly};
 ghost use Rattle.plant_message_schema.specs.ValueLaws.{Values, fields_in};
 ghost use Rattle.plant_message_schema.specs.FormatErrors.{is_reported};
 ghost use Rattle.plant_message_schema.specs.Tables.{most_members};

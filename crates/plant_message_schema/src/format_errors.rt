@@ -1,7 +1,8 @@
 //! What is wrong with a line, and the texts of it.
 ghost use Rattle.std.specs.Prelude.{◌≡◌, Some, IfErr, IsErrOf};
 ghost use Rattle.plant_message_schema.specs.declared.format_errors.FormatError.TheVariants as format_error;
-ghost use Rattle.plant_message_schema.specs.FormatErrors.{shape_error_text, format_error_text, Reports, object, or_malformed};
+ghost use Rattle.plant_message_schema.specs.FormatErrors.{shape_error_text, format_error_text};
+ghost use Rattle.plant_message_schema.specs.FormatErrors.{Reports, object, or_malformed};
 
 use crate::members::Member;
 use plant_base::Text;

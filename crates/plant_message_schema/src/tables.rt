@@ -1,6 +1,7 @@
 //! Which members commands, checks, questions for lists and the rows of lists have, in the order in which problems are reported.
 ghost use Rattle.std.specs.Prelude.{◌≡◌, ◌≤◌, length};
-ghost use Rattle.plant_message_schema.specs.Tables.{shared_members, own_of, list_members, check_members, row_own, most_members};
+ghost use Rattle.plant_message_schema.specs.Tables.{shared_members, own_of, list_members};
+ghost use Rattle.plant_message_schema.specs.Tables.{check_members, row_own, most_members};
 
 use crate::members::Member::{
     self, Above, AfterDue, AfterHold, AfterMovement, AfterNumber, AfterRecipe, Amount, Ask, At,

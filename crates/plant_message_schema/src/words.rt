@@ -1,6 +1,8 @@
 //! The words that choose a shape, those for a batch, and the states of orders and recipes.
 ghost use Rattle.std.specs.Prelude.{◌≡◌};
-ghost use Rattle.plant_message_schema.specs.Words.{command_kind, question_kind, asked_kind, line_kind, batch_word, order_state, recipe_state};
+ghost use Rattle.plant_message_schema.specs.Words.{command_kind, question_kind, asked_kind};
+ghost use Rattle.plant_message_schema.specs.Words.{line_kind, batch_word, order_state};
+ghost use Rattle.plant_message_schema.specs.Words.{recipe_state};
 
 use plant_base::{JobState, RecipeState, Word};
 

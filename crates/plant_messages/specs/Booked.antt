@@ -1,6 +1,6 @@
 -- What was booked of a definition.
 use Rattle.std.specs.Prelude.{ℕ, if◌then◌else◌, List, sum_by}
-use Rattle.plant_base.specs.State.{same}
+use Rattle.plant_base.specs.{same}
 use Rattle.plant_messages.specs.declared.question.Booking.{Booking}
 
 -- what a booking counts for a definition

@@ -1,6 +1,9 @@
 pub mod Booked
 pub mod Faults
 pub mod Phases
+unfoldable pub use Booked.{booked_of}
+pub use Faults.{fault_number}
+pub use Phases.{phases_in}
 pub use declared.genealogy.BookedEdge.{BookedEdge}
 pub use declared.genealogy.Genealogy.{Genealogy}
 pub use declared.genealogy.LotNode.{LotNode}

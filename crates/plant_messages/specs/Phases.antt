@@ -1,6 +1,6 @@
 -- The phases of a batch.
 use Rattle.std.specs.Prelude.{ℕ, List, count_by}
-use Rattle.plant_recipe.specs.WellFormed.{is_phase}
+use Rattle.plant_recipe.specs.{is_phase}
 use Rattle.plant_messages.specs.declared.question.MeasuredLine.{MeasuredLine}
 
 -- how many phases a control recipe has

@@ -1,6 +1,6 @@
 // What was booked of a definition.
 ghost use Rattle.std.specs.Prelude.{◌≡◌, ◌≤◌};
-ghost use Rattle.plant_base.specs.Values.{greatest_amount};
+ghost use Rattle.plant_base.specs.{greatest_amount};
 ghost use Rattle.plant_messages.specs.Booked.{amount_of, booked_of};
 
 use crate::question::Booking;

@@ -1,24 +1,17 @@
 -- What the changes make of the tables of a state.
-use Rattle.std.proofs.Common.{◌≡◌, ◌∙◌, inl, inr, refl, sym, ap, ℕ, zero, suc, ◌+◌, ◌≤◌, ◌==◌, nat_le, false, eqb-true, List, [], ◌∷◌, ◌++◌, map, Option, Some, None, option_map, option_and_then, arith}
+use Rattle.std.proofs.Common.{◌≡◌, ◌∙◌, inl, inr, refl, sym, ap, ℕ, zero, suc, ◌+◌, ◌≤◌, ◌==◌, nat_le, false, eqb-true, List, [], ◌∷◌, ◌++◌, map, Option, Some, None, option_map, option_and_then, arith, if◌then◌else◌, filter_map}
 use Rattle.std.proofs.lemmas.Bool.{cases_Bool}
 use Rattle.std.proofs.lemmas.Bool.Decides.{nat_tests}
-use Rattle.std.specs.Prelude.{if◌then◌else◌}
-use Rattle.std.specs.List.{filter_map, cons_option}
-use Rattle.plant_base.specs.Edges.{edge_order}
-use Rattle.plant_base.specs.State.{State, newest_schema, put}
-use Rattle.plant_base.specs.{EdgeRow, Movement, Recall, Receipt}
-use Rattle.plant_view.specs.Genealogy.{edge_row_of, edges_among}
-use Rattle.plant_view.specs.Recalls.{marks}
-use Rattle.plant_view.specs.Rows.{put_all}
-use Rattle.plant_view.specs.Tables.{Tables, changed, changed_all, tables_of, IsWholeIn, position_of}
-use Rattle.plant_view.specs.{RowChange}
+use Rattle.std.specs.List.{cons_option}
+use Rattle.plant_base.specs.{edge_order, State, newest_schema, put, EdgeRow, Movement, Recall, Receipt}
+use Rattle.plant_view.specs.{edge_row_of, edges_among, marks, put_all, changed, changed_all, tables_of, IsWholeIn, position_of, RowChange}
+use Rattle.plant_view.specs.Tables.{Tables}
 use Rattle.plant_view.specs.declared.change.RowChange.TheVariants as change
-use Rattle.plant_tables.specs.Schemas.{IsOlder}
+use Rattle.plant_tables.specs.{IsOlder}
 use Rattle.plant_tables.proofs.RaisedSchema.{by_older}
-use Rattle.plant_tables_columns.specs.Booked.{booked_of}
-use Rattle.plant_tables_columns.specs.{BookedRow}
+use Rattle.plant_tables_columns.specs.{booked_of, BookedRow}
 use Rattle.plant_tables_columns.proofs.MovementColumns.{movement_again}
-use Rattle.plant_migrate.specs.Raised.{edge_change, edges_from, added_rows, raised_once, raised_by}
+use Rattle.plant_migrate.specs.{edge_change, edges_from, added_rows, raised_once, raised_by}
 
 abbrev with_edges : Tables → List EdgeRow → Tables
 with_edges t edges = record t { edges = edges }

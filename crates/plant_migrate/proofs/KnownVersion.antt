@@ -1,5 +1,5 @@
 -- The version that is read, and what follows of the tables of a state.
-use Rattle.std.proofs.Common.{◌≡◌, ◌∙◌, refl, sym, ap, subst, ℕ, ◌≤◌, ◌<◌, ℤ, pos, true, false, nat_le, [], ◌∷◌, IsTrue, arith}
+use Rattle.std.proofs.Common.{◌≡◌, ◌∙◌, refl, sym, ap, subst, ℕ, ◌≤◌, ◌<◌, ℤ, pos, true, false, nat_le, [], ◌∷◌, IsTrue, arith, ◌≤ℤ◌}
 use Rattle.std.proofs.lemmas.Bool.Decides.{nat_tests}
 use Rattle.std.proofs.lemmas.Int.{ints, to_z-of_z}
 use lib.Dec.{leb→le}
@@ -7,26 +7,21 @@ use lib.IntN.{negsuc, nat_abs}
 use lib.Signed.{le_z}
 use mir.Syntax.{w64}
 use mir.Val.{SFits, to_z, of_z}
-use Rattle.std.specs.Int.Signed.{◌≤ℤ◌}
 use Rattle.std.specs.List.Sorted.{IsStrictlySortedBy}
 use Rattle.sqlite.specs.Effect.{Database}
 use Rattle.sqlite.specs.declared.types.Value.TheVariants.{Int}
 use Rattle.sqlite.specs.State as store
 use Rattle.sqlite.specs.Tree.{Trees}
-use Rattle.plant_base.specs.State.{State, newest_schema}
-use Rattle.plant_view.specs.Tables.{Tables, tables_of}
-use Rattle.sql_tables.specs.AtRest.{Keeps}
-use Rattle.sql_tables.specs.StoredRows.{HasStoredRows, KeepsOtherTables}
-use Rattle.sql_tables.specs.CrashStates.{IsSettled}
+use Rattle.plant_base.specs.{State, newest_schema}
+use Rattle.plant_view.specs.{tables_of}
+use Rattle.plant_view.specs.Tables.{Tables}
+use Rattle.sql_tables.specs.{Keeps, HasStoredRows, KeepsOtherTables, IsSettled}
 use Rattle.sql_tables.proofs.TransactionEnds.{IsStore}
-use Rattle.plant_tables.specs.DeskTableDefs.{desk_table_defs, meta_table}
-use Rattle.plant_tables.specs.Keyed.{HoldsTablesOf}
-use Rattle.plant_tables.specs.DeskCrashStates.{IsAtOf}
-use Rattle.plant_tables_columns.specs.TableColumns.{row_of_meta}
-use Rattle.plant_tables_read.specs.Loading.{Loads}
-use Rattle.plant_tables_read.specs.Version.{IsVersion}
+use Rattle.plant_tables.specs.{desk_table_defs, meta_table, HoldsTablesOf, IsAtOf}
+use Rattle.plant_tables_columns.specs.{row_of_meta}
+use Rattle.plant_tables_read.specs.{Loads, IsVersion}
 use Rattle.plant_tables_read.proofs.AllRowsDecoded.{loaded_rows}
-use Rattle.plant_migrate.specs.FailureLeaves.{IsReadable, FailureLeavesAmid, IsRaisedFrom, IsRaisedTo, HasKnownVersion, raised_to}
+use Rattle.plant_migrate.specs.{IsReadable, FailureLeavesAmid, IsRaisedFrom, IsRaisedTo, HasKnownVersion, raised_to}
 use Rattle.plant_migrate.proofs.RaisingEnds.{raised_to_is}
 use Rattle.plant_migrate.proofs.RowsBeforeRaising.{from_since}
 use Rattle.plant_migrate.proofs.NothingWritten.{at_still, amid_since}

@@ -1,12 +1,10 @@
 -- Whether the later tables can be made, by what a test of their names and one of the table of counts find.
-use Rattle.std.proofs.Common.{◌≡◌, ◌∙◌, refl, sym, subst, List, Bool, true, false, not, All}
-use Rattle.std.specs.Prelude.{◌↔◌}
+use Rattle.std.proofs.Common.{◌≡◌, ◌∙◌, refl, sym, subst, List, Bool, true, false, not, All, ◌↔◌}
 use Rattle.std.proofs.lemmas.Bool.{false≢true}
 use Rattle.std.proofs.lemmas.Option.{get_or_from_slice_get, slice_get-get_or, slice_get_within}
 use Rattle.sqlite.specs.Does.{lacks_sequence}
 use Rattle.sqlite.specs.Schema.{Schema}
-use Rattle.sql_tables.specs.TableDefs.{TableDef}
-use Rattle.sql_tables.specs.StoredRows.{IsFree, AreFree}
+use Rattle.sql_tables.specs.{TableDef, IsFree, AreFree}
 
 module _ (schema : Schema) (table_defs : List TableDef) where
   all_are_free : All (IsFree schema) table_defs → lacks_sequence schema ≡ false → AreFree table_defs schema

@@ -5,17 +5,14 @@ use Rattle.std.proofs.lemmas.Bool.Decides.{nat_tests}
 use Rattle.sqlite.specs.Tree.{Trees}
 use Rattle.sqlite.specs.Effect.{Database}
 use Rattle.sqlite.specs.State.{State, HasCleanDisk, Survives}
-use Rattle.plant_base.specs.State as desk
-use Rattle.plant_view.specs.Tables.{Tables, tables_of}
-use Rattle.sql_tables.specs.AtRest.{Keeps}
-use Rattle.sql_tables.specs.StoredRows.{KeepsOtherTables}
-use Rattle.sql_tables.specs.CrashStates.{IsSettled}
+use Rattle.plant_base.specs.PlantState as desk
+use Rattle.plant_view.specs.{tables_of}
+use Rattle.plant_view.specs.Tables.{Tables}
+use Rattle.sql_tables.specs.{Keeps, KeepsOtherTables, IsSettled}
 use Rattle.sql_tables.proofs.TransactionEnds.{IsStore}
-use Rattle.plant_tables.specs.DeskTableDefs.{desk_table_defs}
-use Rattle.plant_tables.specs.Keyed.{HoldsTablesOf}
-use Rattle.plant_tables.specs.DeskCrashStates.{IsAtOf, FindsOf, FailureLeavesOf}
+use Rattle.plant_tables.specs.{desk_table_defs, HoldsTablesOf, IsAtOf, FindsOf, FailureLeavesOf}
 use Rattle.plant_tables.proofs.WritingEnds.{finds_same}
-use Rattle.plant_migrate.specs.FailureLeaves.{FailureLeavesAmid, FindsBetween, raised_to}
+use Rattle.plant_migrate.specs.{FailureLeavesAmid, FindsBetween, raised_to}
 
 pub keeps_itself : (s : State) → Keeps s s
 keeps_itself s = record { was_open = λ live. live; now = λ _. refl; committed = λ _. refl }

@@ -5,19 +5,13 @@ use Rattle.sqlite.specs.Effect.{Database}
 use Rattle.sqlite.specs.State as store
 use Rattle.sqlite.specs.State.{HasCleanDisk, Survives}
 use Rattle.sqlite.proofs.StateLemmas.{survives_then}
-use Rattle.plant_base.specs.State.{newest_schema}
-use Rattle.plant_base.specs.{Position}
+use Rattle.plant_base.specs.{newest_schema, Position}
 use Rattle.plant_view.specs.Tables.{Tables}
 use Rattle.plant_view.specs.{RowChange}
-use Rattle.sql_tables.specs.StoredRows.{AreFree, KeepsOtherTables}
-use Rattle.sql_tables.specs.CrashStates.{IsSettled}
+use Rattle.sql_tables.specs.{AreFree, KeepsOtherTables, IsSettled}
 use Rattle.sql_tables.proofs.WritesInTurn.{others_then}
-use Rattle.plant_tables.specs.DeskTableDefs.{desk_table_defs, later_table_defs}
-use Rattle.plant_tables.specs.DeskCrashStates.{IsAtOf, FindsOf, FailureLeavesOf}
-use Rattle.plant_tables.specs.Keyed.{HoldsTablesOf}
-use Rattle.plant_tables.specs.Schemas.{IsOlder}
-use Rattle.plant_migrate.specs.Raised.{AreEdges, raised_once, raised_by}
-use Rattle.plant_migrate.specs.Steps.{IsRisable, IsRaisedOnce, FailureLeavesWithin, FindsRisable, IsRaisedBy}
+use Rattle.plant_tables.specs.{desk_table_defs, later_table_defs, IsAtOf, FindsOf, FailureLeavesOf, HoldsTablesOf, IsOlder}
+use Rattle.plant_migrate.specs.{AreEdges, raised_once, raised_by, IsRisable, IsRaisedOnce, FailureLeavesWithin, FindsRisable, IsRaisedBy}
 use Rattle.plant_migrate.proofs.RaisedBySteps.{can_rise, risen, none_or_more, one_more}
 
 pub keeps_all : (table_defs : _) (db : Database) → KeepsOtherTables table_defs db db

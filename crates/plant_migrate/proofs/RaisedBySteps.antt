@@ -1,23 +1,18 @@
 -- Tables that are raised by some versions.
-use Rattle.std.proofs.Common.{◌≡◌, ◌⊎◌, inl, inr, refl, sym, ap, subst, ◌∙◌, ℕ, zero, suc, ◌+◌, ◌≤◌, ◌<◌, ◌==◌, nat_le, true, false, eqb-true, List, [], ◌∷◌, ◌++◌, Option, Some, None, option_map, arith}
+use Rattle.std.proofs.Common.{◌≡◌, ◌⊎◌, inl, inr, refl, sym, ap, subst, ◌∙◌, ℕ, zero, suc, ◌+◌, ◌≤◌, ◌<◌, ◌==◌, nat_le, true, false, eqb-true, List, [], ◌∷◌, ◌++◌, Option, Some, None, option_map, arith, filter_map}
 use Rattle.std.proofs.lemmas.Bool.{cases_Bool}
 use Rattle.std.proofs.lemmas.Bool.Decides.{nat_tests}
-use Rattle.std.specs.List.{filter_map, cons_option}
+use Rattle.std.specs.List.{cons_option}
 use Rattle.sqlite.specs.Effect.{Database}
-use Rattle.plant_base.specs.Edges.{edge_order}
-use Rattle.plant_base.specs.State.{put}
-use Rattle.plant_base.specs.{EdgeRow, Meta, Position}
-use Rattle.plant_view.specs.Tables.{Tables, changed, changed_all}
-use Rattle.plant_view.specs.{RowChange}
+use Rattle.plant_base.specs.{edge_order, put, EdgeRow, Meta, Position}
+use Rattle.plant_view.specs.{changed, changed_all, RowChange}
+use Rattle.plant_view.specs.Tables.{Tables}
 use Rattle.plant_view.specs.declared.change.RowChange.TheVariants as change
-use Rattle.sql_tables.specs.StoredRows.{AreFree}
-use Rattle.plant_tables.specs.DeskTableDefs.{later_table_defs}
-use Rattle.plant_tables.specs.Keyed.{HoldsTablesOf, AreFresh, IsOfSchema, AreOfSchema}
-use Rattle.plant_tables.specs.Schemas.{AreRisable, raising}
+use Rattle.sql_tables.specs.{AreFree}
+use Rattle.plant_tables.specs.{later_table_defs, HoldsTablesOf, AreFresh, IsOfSchema, AreOfSchema, AreRisable, raising}
 use Rattle.plant_tables.proofs.RowChangeIsTableChange.{keyed_after_all}
 use Rattle.plant_tables_columns.specs.{BookedRow}
-use Rattle.plant_migrate.specs.Raised.{edge_booked, edge_change, edges_from, AreEdges, added_rows, raised_once, raised_by}
-use Rattle.plant_migrate.specs.Steps.{IsRisable}
+use Rattle.plant_migrate.specs.{edge_booked, edge_change, edges_from, AreEdges, added_rows, raised_once, raised_by, IsRisable}
 
 -- ---- changes that put edges
 

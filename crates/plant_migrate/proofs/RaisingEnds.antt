@@ -6,21 +6,13 @@ use Rattle.std.proofs.lemmas.Bool.Decides.{nat_tests}
 use Rattle.sqlite.specs.Tree.{Trees}
 use Rattle.sqlite.specs.Effect.{Database}
 use Rattle.sqlite.specs.State as store
-use Rattle.plant_base.specs.State.{State, newest_schema}
-use Rattle.plant_base.specs.{Position}
-use Rattle.plant_view.specs.Tables.{tables_of, IsWholeIn, position_of}
-use Rattle.plant_view.specs.{RowChange}
-use Rattle.sql_tables.specs.StoredRows.{AreFree, KeepsOtherTables}
-use Rattle.sql_tables.specs.CrashStates.{IsSettled}
-use Rattle.plant_tables.specs.DeskTableDefs.{desk_table_defs, later_table_defs}
-use Rattle.plant_tables.specs.Keyed.{HoldsTablesOf, AreKeyed}
-use Rattle.plant_tables.specs.DeskCrashStates.{IsAtOf, FindsOf}
+use Rattle.plant_base.specs.{State, newest_schema, Position}
+use Rattle.plant_view.specs.{tables_of, IsWholeIn, position_of, RowChange}
+use Rattle.sql_tables.specs.{AreFree, KeepsOtherTables, IsSettled}
+use Rattle.plant_tables.specs.{desk_table_defs, later_table_defs, HoldsTablesOf, AreKeyed, IsAtOf, FindsOf}
 use Rattle.plant_tables.proofs.RaisedSchema.{lacks_later}
-use Rattle.plant_tables_read.specs.Collecting.{Rows, rows_in, rows_listed}
-use Rattle.plant_tables_read.specs.{DeskRows}
-use Rattle.plant_migrate.specs.Raised.{edges_from, raised_by}
-use Rattle.plant_migrate.specs.Steps.{IsRisable, FailureLeavesWithin, FindsRisable, IsRaisedBy}
-use Rattle.plant_migrate.specs.FailureLeaves.{FailureLeavesAmid, raised_to}
+use Rattle.plant_tables_read.specs.{Rows, rows_in, rows_listed, DeskRows}
+use Rattle.plant_migrate.specs.{edges_from, raised_by, IsRisable, FailureLeavesWithin, FindsRisable, IsRaisedBy, FailureLeavesAmid, raised_to}
 use Rattle.plant_migrate.proofs.ChangesOfState.{bookings, state_raised}
 
 pub state_risable : (version : ℕ) (db : Database) (s : State) → HoldsTablesOf version db (tables_of version s) → AreKeyed (tables_of version s) → IsRisable version db (tables_of version s)

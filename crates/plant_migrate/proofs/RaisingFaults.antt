@@ -2,7 +2,7 @@
 use Rattle.std.proofs.Common.{◌≡◌, ◌≢◌, refl}
 use Rattle.sql_tables.specs.{Fault}
 use Rattle.sql_tables.specs.declared.fault.Fault.TheVariants as fault
-use Rattle.plant_migrate.specs.Calls.{raise_fault}
+use Rattle.plant_migrate.specs.{raise_fault}
 use Rattle.plant_migrate.specs.declared.raising.RaiseFault.{RaiseFault}
 use Rattle.plant_migrate.specs.declared.raising.RaiseFault.TheVariants as raising
 

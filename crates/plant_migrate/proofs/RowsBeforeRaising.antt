@@ -6,24 +6,17 @@ use Rattle.sqlite.specs.Effect.{Database}
 use Rattle.sqlite.specs.Order.{Row}
 use Rattle.sqlite.specs.Tree.{Trees}
 use Rattle.sqlite.specs.State as store
-use Rattle.plant_base.specs.State.{State}
-use Rattle.plant_base.specs.{Meta}
-use Rattle.plant_view.specs.Tables.{tables_of, position_of}
-use Rattle.sql_tables.specs.StoredRows.{KeepsOtherTables}
-use Rattle.sql_tables.specs.CrashStates.{IsSettled}
-use Rattle.plant_tables.specs.DeskTableDefs.{desk_table_defs, meta_table}
-use Rattle.plant_tables.specs.DeskCrashStates.{IsAtOf}
+use Rattle.plant_base.specs.{State, Meta}
+use Rattle.plant_view.specs.{tables_of, position_of}
+use Rattle.sql_tables.specs.{KeepsOtherTables, IsSettled}
+use Rattle.plant_tables.specs.{desk_table_defs, meta_table, IsAtOf}
 use Rattle.plant_tables.proofs.RaisedSchema.{lacks_later}
-use Rattle.plant_tables_columns.specs.TableColumns.{only_meta, row_of_meta}
+use Rattle.plant_tables_columns.specs.{only_meta, row_of_meta}
 use Rattle.plant_tables_columns.proofs.RowLaws.{meta_reads}
-use Rattle.plant_tables_read.specs.Loading.{AreLoaded, Loads}
-use Rattle.plant_tables_read.specs.{DeskRows, Loaded}
-use Rattle.plant_tables_read.specs.Collecting.{rows_from, rows_in, rows_listed}
+use Rattle.plant_tables_read.specs.{AreLoaded, Loads, DeskRows, Loaded, rows_from, rows_in, rows_listed}
 use Rattle.plant_tables_read.proofs.RowsReadBack.{read_again}
 use Rattle.plant_tables_read.proofs.AllRowsDecoded.{loaded_rows}
-use Rattle.plant_migrate.specs.Raised.{edges_from}
-use Rattle.plant_migrate.specs.Steps.{IsRaisedBy}
-use Rattle.plant_migrate.specs.FailureLeaves.{IsReadable, FailureLeavesAmid, IsRead, IsRaisedFrom}
+use Rattle.plant_migrate.specs.{edges_from, IsRaisedBy, IsReadable, FailureLeavesAmid, IsRead, IsRaisedFrom}
 use Rattle.plant_migrate.proofs.RaisingEnds.{raised_since}
 use Rattle.plant_migrate.proofs.NothingWritten.{amid_since}
 

@@ -1,22 +1,14 @@
 -- What the calls that raise tables promise, each of a store before and after it and of its result.
-use Rattle.std.specs.Prelude.{◌≡◌, ◌≢◌, ℕ, ◌+◌, ℤ, pos, List, OnOk, OnErr, IfErr, Result}
-use Rattle.std.specs.Int.Signed.{◌≤ℤ◌, ◌<ℤ◌}
+use Rattle.std.specs.Prelude.{◌≡◌, ◌≢◌, ℕ, ◌+◌, ℤ, pos, List, OnOk, OnErr, IfErr, Result, ◌≤ℤ◌, ◌<ℤ◌}
 use Rattle.sqlite.specs.State as store
 use Rattle.sqlite.specs.State.{HasCleanDisk, Survives}
-use Rattle.plant_base.specs.State.{State, newest_schema}
-use Rattle.plant_base.specs.{Position}
-use Rattle.plant_view.specs.Tables.{Tables, tables_of, IsWholeIn}
-use Rattle.plant_view.specs.{RowChange}
-use Rattle.sql_tables.specs.StoredRows.{KeepsOtherTables}
-use Rattle.sql_tables.specs.CrashStates.{IsSettled}
-use Rattle.sql_tables.specs.{Fault}
+use Rattle.plant_base.specs.{State, newest_schema, Position}
+use Rattle.plant_view.specs.{tables_of, IsWholeIn, RowChange}
+use Rattle.plant_view.specs.Tables.{Tables}
+use Rattle.sql_tables.specs.{KeepsOtherTables, IsSettled, Fault}
 use Rattle.sql_tables.specs.declared.fault.Fault.TheVariants as fault
-use Rattle.plant_tables.specs.DeskTableDefs.{desk_table_defs}
-use Rattle.plant_tables.specs.DeskCrashStates.{IsAtOf}
-use Rattle.plant_tables.specs.Keyed.{AreKeyed}
-use Rattle.plant_tables_read.specs.Collecting.{rows_in, rows_listed}
-use Rattle.plant_tables_read.specs.{DeskRows}
-use Rattle.plant_tables_read.specs.Version.{IsVersion}
+use Rattle.plant_tables.specs.{desk_table_defs, IsAtOf, AreKeyed}
+use Rattle.plant_tables_read.specs.{rows_in, rows_listed, DeskRows, IsVersion}
 use Rattle.plant_migrate.specs.Raised.{raised_by}
 use Rattle.plant_migrate.specs.FailureLeaves.{IsReadable, FailureLeavesAmid, HasKnownVersion, raised_to}
 use Rattle.plant_migrate.specs.Steps.{IsRisable, FailureLeavesWithin}

@@ -4,19 +4,12 @@ use Rattle.sqlite.specs.Order.{Row}
 use Rattle.sqlite.specs.Tree.{Trees}
 use Rattle.sqlite.specs.Effect.{Database}
 use Rattle.sqlite.specs.State as store
-use Rattle.plant_base.specs.State.{State}
-use Rattle.plant_base.specs.{Meta, Position}
-use Rattle.plant_view.specs.Tables.{tables_of, IsWholeIn}
-use Rattle.sql_tables.specs.StoredRows.{KeepsOtherTables}
-use Rattle.plant_tables.specs.DeskTableDefs.{desk_table_defs, meta_table}
-use Rattle.plant_tables.specs.DeskCrashStates.{IsAtOf, FindsOf}
-use Rattle.plant_tables_columns.specs.ValidValues.{HasValidValues}
-use Rattle.plant_tables_columns.specs.TableColumns.{only_meta}
-use Rattle.plant_tables_columns.specs.{BookedRow}
-use Rattle.plant_tables_read.specs.Collecting.{AreInOrder, Rows, rows_from}
-use Rattle.plant_tables_read.specs.Loading.{AreLoaded, Loads}
-use Rattle.plant_tables_read.specs.Version.{IsVersion, IsKnown}
-use Rattle.plant_tables_read.specs.{Loaded}
+use Rattle.plant_base.specs.{State, Meta, Position}
+use Rattle.plant_view.specs.{tables_of, IsWholeIn}
+use Rattle.sql_tables.specs.{KeepsOtherTables}
+use Rattle.plant_tables.specs.{desk_table_defs, meta_table, IsAtOf, FindsOf}
+use Rattle.plant_tables_columns.specs.{HasValidValues, only_meta, BookedRow}
+use Rattle.plant_tables_read.specs.{AreInOrder, Rows, rows_from, AreLoaded, Loads, IsVersion, IsKnown, Loaded}
 use Rattle.plant_migrate.specs.Raised.{edges_from}
 use Rattle.plant_migrate.specs.Steps.{IsRaisedBy}
 

@@ -1,14 +1,12 @@
 -- The changes that raise tables of a schema to the next, and what becomes of the tables.
-use Rattle.std.specs.Prelude.{◌≡◌, ℕ, zero, suc, ◌+◌, ◌==◌, List, [], Option, option_map, option_and_then, if◌then◌else◌}
-use Rattle.std.specs.List.{AllByRecursion, filter_map}
+use Rattle.std.specs.Prelude.{◌≡◌, ℕ, zero, suc, ◌+◌, ◌==◌, List, [], Option, option_map, option_and_then, if◌then◌else◌, filter_map}
+use Rattle.std.specs.List.{AllByRecursion}
 use Rattle.plant_base.specs.{EdgeRow, Position}
-use Rattle.plant_view.specs.Genealogy.{edge_row_of}
-use Rattle.plant_view.specs.Tables.{Tables, changed_all}
-use Rattle.plant_view.specs.{RowChange}
+use Rattle.plant_view.specs.{edge_row_of, changed_all, RowChange}
+use Rattle.plant_view.specs.Tables.{Tables}
 use Rattle.plant_view.specs.declared.change.RowChange.TheVariants as change
-use Rattle.plant_tables.specs.Schemas.{raising}
-use Rattle.plant_tables_columns.specs.Booked.{movement_from}
-use Rattle.plant_tables_columns.specs.{BookedRow}
+use Rattle.plant_tables.specs.{raising}
+use Rattle.plant_tables_columns.specs.{movement_from, BookedRow}
 
 -- the edge that a booked movement makes, where it makes one
 abbrev pub edge_booked : BookedRow → Option EdgeRow

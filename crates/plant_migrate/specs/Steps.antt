@@ -6,12 +6,8 @@ use Rattle.sqlite.specs.State as store
 use Rattle.plant_base.specs.{Position}
 use Rattle.plant_view.specs.Tables.{Tables}
 use Rattle.plant_view.specs.{RowChange}
-use Rattle.sql_tables.specs.StoredRows.{AreFree, KeepsOtherTables}
-use Rattle.sql_tables.specs.CrashStates.{IsSettled}
-use Rattle.plant_tables.specs.DeskTableDefs.{desk_table_defs, later_table_defs}
-use Rattle.plant_tables.specs.DeskCrashStates.{IsAtOf, FindsOf}
-use Rattle.plant_tables.specs.Keyed.{HoldsTablesOf, LacksLater, AreKeyed}
-use Rattle.plant_tables.specs.Schemas.{RaisesTables}
+use Rattle.sql_tables.specs.{AreFree, KeepsOtherTables, IsSettled}
+use Rattle.plant_tables.specs.{desk_table_defs, later_table_defs, IsAtOf, FindsOf, HoldsTablesOf, LacksLater, AreKeyed, RaisesTables}
 use Rattle.plant_migrate.specs.Raised.{added_rows, raised_by}
 
 -- The database holds these tables of a version, with keys in their order, and they have no rows of later tables.

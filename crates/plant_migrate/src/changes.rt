@@ -2,7 +2,8 @@
 
 ghost use Rattle.std.specs.Prelude.{◌≡◌, IfOk, IsOkUnless};
 ghost use Rattle.std.specs.List.{filter_map};
-ghost use Rattle.plant_migrate.specs.Raised.{edge_booked, edge_change, edges_from, added_rows, AreEdges};
+ghost use Rattle.plant_migrate.specs.Raised.{edge_booked, edge_change, edges_from, added_rows};
+ghost use Rattle.plant_migrate.specs.Raised.{AreEdges};
 
 use plant_base::{EdgeRow, MovementKind};
 use plant_tables_read::BookedRow;

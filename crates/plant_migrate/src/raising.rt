@@ -3,9 +3,11 @@
 ghost use Rattle.std.specs.Prelude.{◌≡◌, ◌≤◌, ◌<◌, false};
 ghost use Rattle.sqlite.specs.State.{HasCleanDisk, Survives};
 ghost use Rattle.sqlite.specs.Held.{state};
-ghost use Rattle.plant_base.specs.State.{newest_schema};
-ghost use Rattle.plant_migrate.specs.Calls.{FailureLeavesFound, FailureLeavesTables, Raises, RaisesFound, RaisesNoNewer};
-ghost use Rattle.plant_migrate.specs.Calls.{RaisesKnownVersion, RefusesNewer, WritesAtStore, WritesNothing, raise_fault};
+ghost use Rattle.plant_base.specs.{newest_schema};
+ghost use Rattle.plant_migrate.specs.Calls.{FailureLeavesFound, FailureLeavesTables, Raises};
+ghost use Rattle.plant_migrate.specs.Calls.{RaisesFound, RaisesNoNewer, RaisesKnownVersion};
+ghost use Rattle.plant_migrate.specs.Calls.{RefusesNewer, WritesAtStore, WritesNothing};
+ghost use Rattle.plant_migrate.specs.Calls.{raise_fault};
 ghost use Rattle.plant_migrate.specs.FailureLeaves.{IsRaisedFrom, IsRaisedTo};
 
 use crate::rows::raise_rows;

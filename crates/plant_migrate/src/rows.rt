@@ -3,7 +3,7 @@
 ghost use Rattle.std.specs.Prelude.{◌≡◌, ◌≤◌, ◌-◌, false, IfErr};
 ghost use Rattle.sqlite.specs.State.{Survives};
 ghost use Rattle.sqlite.specs.Held.{state};
-ghost use Rattle.plant_base.specs.State.{newest_schema};
+ghost use Rattle.plant_base.specs.{newest_schema};
 ghost use Rattle.plant_migrate.specs.Calls.{FailureLeavesRows, RaisesRows};
 ghost use Rattle.plant_migrate.specs.Raised.{edges_from};
 ghost use Rattle.plant_migrate.specs.Steps.{IsRaisedBy};

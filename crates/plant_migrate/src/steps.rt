@@ -3,13 +3,11 @@
 ghost use Rattle.std.specs.Prelude.{◌≡◌, ◌↔◌, ◌+◌, ◌≤◌, true, false, OnOk, OnErr, IsOkUnless};
 ghost use Rattle.sqlite.specs.State.{HasCleanDisk, Survives};
 ghost use Rattle.sqlite.specs.Held.{state};
-ghost use Rattle.plant_base.specs.State.{newest_schema};
+ghost use Rattle.plant_base.specs.{newest_schema};
 ghost use Rattle.plant_view.specs.Tables.{Tables};
-ghost use Rattle.sql_tables.specs.StoredRows.{AreFree, KeepsOtherTables};
-ghost use Rattle.sql_tables.specs.CrashStates.{IsSettled};
-ghost use Rattle.plant_tables.specs.DeskTableDefs.{desk_table_defs, later_table_defs};
-ghost use Rattle.plant_tables.specs.DeskCrashStates.{IsAtOf, FailureLeavesOf};
-ghost use Rattle.plant_tables.specs.Schemas.{IsOlder};
+ghost use Rattle.sql_tables.specs.{AreFree, KeepsOtherTables, IsSettled};
+ghost use Rattle.plant_tables.specs.{desk_table_defs, later_table_defs, IsAtOf, FailureLeavesOf};
+ghost use Rattle.plant_tables.specs.{IsOlder};
 ghost use Rattle.plant_migrate.specs.Calls.{FailureLeavesBy, RaisesBy};
 ghost use Rattle.plant_migrate.specs.Raised.{AreEdges, raised_once};
 ghost use Rattle.plant_migrate.specs.Steps.{IsRisable, IsRaisedOnce, IsRaisedBy};

@@ -1,6 +1,6 @@
 -- The words of an order file's faults.
 use Rattle.std.proofs.Common.{◌≤◌, length, arith}
-use Rattle.plant_orders.specs.Orders.{kind_name}
+use Rattle.plant_orders.specs.{kind_name}
 use Rattle.plant_orders.specs.declared.fault.CsvKind.{CsvKind}
 use Rattle.plant_orders.specs.declared.fault.CsvKind.TheVariants as kind
 

@@ -1,7 +1,7 @@
 -- The faults of fields, one field after the other.
 use Rattle.std.proofs.Common.{◌≡◌, ◌∙◌, ◌+◌, ◌<◌, ℕ, length, take, get_or, List, [], ◌∷◌, ◌++◌, ap, sym, append-nil, append_assoc}
 use Rattle.std.proofs.lemmas.List.{take_more}
-use Rattle.plant_orders.specs.EveryFault.{field_fault, field_faults}
+use Rattle.plant_orders.specs.{field_fault, field_faults}
 use Rattle.plant_orders.specs.declared.examining.RowFault.{RowFault}
 use Rattle.plant_orders.specs.declared.fault.CsvKind.{CsvKind}
 

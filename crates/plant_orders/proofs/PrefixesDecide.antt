@@ -1,17 +1,13 @@
 -- What a prefix of a text says of the text.
-use Rattle.std.proofs.Common.{◌≡◌, ℕ, ◌<◌, true, nat_lt, List, [], ◌++◌, length, take, Option, Some, None, Result, Ok, Err, OnOk, IfOk, IfErr, IfSome, refl, sym, ap, ◌∙◌, ⊎_elim, arith, subst}
-use Rattle.std.specs.Option.{option_map}
+use Rattle.std.proofs.Common.{◌≡◌, ℕ, ◌<◌, true, nat_lt, List, [], ◌++◌, length, take, Option, Some, None, Result, Ok, Err, OnOk, IfOk, IfErr, IfSome, refl, sym, ap, ◌∙◌, ⊎_elim, arith, subst, option_map, length-take-le, take_all}
 use Rattle.std.proofs.lemmas.Bool.Decides.{nat_tests}
 use Rattle.std.proofs.lemmas.Bool.{cases_lt}
-use Rattle.std.proofs.lemmas.List.{length-take-le, take_all}
-use Rattle.plant_base.specs.{OrderRow}
-use Rattle.plant_orders.specs.Orders.{fault, orders_of}
+use Rattle.plant_base.specs.{OrderRow, Agrees}
+use Rattle.plant_orders.specs.{fault, orders_of, FaultOfFile, fault_of_kind, read_count}
 use Rattle.std.specs.IoError.{error_kind}
 use Rattle.std.specs.declared.io.Error.{Error}
 use Rattle.std.specs.declared.io.ErrorKind.{ErrorKind}
 use Rattle.std.specs.declared.io.ErrorKind.TheVariants as io
-use Rattle.plant_base.specs.Inputs.{Agrees}
-use Rattle.plant_orders.specs.FaultsOfFiles.{FaultOfFile, fault_of_kind, read_count}
 use Rattle.plant_orders.specs.declared.fault.CsvFault.{CsvFault}
 use Rattle.plant_orders.specs.declared.source.OrdersFault.{OrdersFault}
 use Rattle.plant_orders.specs.declared.fault.CsvKind.TheVariants as kind

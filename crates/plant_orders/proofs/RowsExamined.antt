@@ -1,19 +1,15 @@
 -- How the faults of a file, and the orders among its rows, follow the records of its text.
-use Rattle.std.proofs.Common.{◌≡◌, ◌∙◌, ◌⊎◌, inl, inr, ⊎_elim, ℕ, suc, ◌+◌, ◌<◌, ◌≤◌, true, false, ◌==◌, nat_lt, List, [], ◌∷◌, ◌++◌, length, take, Option, Some, None, IfSome, refl, sym, subst, ap, arith, append_assoc, Result, Ok, Err, IfOk}
-use Rattle.std.specs.Option.{option_map}
+use Rattle.std.proofs.Common.{◌≡◌, ◌∙◌, ◌⊎◌, inl, inr, ⊎_elim, ℕ, suc, ◌+◌, ◌<◌, ◌≤◌, true, false, ◌==◌, nat_lt, List, [], ◌∷◌, ◌++◌, length, take, Option, Some, None, IfSome, refl, sym, subst, ap, arith, append_assoc, Result, Ok, Err, IfOk, option_map, length-take-le, take_all}
 use Rattle.std.specs.IoError.{error_kind}
 use Rattle.std.specs.declared.io.Error.{Error}
 use Rattle.std.specs.declared.io.ErrorKind.{ErrorKind}
 use Rattle.std.specs.declared.io.ErrorKind.TheVariants as io
 use Rattle.std.proofs.lemmas.Bool.{cases_lt}
-use Rattle.std.proofs.lemmas.List.{length-take-le, take_all}
 use Rattle.std.proofs.lemmas.Bool.Decides.{nat_tests}
 use Rattle.csv.specs.Reading.{default_config, records_from, strip_bom}
 use Rattle.csv.specs.declared.parser.State.TheVariants as st
-use Rattle.plant_orders.specs.Orders.{is_header}
-use Rattle.plant_orders.specs.EveryFault.{whole_fault, row_faults, row_orders, faults_from, orders_from, faults_in, orders_in, faults_of, numbered_orders_of, IsExaminedOf}
-use Rattle.plant_base.specs.Inputs.{Agrees}
-use Rattle.plant_orders.specs.FaultsOfFiles.{fault_of_kind, read_count}
+use Rattle.plant_orders.specs.{is_header, whole_fault, row_faults, row_orders, faults_from, orders_from, faults_in, orders_in, faults_of, numbered_orders_of, IsExaminedOf, fault_of_kind, read_count}
+use Rattle.plant_base.specs.{Agrees}
 use Rattle.plant_orders.specs.declared.source.OrdersFault.{OrdersFault}
 use Rattle.plant_orders.specs.declared.source.OrdersFault.TheVariants as orders
 use Rattle.plant_orders.specs.declared.examining.Examined.{Examined}

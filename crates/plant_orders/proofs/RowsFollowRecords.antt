@@ -1,10 +1,8 @@
 -- How the rows of a file follow the records of its text.
-use Rattle.std.proofs.Common.{◌≡◌, ℕ, zero, suc, ◌+◌, ◌<◌, ◌≤◌, Bool, true, false, cond, ◌==◌, nat_lt, List, [], ◌∷◌, ◌++◌, length, Option, Some, None, Result, Ok, Err, ok_or, option_and_then, refl, sym, subst, ap, ◌∙◌, arith, append_assoc}
-use Rattle.std.proofs.lemmas.List.{append-nil}
+use Rattle.std.proofs.Common.{◌≡◌, ℕ, zero, suc, ◌+◌, ◌<◌, ◌≤◌, Bool, true, false, cond, ◌==◌, nat_lt, List, [], ◌∷◌, ◌++◌, length, Option, Some, None, Result, Ok, Err, ok_or, option_and_then, refl, sym, subst, ap, ◌∙◌, arith, append_assoc, append-nil, Bor}
 use Rattle.std.proofs.lemmas.Bool.{false≢true}
 use Rattle.std.proofs.lemmas.Bool.Decides.{nat_tests}
 use Rattle.std.specs.Bool.{⊤}
-use Rattle.std.specs.Borrow.{Bor}
 use Rattle.csv.specs.Machine.{Read, next_record}
 use Rattle.csv.specs.Records.{field_at}
 use Rattle.csv.specs.Reading.{default_config, records_from, strip_bom, is_flexible, stops_reader, ExplainsRead}
@@ -13,11 +11,8 @@ use Rattle.csv.specs.declared.error.ErrorKind.TheVariants as line_error
 use Rattle.csv.specs.declared.parser.State.TheVariants as st
 use Rattle.csv.specs.declared.parser.State.{State}
 use Rattle.csv.specs.declared.reader.Reader.{Reader}
-use Rattle.plant_orders.specs.Orders.{◌>>=◌, fault, id_of, due_of, order_of, Gives, rows_of, file_of, is_header, FailsAs, orders_of}
-use Rattle.plant_base.specs.Values.{greatest_amount, greatest_version, greatest_priority}
-use Rattle.plant_orders.specs.Numbers.{bounded}
-use Rattle.plant_orders.specs.ReaderPosition.{ReaderIsAt, GaveNext}
-use Rattle.plant_base.specs.{OrderRow}
+use Rattle.plant_orders.specs.{◌>>=◌, fault, id_of, due_of, order_of, Gives, rows_of, file_of, is_header, FailsAs, orders_of, bounded, ReaderIsAt, GaveNext}
+use Rattle.plant_base.specs.{greatest_amount, greatest_version, greatest_priority, OrderRow}
 use Rattle.plant_orders.specs.declared.fault.CsvFault.{CsvFault}
 use Rattle.plant_orders.specs.declared.fault.CsvKind.{CsvKind}
 use Rattle.plant_orders.specs.declared.fault.CsvKind.TheVariants as kind

@@ -3,8 +3,7 @@ use Rattle.std.specs.Prelude.{◌≡◌, ℕ, ◌+◌, Bool, true, ◌==◌, nat
 use Rattle.csv.specs.Records.{field_at}
 use Rattle.csv.specs.Reading.{default_config, strip_bom, records_from}
 use Rattle.csv.specs.declared.parser.State.TheVariants as st
-use Rattle.plant_base.specs.Values.{greatest_amount, greatest_version, greatest_priority}
-use Rattle.plant_base.specs.{OrderRow}
+use Rattle.plant_base.specs.{greatest_amount, greatest_version, greatest_priority, OrderRow}
 use Rattle.plant_orders.specs.Numbers.{bounded}
 use Rattle.plant_orders.specs.Orders.{fault, id_of, due_of, order_of, is_header}
 use Rattle.plant_orders.specs.declared.fault.CsvKind.{CsvKind}

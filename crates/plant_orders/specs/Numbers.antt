@@ -1,6 +1,6 @@
 -- Numbers in order files.
 use Rattle.std.specs.Prelude.{ℕ, ◌&&◌, nat_le, List, Option, Some, None, option_and_then, if◌then◌else◌}
-use Rattle.plant_base.specs.Digits.{digits_of}
+use Rattle.plant_base.specs.{digits_of}
 
 abbrev pub most_digits : ℕ
 most_digits = 16

@@ -1,13 +1,10 @@
 -- What an order file says: the records of its text, the header first.
-use Rattle.std.specs.Prelude.{ℕ, ◌+◌, Bool, false, ◌&&◌, ◌==◌, nat_lt, List, [], ◌∷◌, length, codes, Option, Some, None, option_and_then, ok_or, Result, Ok, Err, if◌then◌else◌, ◌≡◌}
-use Rattle.std.specs.Str.{bytes_eq}
+use Rattle.std.specs.Prelude.{ℕ, ◌+◌, Bool, false, ◌&&◌, ◌==◌, nat_lt, List, [], ◌∷◌, length, codes, Option, Some, None, option_and_then, ok_or, Result, Ok, Err, if◌then◌else◌, ◌≡◌, bytes_eq}
 use Rattle.csv.specs.Records.{field_at}
 use Rattle.csv.specs.Reading.{default_config, strip_bom, records_from, stops_reader}
 use Rattle.csv.specs.declared.error.ErrorKind.{ErrorKind}
 use Rattle.csv.specs.declared.parser.State.TheVariants as st
-use Rattle.plant_base.specs.Values.{is_id, greatest_amount, greatest_version, greatest_priority}
-use Rattle.plant_base.specs.Dates.{is_due}
-use Rattle.plant_base.specs.{OrderRow}
+use Rattle.plant_base.specs.{is_id, greatest_amount, greatest_version, greatest_priority, is_due, OrderRow}
 use Rattle.plant_orders.specs.Numbers.{bounded}
 use Rattle.plant_orders.specs.declared.fault.CsvKind.{CsvKind}
 use Rattle.plant_orders.specs.declared.fault.CsvKind.TheVariants as kind

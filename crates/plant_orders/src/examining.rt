@@ -2,8 +2,9 @@
 ghost use Rattle.std.specs.Prelude.{◌≡◌, ◌++◌, ◌∷◌, [], ℕ, List, IfOk, OnOk};
 ghost use Rattle.csv.specs.Records.{fields_of, field_at};
 ghost use Rattle.csv.specs.declared.parser.State.TheVariants as st;
-ghost use Rattle.plant_orders.specs.EveryFault.{is_valid, place_of, text_or_none, whole_fault, field_fault, field_faults};
-ghost use Rattle.plant_orders.specs.EveryFault.{row_faults, row_orders, faults_of, numbered_orders_of};
+ghost use Rattle.plant_orders.specs.EveryFault.{is_valid, place_of, text_or_none, whole_fault};
+ghost use Rattle.plant_orders.specs.EveryFault.{field_fault, field_faults, row_faults, row_orders};
+ghost use Rattle.plant_orders.specs.EveryFault.{faults_of, numbered_orders_of};
 ghost use Rattle.plant_orders.specs.ReaderPosition.{ReaderIsAt, NextOf};
 
 use crate::fault::{CsvFault, CsvKind};

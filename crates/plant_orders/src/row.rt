@@ -1,7 +1,7 @@
 // The fields of one record.
 ghost use Rattle.std.specs.Prelude.{◌≡◌, ◌≤◌, ◌==◌, length, IfSome, option_and_then};
 ghost use Rattle.csv.specs.Records.{fields_of, field_at};
-ghost use Rattle.plant_base.specs.Values.{greatest_amount};
+ghost use Rattle.plant_base.specs.{greatest_amount};
 ghost use Rattle.plant_orders.specs.EveryFault.{is_valid};
 ghost use Rattle.plant_orders.specs.Numbers.{bounded};
 ghost use Rattle.plant_orders.specs.Orders.{id_of, due_of, field_is, is_header, order_of};

@@ -3,7 +3,7 @@ ghost use Rattle.std.specs.Prelude.{◌≡◌, ◌≢◌, ◌⊎◌, ℕ, List, 
 ghost use Rattle.std.specs.IoError.{error_kind};
 ghost use Rattle.plant_orders.specs.Orders.{orders_of};
 ghost use Rattle.plant_orders.specs.EveryFault.{IsExaminedOf};
-ghost use Rattle.plant_base.specs.Inputs.{Agrees};
+ghost use Rattle.plant_base.specs.{Agrees};
 ghost use Rattle.plant_orders.specs.FaultsOfFiles.{FaultOfFile, fault_of_kind, read_count};
 
 use crate::examining::{Examined, examine};

@@ -1,6 +1,5 @@
 -- What the fold of a batch's events does, turn by turn.
-use Rattle.std.proofs.Common.{◌≡◌, ◌∙◌, ℕ, ◌+◌, ◌<◌, ◌≤◌, Bool, true, false, cond, List, [], ◌∷◌, ◌++◌, length, drop, get_or, Option, Some, None, Result, Ok, Err, refl, ap, sym, subst, arith}
-use Rattle.std.specs.Prelude.{fold, IsErr, IfOk, IsTrue, nat_le, ◌&&◌, ◌||◌, ◌==◌, not, min}
+use Rattle.std.proofs.Common.{◌≡◌, ◌∙◌, ℕ, ◌+◌, ◌<◌, ◌≤◌, Bool, true, false, cond, List, [], ◌∷◌, ◌++◌, length, drop, get_or, Option, Some, None, Result, Ok, Err, refl, ap, sym, subst, arith, fold, IsErr, IfOk, IsTrue, nat_le, ◌&&◌, ◌||◌, ◌==◌, not, min}
 use Rattle.std.specs.Result.{result_ok, result_unwrap_or}
 use Rattle.std.proofs.lemmas.Bool.{false≢true, and_parts, not-false}
 use Rattle.std.proofs.lemmas.Bool.Decides.{nat_tests}
@@ -15,8 +14,7 @@ use Rattle.plant_base.specs.declared.states.Word.TheVariants.{Done}
 use Rattle.plant_base.specs.declared.states.Event.TheVariants.{Moved, PhaseDone, Closed}
 use Rattle.plant_base.specs.declared.refusal.Refusal.TheVariants.{PhasesLeft, NotNextPhase, BatchClosed, WrongState, TooMany, NotFinished}
 use Rattle.plant_recipe.specs.declared.progress.Progress.{Progress}
-use Rattle.plant_recipe.specs.StateTable.{Row, state_table, next_state_of}
-use Rattle.plant_recipe.specs.Progress.{greatest_attempt, greatest_phases, opening_progress, is_running, is_ended, is_done, is_reset, is_phase_left, refuse_event, moved_to, ends_with_phases_left, has_no_attempt_left, turn_to, turn_moved, turn_phase_done, turn_closed, turn, then_turn, run_of, progress_of, turn_or_stay, progress_after, IsInRange, ClosingIsFinal, StaysInRange, NeverFalls, GoesAlong}
+use Rattle.plant_recipe.specs.{Row, state_table, next_state_of, greatest_attempt, greatest_phases, opening_progress, is_running, is_ended, is_done, is_reset, is_phase_left, refuse_event, moved_to, ends_with_phases_left, has_no_attempt_left, turn_to, turn_moved, turn_phase_done, turn_closed, turn, then_turn, run_of, progress_of, turn_or_stay, progress_after, IsInRange, ClosingIsFinal, StaysInRange, NeverFalls, GoesAlong}
 use Rattle.plant_recipe.proofs.TableIsCases.{whole_table}
 
 -- ---- one more event

@@ -1,21 +1,16 @@
 -- Lines of recipes.
-use Rattle.std.proofs.Common.{◌≡◌, ◌∙◌, ℕ, ◌+◌, ◌*◌, ◌/◌, ◌<◌, ◌≤◌, Bool, true, false, cond, List, [], ◌∷◌, length, map, drop, get_or, Some, None, refl, ap, sym, subst, arith}
-use Rattle.std.proofs.Math.Nat.{div-zero, div-mul-le_self, mul-le-mul_left}
-use Rattle.std.specs.Prelude.{zero, suc, nat_le, ◌&&◌, ◌||◌, not, count_by}
+use Rattle.std.proofs.Common.{◌≡◌, ◌∙◌, ℕ, ◌+◌, ◌*◌, ◌/◌, ◌<◌, ◌≤◌, Bool, true, false, cond, List, [], ◌∷◌, length, map, drop, get_or, Some, None, refl, ap, sym, subst, arith, div-mul-le_self, mul-le-mul_left, zero, suc, nat_le, ◌&&◌, ◌||◌, not, count_by, leb-true, le-leb}
+use Rattle.std.proofs.Math.Nat.{div-zero}
 use Rattle.std.specs.List.{list_any, list_all}
-use Rattle.std.proofs.lemmas.Bool.{false≢true, leb-true, le-leb}
+use Rattle.std.proofs.lemmas.Bool.{false≢true}
 use Rattle.std.proofs.lemmas.Nat.{le-div, div-mul-add}
 use Rattle.std.proofs.lemmas.List.{at_drop_more}
 use Rattle.std.proofs.lemmas.List.Folds.{list_all_at}
 use Rattle.std.proofs.lemmas.List.Sums.{sum_by-cons}
-use Rattle.plant_base.specs.Values.{greatest_amount}
-use Rattle.plant_base.specs.State.{same}
+use Rattle.plant_base.specs.{greatest_amount, same, Header, RecipeLine}
 use Rattle.plant_base.proofs.KeyOrders.{same_id}
-use Rattle.plant_base.specs.{Header, RecipeLine}
 use Rattle.plant_base.specs.declared.rows.RecipeLine.TheVariants.{In, Out, Parameter, Phase}
-use Rattle.plant_recipe.specs.Scaling.{scaled_of, RisesWithSize, KeepsAtBase}
-use Rattle.plant_recipe.specs.WellFormed.{repeats, has_no_repeats, fits, all_fit, is_in_of, is_out_of, is_parameter_of, is_phase, has_allowed_length, has_size_range, has_phase, has_product, is_well_formed, phases_of, greatest_lines, OccursOnceIfWellFormed, HasPhasesIfWellFormed}
-use Rattle.plant_recipe.specs.Control.{is_size_of, line_scaled, scales_to_nothing, KeepsProcedure}
+use Rattle.plant_recipe.specs.{scaled_of, RisesWithSize, KeepsAtBase, repeats, has_no_repeats, fits, all_fit, is_in_of, is_out_of, is_parameter_of, is_phase, has_allowed_length, has_size_range, has_phase, has_product, is_well_formed, phases_of, greatest_lines, OccursOnceIfWellFormed, HasPhasesIfWellFormed, is_size_of, line_scaled, scales_to_nothing, KeepsProcedure}
 
 -- the line at a position repeats none of the later ones, and these repeat none among themselves
 pub no_repeats_at : (lines : List RecipeLine) (i : ℕ) (d : RecipeLine) → i < length lines → has_no_repeats (drop i lines) ≡ (not (list_any (repeats (get_or lines i d)) (drop (i + 1) lines)) && has_no_repeats (drop (i + 1) lines))

@@ -1,12 +1,11 @@
 -- The rows of the state table and its moves by cases are one.
-use Rattle.std.proofs.Common.{◌≡◌, ◌∙◌, ℕ, ◌<◌, Some, refl, ap, lit<}
-use Rattle.std.specs.Prelude.{Contains, slice_index_or}
+use Rattle.std.proofs.Common.{◌≡◌, ◌∙◌, ℕ, ◌<◌, Some, refl, ap, lit<, Contains, slice_index_or}
 use Rattle.std.specs.List.{AllByRecursion}
 use Rattle.std.proofs.lemmas.List.Elements.{All-contains, All-from_recursion}
 use Rattle.plant_base.specs.{BatchState, Word}
 use Rattle.plant_base.specs.declared.states.BatchState.TheVariants.{Idle, Running, Complete, Pausing, Paused, Holding, Held, Restarting, Stopping, Stopped, Aborting, Aborted}
 use Rattle.plant_base.specs.declared.states.Word.TheVariants.{Start, Stop, Hold, Restart, Abort, Reset, Pause, Resume, Done}
-use Rattle.plant_recipe.specs.StateTable.{Row, state_table, next_state_of, IsWholeTable}
+use Rattle.plant_recipe.specs.{Row, state_table, next_state_of, IsWholeTable}
 
 -- each row is a move
 rows_move : AllByRecursion (λ (r : Row). next_state_of r.0 r.1 ≡ Some r.2) state_table

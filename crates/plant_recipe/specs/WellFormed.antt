@@ -1,9 +1,7 @@
 -- Which recipes are well formed.
 use Rattle.std.specs.Prelude.{ℕ, ◌≤◌, IsTrue, count_by, Bool, true, false, ◌&&◌, not, nat_le, List, [], ◌∷◌, length}
 use Rattle.std.specs.List.{list_any, list_all}
-use Rattle.plant_base.specs.Values.{greatest_amount}
-use Rattle.plant_base.specs.State.{same}
-use Rattle.plant_base.specs.{Header, RecipeLine}
+use Rattle.plant_base.specs.{greatest_amount, same, Header, RecipeLine}
 use Rattle.plant_base.specs.declared.rows.RecipeLine.TheVariants.{In, Out, Parameter, Phase}
 use Rattle.plant_recipe.specs.Progress.{greatest_phases}
 use Rattle.plant_recipe.specs.Scaling.{scaled_of}

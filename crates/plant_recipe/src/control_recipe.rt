@@ -1,11 +1,12 @@
 //! Control recipes.
 ghost use Rattle.std.specs.Prelude.{◌≡◌, ◌==◌, ◌≤◌, if◌then◌else◌, IfOk, IfErr, IsTrue, Some, None};
-ghost use Rattle.plant_base.specs.Values.{greatest_amount};
+ghost use Rattle.plant_base.specs.{greatest_amount};
 ghost use Rattle.plant_recipe.specs.Scaling.{scaled_of};
 ghost use Rattle.plant_recipe.specs.WellFormed.{fits, all_fit};
-ghost use Rattle.plant_recipe.specs.Control.{is_size_of, line_scaled, scales_to_nothing, lines_scaled};
-ghost use Rattle.plant_recipe.specs.Control.{control_of, KeepsProcedure};
-ghost use Rattle.plant_recipe.specs.declared.control_recipe.RecipeFault.TheVariants.{Nothing, Memory};
+ghost use Rattle.plant_recipe.specs.Control.{is_size_of, line_scaled, scales_to_nothing};
+ghost use Rattle.plant_recipe.specs.Control.{lines_scaled, control_of, KeepsProcedure};
+ghost use Rattle.plant_recipe.specs.declared.control_recipe.RecipeFault.TheVariants.{Nothing};
+ghost use Rattle.plant_recipe.specs.declared.control_recipe.RecipeFault.TheVariants.{Memory};
 
 use crate::master::Master;
 use crate::scaling::scaled;

@@ -1,8 +1,9 @@
 //! The progress of a batch.
 ghost use Rattle.std.specs.Prelude.{◌≡◌};
-ghost use Rattle.plant_recipe.specs.Progress.{is_running, is_ended, is_done, is_reset, is_phase_left};
-ghost use Rattle.plant_recipe.specs.Progress.{opening_progress, turn_moved, turn_phase_done, turn_closed};
-ghost use Rattle.plant_recipe.specs.Progress.{turn, run_of, ClosingIsFinal, StaysInRange, NeverFalls, GoesAlong};
+ghost use Rattle.plant_recipe.specs.Progress.{is_running, is_ended, is_done, is_reset};
+ghost use Rattle.plant_recipe.specs.Progress.{is_phase_left, opening_progress, turn_moved};
+ghost use Rattle.plant_recipe.specs.Progress.{turn_phase_done, turn_closed, turn, run_of};
+ghost use Rattle.plant_recipe.specs.Progress.{ClosingIsFinal, StaysInRange, NeverFalls, GoesAlong};
 
 use crate::table::next_state;
 use plant_base::{BatchState, Event, Refusal, Word};

@@ -1,6 +1,7 @@
 //! The scaling of amounts.
 ghost use Rattle.std.specs.Prelude.{◌≡◌, ◌*◌};
-ghost use Rattle.plant_recipe.specs.Scaling.{scaled_of, IsRoundedHalfUp, RisesWithSize, KeepsAtBase};
+ghost use Rattle.plant_recipe.specs.Scaling.{scaled_of, IsRoundedHalfUp, RisesWithSize};
+ghost use Rattle.plant_recipe.specs.Scaling.{KeepsAtBase};
 
 use plant_base::Amount;
 

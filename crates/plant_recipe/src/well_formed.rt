@@ -1,9 +1,10 @@
 //! Which recipes are well formed.
 ghost use Rattle.std.specs.Prelude.{◌≡◌};
 ghost use Rattle.std.specs.List.{list_any};
-ghost use Rattle.plant_recipe.specs.WellFormed.{is_in_of, is_out_of, is_parameter_of, is_phase, phases_of};
-ghost use Rattle.plant_recipe.specs.WellFormed.{has_allowed_length, has_size_range, has_phase, has_product};
-ghost use Rattle.plant_recipe.specs.WellFormed.{repeats, has_no_repeats, fits, all_fit, is_well_formed};
+ghost use Rattle.plant_recipe.specs.WellFormed.{is_in_of, is_out_of, is_parameter_of, is_phase};
+ghost use Rattle.plant_recipe.specs.WellFormed.{phases_of, has_allowed_length, has_size_range};
+ghost use Rattle.plant_recipe.specs.WellFormed.{has_phase, has_product, repeats, has_no_repeats};
+ghost use Rattle.plant_recipe.specs.WellFormed.{fits, all_fit, is_well_formed};
 ghost use Rattle.plant_recipe.specs.WellFormed.{OccursOnceIfWellFormed, HasPhasesIfWellFormed};
 
 use crate::scaling::scaled;

@@ -3,7 +3,7 @@ use Rattle.std.proofs.Common.{◌≡◌, ℕ, zero, suc, ◌-◌, ◌^◌, false
 use Rattle.std.specs.List.{repeat}
 use Rattle.std.specs.Fmt.{padded_integral, format_spec, char_count}
 use lib.Utf8.{encode}
-use Rattle.plant_record.specs.Record.{right_in}
+use Rattle.plant_record.specs.{right_in}
 
 blanks : (n : ℕ) → repeat {A = ℕ} n (32 ∷ []) ≡ replicate n 32
 blanks zero = refl

@@ -1,14 +1,10 @@
 -- The batch record as a text: its sections, and what each line has.
-use Rattle.std.specs.Prelude.{ℕ, ◌-◌, ◌==◌, Bool, true, false, if◌then◌else◌, List, [], ◌∷◌, ◌++◌, length, replicate, codes, decimal, Option, Some, None}
-use Rattle.std.specs.List.{flat_map}
-use Rattle.plant_base.specs.Words.{job_state_name, batch_state_name, word_name}
-use Rattle.plant_base.specs.{Batch, BatchEvent, Event, Header, Job, OrderRow, RecipeLine}
+use Rattle.std.specs.Prelude.{ℕ, ◌-◌, ◌==◌, Bool, true, false, if◌then◌else◌, List, [], ◌∷◌, ◌++◌, length, replicate, codes, decimal, Option, Some, None, flat_map}
+use Rattle.plant_base.specs.{job_state_name, batch_state_name, word_name, Batch, BatchEvent, Event, Header, Job, OrderRow, RecipeLine}
 use Rattle.plant_base.specs.declared.rows.RecipeLine.TheVariants as recipe_line
 use Rattle.plant_base.specs.declared.states.Event.TheVariants as event
 use Rattle.plant_recipe.specs.declared.progress.Progress.{Progress}
-use Rattle.plant_messages.specs.Booked.{booked_of}
-use Rattle.plant_messages.specs.Phases.{phases_in}
-use Rattle.plant_messages.specs.{BatchView, Booking, MeasuredLine}
+use Rattle.plant_messages.specs.{booked_of, phases_in, BatchView, Booking, MeasuredLine}
 
 -- ---- lines and their items
 

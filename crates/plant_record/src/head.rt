@@ -2,7 +2,7 @@
 ghost use Rattle.std.specs.Prelude.{◌≡◌, Some};
 ghost use Rattle.plant_record.specs.Record.{batch_text, head_text, open_or_closed, order_text};
 ghost use Rattle.plant_record.specs.Record.{recipe_text, released_text, state_text};
-ghost use Rattle.plant_messages.specs.Phases.{phases_in};
+ghost use Rattle.plant_messages.specs.{phases_in};
 
 use crate::items::AtBy;
 use plant_base::{Batch, Header, Job, OrderRow};

@@ -1,7 +1,7 @@
 //! The totals of the record: what was asked for, and what was booked.
 ghost use Rattle.std.specs.Prelude.{◌≡◌, Some};
-ghost use Rattle.plant_record.specs.Record.{asked_and_booked, input_total};
-ghost use Rattle.plant_record.specs.Record.{output_total, totals_text};
+ghost use Rattle.plant_record.specs.Record.{asked_and_booked, input_total, output_total};
+ghost use Rattle.plant_record.specs.Record.{totals_text};
 
 use plant_base::{Amount, DisplayItem, Id, Joined, RecipeLine};
 use plant_messages::{BatchView, Booking, MeasuredLine, booked_of};

@@ -2,15 +2,12 @@
 use Rattle.std.proofs.Common.{◌≡◌, ◌∙◌, ◌<◌, Bool, true, false, List, [], ◌∷◌, Option, None, Result, Ok, Err, is_some, is_none, refl, sym, ap, arith}
 use Rattle.std.proofs.lemmas.Bool.{false≢true}
 use Rattle.std.proofs.lemmas.Bool.Decides.{nat_tests}
-use Rattle.plant_base.specs.Values.{greatest_seq}
-use Rattle.plant_base.specs.State.{State, lot_at, place_at}
-use Rattle.plant_base.specs.{Command, Part, Refusal}
+use Rattle.plant_base.specs.{greatest_seq, State, lot_at, place_at, Command, Part, Refusal}
 use Rattle.plant_base.specs.declared.command.Command.TheVariants as body
 use Rattle.plant_recipe.specs.declared.progress.Progress.{Progress}
-use Rattle.plant_view.specs.Refusals.{refuse, at_limit}
-use Rattle.plant_rules_production.specs.Batches.{refuse_turn}
-use Rattle.plant_rules.specs.Merging.{wrong_parts}
-use Rattle.plant_rules.specs.Wrong.{wrong_body}
+use Rattle.plant_view.specs.{refuse, at_limit}
+use Rattle.plant_rules_production.specs.{refuse_turn}
+use Rattle.plant_rules.specs.{wrong_parts, wrong_body}
 
 -- ---- conditions
 

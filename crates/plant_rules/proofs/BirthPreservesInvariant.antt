@@ -1,20 +1,15 @@
 -- A new lot keeps a state consistent.
-use Rattle.std.proofs.Common.{◌≡◌, ◌∙◌, ℕ, ◌+◌, ◌≤◌, ◌++◌, ◌∷◌, [], cond, true, false, List, Some, is_some, refl, sym, subst, ap, arith}
-use Rattle.std.specs.Prelude.{◌==◌, ◌&&◌}
+use Rattle.std.proofs.Common.{◌≡◌, ◌∙◌, ℕ, ◌+◌, ◌≤◌, ◌++◌, ◌∷◌, [], cond, true, false, List, Some, is_some, refl, sym, subst, ap, arith, ◌==◌, ◌&&◌}
 use Rattle.std.specs.List.{AllByRecursion}
-use Rattle.plant_base.specs.Values.{greatest_amount, greatest_sublot}
-use Rattle.plant_base.specs.State.{State, same, put, lot_order, place_order, definition_at, batch_at, lot_at}
-use Rattle.plant_base.specs.{Hold, Lot, Movement, MovementKind, Place, Produce, Receive, Stamp}
+use Rattle.plant_base.specs.{greatest_amount, greatest_sublot, State, same, put, lot_order, place_order, definition_at, batch_at, lot_at, Hold, Lot, Movement, MovementKind, Place, Produce, Receive, Stamp}
 use Rattle.plant_base.specs.declared.rows.MovementKind.TheVariants.{Received, Produced}
 use Rattle.plant_base.proofs.PutKeepsOrder.{all_put, all_weaker, sorted_put, found_put}
 use Rattle.plant_base.proofs.KeyOrders.{same_itself, key_itself, lot_order_total, place_order_total}
-use Rattle.plant_stock.specs.Stock.{entered, left, goes_to, comes_from, is_sublot_key, entering, leaving}
+use Rattle.plant_stock.specs.{entered, left, goes_to, comes_from, is_sublot_key, entering, leaving}
 use Rattle.plant_stock.proofs.StockAfterMovement.{entered_push, left_push}
-use Rattle.plant_rules.specs.Booking.{line_of}
-use Rattle.plant_rules.specs.Receipt.{born_as, receive}
-use Rattle.plant_rules.specs.Consumption.{produce}
-use Rattle.plant_view.specs.Genealogy.{IsConsistentGenealogy}
-use Rattle.plant_view.specs.DecisionInvariant.{DecisionInvariant, IsThere, IsOneMaterial}
+use Rattle.plant_rules.specs.{line_of, born_as, receive, produce}
+use Rattle.plant_view.specs.{IsConsistentGenealogy, IsThere, IsOneMaterial}
+use Rattle.plant_view.specs.DecisionInvariant.{DecisionInvariant}
 use Rattle.plant_view.proofs.GenealogyAfterMovement.{descent_grows, descent_stays, keeps_into_new}
 use Rattle.plant_view.proofs.CommandsPreserveInvariant.{all_two, lot_stays, of_stays, there_still, entering_small}
 use Rattle.plant_view.proofs.RowsInTurn.{all_append}

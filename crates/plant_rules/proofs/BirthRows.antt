@@ -1,23 +1,15 @@
 -- The rows of a new lot make the tables of the next state.
 use Rattle.std.proofs.Common.{◌≡◌, ◌∙◌, ℕ, ◌+◌, ◌-◌, false, cond, List, Some, None, [], ◌∷◌, ◌++◌, map, is_some, refl, sym, ap, arith}
-use Rattle.plant_base.specs.State.{State, put, newest_schema, place_order, lot_at}
-use Rattle.plant_base.specs.{Mark, Movement, MovementKind, Place, Produce, Recall, Stamp}
+use Rattle.plant_base.specs.{State, put, newest_schema, place_order, lot_at, Mark, Movement, MovementKind, Place, Produce, Recall, Stamp, mark_order}
 use Rattle.plant_base.specs.declared.rows.MovementKind.TheVariants.{Received, Produced}
 use Rattle.plant_base.proofs.KeyOrders.{key_itself}
-use Rattle.plant_stock.specs.Stock.{goes_to, comes_from, is_sublot_key, entered, left, entering, leaving}
+use Rattle.plant_stock.specs.{goes_to, comes_from, is_sublot_key, entered, left, entering, leaving}
 use Rattle.plant_stock.proofs.StockAfterMovement.{entered_push, left_push}
 use Rattle.plant_view.specs.declared.change.RowChange.TheVariants as row
-use Rattle.plant_rules.specs.Booking.{line_of, edge_change}
-use Rattle.plant_rules.specs.Receipt.{born_as}
+use Rattle.plant_rules.specs.{line_of, edge_change, born_as, lot_marks, produced_rows, produce}
 use Rattle.plant_view.specs.DecisionInvariant.{DecisionInvariant}
-use Rattle.plant_view.specs.Tables.{sublot_order, sublot_row, tables_of, changed_all}
-use Rattle.plant_base.specs.Recalls.{mark_order}
+use Rattle.plant_view.specs.{sublot_order, sublot_row, tables_of, changed_all, edges_of, mark_on, marks, marks_on, recalls_on, put_all, RowChange}
 use Rattle.plant_trace.specs.declared.node.Node.TheVariants as node
-use Rattle.plant_view.specs.Genealogy.{edges_of}
-use Rattle.plant_view.specs.Recalls.{mark_on, marks, marks_on, recalls_on}
-use Rattle.plant_view.specs.Rows.{put_all}
-use Rattle.plant_view.specs.{RowChange}
-use Rattle.plant_rules.specs.Consumption.{lot_marks, produced_rows, produce}
 use Rattle.plant_view.proofs.EdgeRowOrder.{edges_pushed}
 use Rattle.plant_view.proofs.MarksAfterMovement.{marks_plain, marks_made, marks_changed}
 use Rattle.plant_rules.proofs.EdgeRowChanges.{edge_changed, changed_append}

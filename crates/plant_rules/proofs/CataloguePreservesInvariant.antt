@@ -2,12 +2,11 @@
 use Rattle.std.proofs.Common.{◌≡◌, ℕ, List, find, is_some, true}
 use Rattle.std.specs.List.{AllByRecursion}
 use Rattle.std.specs.List.Sorted.{IsStrictlySortedBy}
-use Rattle.plant_base.specs.State.{State, same, class_order, definition_order, class_at}
-use Rattle.plant_base.specs.{AddClass, AddDefinition, Class, Definition, Lot, Stamp}
+use Rattle.plant_base.specs.{State, same, class_order, definition_order, class_at, AddClass, AddDefinition, Class, Definition, Lot, Stamp}
 use Rattle.plant_base.proofs.PutKeepsOrder.{all_put, all_weaker, sorted_put}
 use Rattle.plant_base.proofs.KeyOrders.{id_total, id_still}
-use Rattle.plant_rules.specs.Catalogue.{add_class, add_definition}
-use Rattle.plant_view.specs.Production.{is_defined, AreConsistentRecipes}
+use Rattle.plant_rules.specs.{add_class, add_definition}
+use Rattle.plant_view.specs.{is_defined, AreConsistentRecipes}
 use Rattle.plant_view.specs.DecisionInvariant.{DecisionInvariant}
 use Rattle.plant_rules_production.proofs.RecipesPreserved.{recipes_defined}
 

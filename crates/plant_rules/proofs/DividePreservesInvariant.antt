@@ -1,16 +1,12 @@
 -- A division keeps a state consistent.
-use Rattle.std.proofs.Common.{◌≡◌, ◌≤◌, true, Some, is_some, refl, arith}
-use Rattle.std.specs.Prelude.{◌==◌, ◌&&◌}
-use Rattle.plant_base.specs.Values.{greatest_amount, greatest_sublot}
-use Rattle.plant_base.specs.State.{State, same, place_order, lot_at, place_at}
-use Rattle.plant_base.specs.{Divide, Movement, Place, Stamp}
+use Rattle.std.proofs.Common.{◌≡◌, ◌≤◌, true, Some, is_some, refl, arith, ◌==◌, ◌&&◌}
+use Rattle.plant_base.specs.{greatest_amount, greatest_sublot, State, same, place_order, lot_at, place_at, Divide, Movement, Place, Stamp}
 use Rattle.plant_base.specs.declared.rows.MovementKind.TheVariants.{Divided}
 use Rattle.plant_base.proofs.PutKeepsOrder.{all_put, all_push, all_weaker, sorted_put, found_put}
 use Rattle.plant_base.proofs.KeyOrders.{key_itself, place_order_total}
 use Rattle.plant_stock.proofs.StockAfterMovement.{entered_push, left_push}
-use Rattle.plant_rules.specs.Booking.{line_of}
-use Rattle.plant_view.specs.Refusals.{sublot_standing}
-use Rattle.plant_rules.specs.Division.{next_number, divide}
+use Rattle.plant_rules.specs.{line_of, next_number, divide}
+use Rattle.plant_view.specs.{sublot_standing}
 use Rattle.plant_view.specs.DecisionInvariant.{DecisionInvariant}
 use Rattle.plant_view.proofs.GenealogyAfterMovement.{descent_stays}
 use Rattle.plant_view.proofs.CommandsPreserveInvariant.{there_still, entering_new, taking_covered}

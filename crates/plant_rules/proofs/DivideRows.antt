@@ -1,21 +1,16 @@
 -- The rows of a division make the tables of the next state.
-use Rattle.std.proofs.Common.{sym, ◌≡◌, ◌∙◌, ℕ, ◌-◌, false, cond, List, [], ◌∷◌, ◌++◌, map, is_some, Some, None, refl, ap, arith}
-use Rattle.std.specs.Prelude.{◌==◌, ◌&&◌}
+use Rattle.std.proofs.Common.{sym, ◌≡◌, ◌∙◌, ℕ, ◌-◌, false, cond, List, [], ◌∷◌, ◌++◌, map, is_some, Some, None, refl, ap, arith, ◌==◌, ◌&&◌}
 use Rattle.std.specs.List.{AllByRecursion}
-use Rattle.plant_base.specs.State.{State, same, put, newest_schema, place_order, place_at}
-use Rattle.plant_base.specs.{Divide, Movement, MovementKind, Place, Stamp, Sublot}
+use Rattle.plant_base.specs.{State, same, put, newest_schema, place_order, place_at, Divide, Movement, MovementKind, Place, Stamp, Sublot}
 use Rattle.plant_base.specs.declared.rows.MovementKind.TheVariants.{Divided}
 use Rattle.plant_base.proofs.KeyOrders.{key_itself, place_order_total, test_tie}
 use Rattle.plant_base.proofs.PutKeepsOrder.{all_weaker, put_there}
 use Rattle.plant_base.proofs.FindIsFirst.{found_keeps}
-use Rattle.plant_stock.specs.Stock.{entered, left, goes_to, comes_from, entering, leaving, is_sublot_key}
+use Rattle.plant_stock.specs.{entered, left, goes_to, comes_from, entering, leaving, is_sublot_key}
 use Rattle.plant_stock.proofs.StockAfterMovement.{entered_push, left_push}
-use Rattle.plant_rules.specs.Booking.{line_of}
-use Rattle.plant_view.specs.Refusals.{sublot_standing}
-use Rattle.plant_rules.specs.Division.{next_number, divide, divide_rows}
-use Rattle.plant_view.specs.Views.{IsSublotAt}
+use Rattle.plant_rules.specs.{line_of, next_number, divide, divide_rows}
+use Rattle.plant_view.specs.{sublot_standing, IsSublotAt, sublot_order, sublot_row, tables_of, changed_all}
 use Rattle.plant_view.specs.DecisionInvariant.{DecisionInvariant}
-use Rattle.plant_view.specs.Tables.{sublot_order, sublot_row, tables_of, changed_all}
 use Rattle.plant_view.proofs.EdgeRowOrder.{edges_pushed}
 use Rattle.plant_view.proofs.MarksAfterMovement.{marks_plain}
 use Rattle.plant_view.proofs.StockColumn.{sublots_taken, sublots_added, apart_fails, nothing_entered, nothing_left}

@@ -1,11 +1,10 @@
 -- What the addition of a movement's edge makes of the tables.
 use Rattle.std.proofs.Common.{◌≡◌, List, [], ◌∷◌, ◌++◌, Option, Some, None, refl}
 use Rattle.plant_base.specs.{EdgeRow, Movement}
-use Rattle.plant_view.specs.Genealogy.{edge_row_of}
-use Rattle.plant_view.specs.Tables.{Tables, changed, changed_all}
-use Rattle.plant_view.specs.{RowChange}
+use Rattle.plant_view.specs.{edge_row_of, changed, changed_all, RowChange}
+use Rattle.plant_view.specs.Tables.{Tables}
 use Rattle.plant_view.proofs.EdgeRowOrder.{with_edge}
-use Rattle.plant_rules.specs.Booking.{edge_changes, edge_change}
+use Rattle.plant_rules.specs.{edge_changes, edge_change}
 
 pub edge_changed : (m : Movement) (t : Tables) → changed_all (edge_change m) t ≡ record t { edges = with_edge (edge_row_of m) t.edges }
 edge_changed m t = by (edge_row_of m)

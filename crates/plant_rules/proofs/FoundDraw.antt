@@ -1,12 +1,10 @@
 -- What a look-up of a batch finds.
-use Rattle.std.proofs.Common.{◌≡◌, ℕ, List, Option, Some, None, is_some, sym, ap}
-use Rattle.std.specs.Prelude.{option_map}
-use Rattle.plant_base.specs.State.{State, batch_at}
-use Rattle.plant_base.specs.{Batch}
+use Rattle.std.proofs.Common.{◌≡◌, ℕ, List, Option, Some, None, is_some, sym, ap, option_map}
+use Rattle.plant_base.specs.{State, batch_at, Batch}
 use Rattle.plant_base.proofs.FindIsFirst.{found_passes}
 use Rattle.plant_base.proofs.KeyOrders.{same_id}
-use Rattle.plant_view.specs.Tables.{batch_row, progress_at}
-use Rattle.plant_rules.specs.Consumption.{IsBatchOf}
+use Rattle.plant_view.specs.{batch_row, progress_at}
+use Rattle.plant_rules.specs.{IsBatchOf}
 
 pub batch_found : (s : State) (id : List ℕ) (o : Option Batch) → batch_at s id ≡ o → IsBatchOf s id (option_map (batch_row s.control_lines s.events) o)
 batch_found s id None e = (ap is_some (sym e), tt)

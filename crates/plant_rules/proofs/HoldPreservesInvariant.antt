@@ -1,15 +1,13 @@
 -- A hold, and one that is taken away, keep a state consistent.
-use Rattle.std.proofs.Common.{◌≡◌, ℕ, true, List, is_some}
+use Rattle.std.proofs.Common.{◌≡◌, ℕ, true, List, is_some, not, ◌&&◌}
 use Rattle.std.specs.List.{AllByRecursion}
 use Rattle.std.specs.List.Sorted.{IsStrictlySortedBy}
 use Rattle.std.specs.Cmp.{IsTotalOrder}
-use Rattle.std.specs.Prelude.{not, ◌&&◌}
 use Rattle.std.proofs.lemmas.Cmp.{then_total, on_total, nat_list_cmp_total}
 use Rattle.std.proofs.lemmas.List.Kept.{IsStrictlySortedBy-filter}
-use Rattle.plant_base.specs.State.{State, same, hold_order, recall_order, lot_at}
-use Rattle.plant_base.specs.{Hold, HoldLot, Recall, Receipt, Stamp, UnholdLot}
+use Rattle.plant_base.specs.{State, same, hold_order, recall_order, lot_at, Hold, HoldLot, Recall, Receipt, Stamp, UnholdLot}
 use Rattle.plant_base.proofs.PutKeepsOrder.{all_put, sorted_put}
-use Rattle.plant_rules.specs.Holding.{hold, unhold}
+use Rattle.plant_rules.specs.{hold, unhold}
 use Rattle.plant_view.specs.DecisionInvariant.{DecisionInvariant}
 use Rattle.plant_view.proofs.RowsInTurn.{all_filtered}
 

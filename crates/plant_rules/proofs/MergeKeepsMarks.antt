@@ -2,13 +2,11 @@
 use Rattle.std.proofs.Common.{◌≡◌, ℕ, ◌+◌, false, List, [], ◌∷◌, ◌++◌}
 use Rattle.std.specs.List.{AllByRecursion}
 use Rattle.std.proofs.lemmas.Bool.{or_parts}
-use Rattle.plant_base.specs.State.{State}
-use Rattle.plant_base.specs.{Part, Recall, Stamp}
+use Rattle.plant_base.specs.{State, Part, Recall, Stamp}
 use Rattle.plant_trace.specs.declared.node.Node.TheVariants as node
-use Rattle.plant_view.specs.Genealogy.{edges_of, edges_among}
-use Rattle.plant_view.specs.Recalls.{marks, is_blocked}
+use Rattle.plant_view.specs.{edges_of, edges_among, marks, is_blocked}
 use Rattle.plant_view.proofs.MarksAfterMovement.{Misses, Avoids, unblocked, marks_stay}
-use Rattle.plant_rules.specs.Merging.{part_lines, is_some_blocked}
+use Rattle.plant_rules.specs.{part_lines, is_some_blocked}
 
 module _ (s : State) (seq : ℕ) (t : Stamp) (new : List ℕ) where
   part_misses : (ps : List Part) → is_some_blocked s ps ≡ false → AllByRecursion (λ p. AllByRecursion (Misses (edges_of s) (node.Lot p.lot)) s.recalls) ps

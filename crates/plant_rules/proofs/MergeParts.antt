@@ -1,21 +1,17 @@
 -- The parts of a merge: that they name different sublots, and what was found of them.
-use Rattle.std.proofs.Common.{◌≡◌, ◌∙◌, ℕ, ◌+◌, ◌≤◌, ◌<◌, true, false, List, [], ◌∷◌, ◌++◌, length, map, take, drop, get_or, Option, Some, None, is_some, is_none, refl, sym, ap, arith}
-use Rattle.std.specs.Prelude.{◌&&◌, nat_le}
+use Rattle.std.proofs.Common.{◌≡◌, ◌∙◌, ℕ, ◌+◌, ◌≤◌, ◌<◌, true, false, List, [], ◌∷◌, ◌++◌, length, map, take, drop, get_or, Option, Some, None, is_some, is_none, refl, sym, ap, arith, ◌&&◌, nat_le}
 use Rattle.std.specs.List.{AllByRecursion, list_all}
 use Rattle.std.proofs.lemmas.List.{drop_more, take_more, map-append}
 use Rattle.std.proofs.lemmas.Bool.{false≢true}
 use Rattle.std.proofs.lemmas.Bool.Decides.{nat_tests}
-use Rattle.plant_base.specs.State.{State, lot_at, place_at}
-use Rattle.plant_base.specs.WellFormedCommands.{is_same_sublot, has_sublot, are_apart, are_parts}
-use Rattle.plant_base.specs.{Movement, Part, Place, Refusal}
+use Rattle.plant_base.specs.{State, lot_at, place_at, is_same_sublot, has_sublot, are_apart, are_parts, Movement, Part, Place, Refusal}
 use Rattle.plant_base.specs.declared.refusal.Refusal.TheVariants.{UnknownLot, UnknownSublot}
 use Rattle.plant_base.proofs.FindIsFirst.{found_passes}
 use Rattle.plant_base.proofs.KeyOrders.{same_key}
-use Rattle.plant_stock.specs.Stock.{entered, left}
-use Rattle.plant_view.specs.Refusals.{refuse}
-use Rattle.plant_rules.specs.Merging.{wrong_parts}
+use Rattle.plant_stock.specs.{entered, left}
+use Rattle.plant_view.specs.{refuse}
+use Rattle.plant_rules.specs.{wrong_parts, text_of, found_of, wrong_part}
 use Rattle.plant_rules.specs.declared.parts.Found.{Found}
-use Rattle.plant_rules.specs.Parts.{text_of, found_of, wrong_part}
 use Rattle.plant_view.proofs.CommandsPreserveInvariant.{passed, is_there}
 use Rattle.plant_view.proofs.TestsAndSums.{and_left, and_right, not_true, each_fails}
 

@@ -1,24 +1,17 @@
 -- A merge keeps a state consistent.
-use Rattle.std.proofs.Common.{◌≡◌, ◌∙◌, ℕ, ◌+◌, ◌-◌, ◌≤◌, Bool, true, false, cond, List, [], ◌∷◌, ◌++◌, Option, Some, None, length, is_some, refl, sym, ap, append_assoc, arith}
-use Rattle.std.specs.Prelude.{◌==◌, ◌&&◌, not}
+use Rattle.std.proofs.Common.{◌≡◌, ◌∙◌, ℕ, ◌+◌, ◌-◌, ◌≤◌, Bool, true, false, cond, List, [], ◌∷◌, ◌++◌, Option, Some, None, length, is_some, refl, sym, ap, append_assoc, arith, ◌==◌, ◌&&◌, not, append-nil}
 use Rattle.std.specs.List.{AllByRecursion}
-use Rattle.std.proofs.lemmas.List.{append-nil}
 use Rattle.std.proofs.lemmas.List.Sums.{sum_by-cons}
 use Rattle.std.proofs.lemmas.Bool.{false≢true}
-use Rattle.plant_base.specs.Values.{greatest_amount}
-use Rattle.plant_base.specs.State.{State, same, lot_order, definition_at, lot_at, place_at}
-use Rattle.plant_base.specs.{Lot, Merge, Movement, Part, Place, Stamp}
+use Rattle.plant_base.specs.{greatest_amount, State, same, lot_order, definition_at, lot_at, place_at, Lot, Merge, Movement, Part, Place, Stamp}
 use Rattle.plant_base.proofs.PutKeepsOrder.{all_weaker, found_new}
 use Rattle.plant_base.proofs.KeyOrders.{same_id, same_key, same_itself}
-use Rattle.plant_stock.specs.Stock.{entered, left, leaving, goes_to, comes_from, total_of}
+use Rattle.plant_stock.specs.{entered, left, leaving, goes_to, comes_from, total_of}
 use Rattle.plant_stock.proofs.StockAfterMovement.{entered_push, left_push}
-use Rattle.plant_view.specs.Refusals.{sublot_standing}
-use Rattle.plant_view.specs.Conservation.{is_of_lot}
-use Rattle.plant_rules.specs.Splitting.{def_of}
-use Rattle.plant_rules.specs.Merging.{part_line, part_lines, def_at, def_of_parts, is_mixed, merge}
-use Rattle.plant_view.specs.DecisionInvariant.{DecisionInvariant, IsThere, IsOneMaterial}
+use Rattle.plant_view.specs.{sublot_standing, is_of_lot, IsThere, IsOneMaterial, edge_of, batch_by, IsBatchThere}
+use Rattle.plant_rules.specs.{def_of, part_line, part_lines, def_at, def_of_parts, is_mixed, merge}
+use Rattle.plant_view.specs.DecisionInvariant.{DecisionInvariant}
 use Rattle.plant_trace.specs.declared.node.Node.TheVariants as node
-use Rattle.plant_view.specs.Genealogy.{edge_of, batch_by, IsBatchThere}
 use Rattle.plant_view.proofs.GenealogyAfterMovement.{EdgeHas, descent_grows, keeps_into_new}
 use Rattle.plant_view.proofs.CommandsPreserveInvariant.{all_two, lot_stays, there_still}
 use Rattle.plant_rules.proofs.BirthPreservesInvariant.{first_there, consistent_with_lot}

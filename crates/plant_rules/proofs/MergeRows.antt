@@ -1,24 +1,18 @@
 -- The rows of a merge make the tables of the next state, part by part.
-use Rattle.std.proofs.Common.{◌≡◌, ◌∙◌, ℕ, ◌+◌, ◌-◌, true, false, cond, List, [], ◌∷◌, ◌++◌, map, is_some, refl, sym, ap, append_assoc, arith}
-use Rattle.std.specs.Prelude.{◌==◌, ◌&&◌, sum_by}
+use Rattle.std.proofs.Common.{◌≡◌, ◌∙◌, ℕ, ◌+◌, ◌-◌, true, false, cond, List, [], ◌∷◌, ◌++◌, map, is_some, refl, sym, ap, append_assoc, arith, ◌==◌, ◌&&◌, sum_by, append-nil}
 use Rattle.std.specs.List.{AllByRecursion}
 use Rattle.std.proofs.lemmas.List.Sums.{sum_by-cons}
-use Rattle.std.proofs.lemmas.List.{append-nil}
-use Rattle.plant_base.specs.State.{State, same, put, newest_schema, lot_order, place_order, lot_at, place_at}
-use Rattle.plant_base.specs.{Merge, Movement, Part, Place, Stamp}
+use Rattle.plant_base.specs.{State, same, put, newest_schema, lot_order, place_order, lot_at, place_at, Merge, Movement, Part, Place, Stamp}
 use Rattle.plant_base.proofs.PutKeepsOrder.{put_there, all_weaker}
 use Rattle.plant_base.proofs.KeyOrders.{key_itself, place_order_total, test_tie}
-use Rattle.plant_stock.specs.Stock.{entered, left, entering, leaving, total_of}
+use Rattle.plant_stock.specs.{entered, left, entering, leaving, total_of}
 use Rattle.plant_stock.proofs.StockAfterMovement.{entered_push, left_push}
-use Rattle.plant_view.specs.Refusals.{sublot_standing}
+use Rattle.plant_view.specs.{sublot_standing, tables_of, changed, changed_all, sublot_order, sublot_row, edge_rows}
 use Rattle.plant_view.specs.DecisionInvariant.{DecisionInvariant}
-use Rattle.plant_view.specs.Tables.{Tables, tables_of, changed, changed_all, sublot_order, sublot_row}
+use Rattle.plant_view.specs.Tables.{Tables}
 use Rattle.plant_view.specs.declared.change.RowChange.TheVariants as row
-use Rattle.plant_rules.specs.Merging.{part_line, part_lines, def_of_parts, merge}
-use Rattle.plant_rules.specs.Parts.{text_of, found_of, found_rows, total_found, def_found, merge_rows}
+use Rattle.plant_rules.specs.{part_line, part_lines, def_of_parts, merge, text_of, found_of, found_rows, total_found, def_found, merge_rows, is_some_blocked}
 use Rattle.plant_view.proofs.CommandsPreserveInvariant.{all_two}
-use Rattle.plant_view.specs.Genealogy.{edge_rows}
-use Rattle.plant_rules.specs.Merging.{is_some_blocked}
 use Rattle.plant_rules.proofs.MergeKeepsMarks.{marks_merged}
 use Rattle.plant_view.proofs.EdgeRowOrder.{edges_pushed}
 use Rattle.plant_view.proofs.StockColumn.{sublots_taken, sublots_added, not_among, apart_fails, lots_apart, no_place, nothing_entered, nothing_left}

@@ -1,16 +1,13 @@
 -- The number of a lot's next sublot, and that it isn't taken.
-use Rattle.std.proofs.Common.{◌≡◌, ◌∙◌, ℕ, ◌<◌, true, false, cond, List, [], ◌∷◌, map, filter, find, is_some, Some, None, refl, sym, ap, arith, max}
-use Rattle.std.specs.Prelude.{◌==◌, ◌&&◌}
+use Rattle.std.proofs.Common.{◌≡◌, ◌∙◌, ℕ, ◌<◌, true, false, cond, List, [], ◌∷◌, map, filter, find, is_some, Some, None, refl, sym, ap, arith, max, ◌==◌, ◌&&◌, ne_eqb}
 use Rattle.std.specs.List.{AllByRecursion}
 use Rattle.std.proofs.Math.Nat.{le-max_left, le-max_right}
-use Rattle.std.proofs.lemmas.Bool.{ne_eqb}
-use Rattle.plant_base.specs.State.{State, same, place_at}
-use Rattle.plant_base.specs.{Movement, Place, Sublot}
+use Rattle.plant_base.specs.{State, same, place_at, Movement, Place, Sublot}
 use Rattle.plant_base.proofs.PutKeepsOrder.{all_weaker}
 use Rattle.plant_base.proofs.KeyOrders.{same_key_tie, test_tie}
-use Rattle.plant_stock.specs.Stock.{is_sublot_key}
-use Rattle.plant_rules.specs.Division.{greatest, next_number}
-use Rattle.plant_view.specs.Tables.{sublot_row}
+use Rattle.plant_stock.specs.{is_sublot_key}
+use Rattle.plant_rules.specs.{greatest, next_number}
+use Rattle.plant_view.specs.{sublot_row}
 use Rattle.plant_view.proofs.RowsInTurn.{none_passes}
 
 -- ---- the greatest number

@@ -1,18 +1,13 @@
 -- The rows of a recall, and of one that is lifted, make the tables of the next state.
 use Rattle.std.proofs.Common.{◌≡◌, ◌∙◌, false, List, map, Option, Some, is_some, refl, sym, ap}
-use Rattle.plant_base.specs.State.{State, newest_schema, same, recall_at}
-use Rattle.plant_base.specs.{LiftRecall, Recall, RecallLot, Stamp}
-use Rattle.plant_trace.specs.Reach.{Lists}
-use Rattle.plant_trace.specs.Recalls.{IsRecalled}
-use Rattle.plant_trace.specs.{Node}
-use Rattle.plant_view.specs.Genealogy.{edges_of}
-use Rattle.plant_view.specs.Recalls.{mark_on, marks}
+use Rattle.plant_base.specs.{State, newest_schema, same, recall_at, LiftRecall, Recall, RecallLot, Stamp}
+use Rattle.plant_trace.specs.{Lists, IsRecalled, Node}
+use Rattle.plant_view.specs.{edges_of, mark_on, marks, tables_of, changed_all}
 use Rattle.plant_view.specs.DecisionInvariant.{DecisionInvariant}
-use Rattle.plant_view.specs.Tables.{tables_of, changed_all}
 use Rattle.plant_view.proofs.MarkChanges.{come_with_recall, go_with_lift}
 use Rattle.plant_view.proofs.MarksAfterMovement.{marks_changed}
 use Rattle.plant_view.proofs.RowsInTurn.{none_passes}
-use Rattle.plant_rules.specs.Recalling.{opened, recall, recall_rows, lifted, with_lifted, lift, lift_rows}
+use Rattle.plant_rules.specs.{opened, recall, recall_rows, lifted, with_lifted, lift, lift_rows}
 
 pub recall_tables : (s : State) (t : Stamp) (c : RecallLot) (nodes : List Node) → is_some (recall_at s c.recall) ≡ false → Lists (IsRecalled (edges_of s) c.lot) nodes
     → changed_all (recall_rows s.seq t c nodes) (tables_of newest_schema s) ≡ tables_of newest_schema (recall s t c)

@@ -1,22 +1,14 @@
 -- Decisions of commands with references.
-use Rattle.std.proofs.Common.{◌≡◌, ◌∙◌, ◌+◌, ◌<◌, ℕ, Bool, true, false, List, [], ◌∷◌, ◌++◌, Some, None, refl, sym, ap, subst, nat_lt}
-use Rattle.std.specs.Prelude.{not, if◌then◌else◌, Result, Ok, Err, IfOk}
-use Rattle.plant_base.specs.Values.{greatest_seq}
-use Rattle.plant_base.specs.State.{State, same, newest_schema}
-use Rattle.plant_base.specs.Content.{content_of}
-use Rattle.plant_base.specs.WellFormedCommands.{stamp_of}
-use Rattle.plant_base.specs.{Command, Envelope, Receipt, Stamp}
+use Rattle.std.proofs.Common.{◌≡◌, ◌∙◌, ◌+◌, ◌<◌, ℕ, Bool, true, false, List, [], ◌∷◌, ◌++◌, Some, None, refl, sym, ap, subst, nat_lt, not, if◌then◌else◌, Result, Ok, Err, IfOk}
+use Rattle.plant_base.specs.{greatest_seq, State, same, newest_schema, content_of, stamp_of, Command, Envelope, Receipt, Stamp}
 use Rattle.plant_base.specs.declared.refusal.Refusal.TheVariants.{BadForm, MomentBack, RefReused}
 use Rattle.plant_base.specs.declared.command.Command.TheVariants as body
 use Rattle.plant_base.proofs.KeyOrders.{same_id}
-use Rattle.plant_view.specs.Refusals.{refuse}
-use Rattle.plant_view.specs.Tables.{tables_of, changed, changed_all, Decides}
+use Rattle.plant_view.specs.{refuse, tables_of, changed, changed_all, Decides, Decision}
 use Rattle.plant_view.proofs.CommandsPreserveInvariant.{passed}
 use Rattle.plant_view.specs.declared.change.RowChange.TheVariants as row
-use Rattle.plant_view.specs.{Decision}
 use Rattle.plant_view.specs.declared.change.Decision.TheVariants.{Change, Refused, Repeat}
-use Rattle.plant_rules.specs.Wrong.{is_whole, wrong, wrong_body, wrong_there, decoded, kept_among, kept_for}
-use Rattle.plant_rules.specs.Step.{step, step_body, unless_refused, noted, taken, IsRepeated, IsDecision, IsNoted, again_of}
+use Rattle.plant_rules.specs.{is_whole, wrong, wrong_body, wrong_there, decoded, kept_among, kept_for, step, step_body, unless_refused, noted, taken, IsRepeated, IsDecision, IsNoted, again_of}
 use Rattle.plant_rules.proofs.EdgeRowChanges.{changed_append}
 use Rattle.plant_rules.proofs.AcceptedHasNumber.{number_left}
 

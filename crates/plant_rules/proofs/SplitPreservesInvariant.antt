@@ -1,18 +1,14 @@
 -- A split keeps a state consistent.
 use Rattle.std.proofs.Common.{◌≡◌, ◌∙◌, ℕ, ◌≤◌, true, false, List, [], ◌∷◌, Option, Some, None, is_some, refl, sym, ap, arith}
 use Rattle.std.proofs.lemmas.Bool.{false≢true}
-use Rattle.plant_base.specs.Values.{greatest_amount}
-use Rattle.plant_base.specs.State.{State, same, lot_order, definition_at, lot_at, place_at}
-use Rattle.plant_base.specs.{Lot, Movement, Place, Split, Stamp}
+use Rattle.plant_base.specs.{greatest_amount, State, same, lot_order, definition_at, lot_at, place_at, Lot, Movement, Place, Split, Stamp}
 use Rattle.plant_base.specs.declared.rows.MovementKind.TheVariants as kind
 use Rattle.plant_base.proofs.PutKeepsOrder.{found_new}
 use Rattle.plant_base.proofs.FindIsFirst.{found_keeps}
 use Rattle.plant_base.proofs.KeyOrders.{same_itself}
 use Rattle.plant_stock.proofs.StockAfterMovement.{entered_push, left_push}
-use Rattle.plant_rules.specs.Booking.{line_of}
-use Rattle.plant_view.specs.Refusals.{sublot_standing}
-use Rattle.plant_view.specs.Conservation.{is_of_lot}
-use Rattle.plant_rules.specs.Splitting.{def_of, split}
+use Rattle.plant_rules.specs.{line_of, def_of, split}
+use Rattle.plant_view.specs.{sublot_standing, is_of_lot}
 use Rattle.plant_view.specs.DecisionInvariant.{DecisionInvariant}
 use Rattle.plant_view.proofs.GenealogyAfterMovement.{descent_grows, keeps_into_new}
 use Rattle.plant_view.proofs.CommandsPreserveInvariant.{lot_stays, there_still, taking_covered}

@@ -1,15 +1,11 @@
 -- The rows of a split make the tables of the next state.
 use Rattle.std.proofs.Common.{◌≡◌, ◌∙◌, ℕ, ◌-◌, false, map, Some, is_some, refl, sym, ap}
-use Rattle.plant_base.specs.State.{State, put, newest_schema, lot_order, lot_at}
+use Rattle.plant_base.specs.{State, put, newest_schema, lot_order, lot_at, Lot, Place, Split, Stamp, Sublot}
 use Rattle.plant_base.specs.declared.rows.MovementKind.TheVariants as kind
-use Rattle.plant_base.specs.{Lot, Place, Split, Stamp, Sublot}
-use Rattle.plant_rules.specs.Booking.{line_of}
-use Rattle.plant_rules.specs.Splitting.{def_of, split, split_rows}
-use Rattle.plant_view.specs.Views.{IsSublotAt}
+use Rattle.plant_rules.specs.{line_of, def_of, split, split_rows}
+use Rattle.plant_view.specs.{IsSublotAt, sublot_order, sublot_row, tables_of, changed_all, is_blocked}
 use Rattle.plant_view.specs.DecisionInvariant.{DecisionInvariant}
-use Rattle.plant_view.specs.Tables.{sublot_order, sublot_row, tables_of, changed_all}
 use Rattle.plant_trace.specs.declared.node.Node.TheVariants as node
-use Rattle.plant_view.specs.Recalls.{is_blocked}
 use Rattle.plant_view.proofs.MarksAfterMovement.{marks_free}
 use Rattle.plant_view.proofs.EdgeRowOrder.{edges_pushed}
 use Rattle.plant_rules.proofs.DivideRows.{sublots_parted}

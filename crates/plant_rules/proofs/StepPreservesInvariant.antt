@@ -1,25 +1,17 @@
 -- Every command keeps a consistent state consistent, and the opening state is consistent.
-use Rattle.std.proofs.Common.{◌≡◌, ◌∙◌, ℕ, ◌≤◌, refl, sym, ap, is_some, true, Option, Some, None, List, arith, nat_lt, nat_le, length}
-use Rattle.std.specs.Prelude.{not}
+use Rattle.std.proofs.Common.{◌≡◌, ◌∙◌, ℕ, ◌≤◌, refl, sym, ap, is_some, true, Option, Some, None, List, arith, nat_lt, nat_le, length, not, ltb-false}
 use Rattle.std.specs.List.Sorted.{IsStrictlySortedBy}
-use Rattle.std.proofs.lemmas.Bool.{ltb-false}
 use Rattle.std.proofs.lemmas.Bool.Decides.{nat_tests}
-use Rattle.plant_base.specs.Values.{greatest_amount, is_amount, is_moment, is_text}
-use Rattle.plant_base.specs.State.{State, opening}
-use Rattle.plant_base.specs.WellFormedCommands.{HasValues, HasBodyValues, is_version, are_orders, are_parts, stamp_of}
+use Rattle.plant_base.specs.{greatest_amount, is_amount, is_moment, is_text, State, opening, HasValues, HasBodyValues, is_version, are_orders, are_parts, stamp_of, Command, Envelope, Part, Receipt, Refusal, Stamp, content_of}
 use Rattle.plant_base.specs.declared.states.RecipeState.TheVariants.{Approved, Withdrawn}
-use Rattle.plant_base.specs.{Command, Envelope, Part, Receipt, Refusal, Stamp}
 use Rattle.plant_base.specs.declared.refusal.Refusal.TheVariants.{BadForm, MomentBack}
 use Rattle.plant_base.specs.declared.states.Word.TheVariants.{Done}
 use Rattle.plant_base.specs.declared.states.Event.TheVariants as event
 use Rattle.plant_base.specs.declared.command.Command.TheVariants as body
 use Rattle.plant_base.proofs.PutKeepsOrder.{all_weaker}
-use Rattle.plant_stock.specs.Stock.{entered, left}
-use Rattle.plant_view.specs.Refusals.{sublot_standing}
-use Rattle.plant_rules.specs.Consumption.{is_own_product}
-use Rattle.plant_base.specs.Content.{content_of}
-use Rattle.plant_rules.specs.Wrong.{is_whole, wrong, wrong_body, wrong_there, decoded, kept_for}
-use Rattle.plant_rules.specs.Step.{step, step_body, unless_refused, noted, taken}
+use Rattle.plant_stock.specs.{entered, left}
+use Rattle.plant_view.specs.{sublot_standing}
+use Rattle.plant_rules.specs.{is_own_product, is_whole, wrong, wrong_body, wrong_there, decoded, kept_for, step, step_body, unless_refused, noted, taken}
 use Rattle.plant_view.specs.DecisionInvariant.{DecisionInvariant}
 use Rattle.plant_trace.proofs.AddingKeepsAcyclic.{first_edge}
 use Rattle.plant_trace.proofs.LeadsIsReach.{none_in}

@@ -1,17 +1,13 @@
 -- What is taken from a sublot keeps a state consistent.
 use Rattle.std.proofs.Common.{◌≡◌, ℕ, ◌≤◌, ◌∷◌, [], cond, true, false, List, Some, is_some, sym, subst, ap, refl, arith}
-use Rattle.plant_base.specs.State.{State, place_at, batch_at}
-use Rattle.plant_base.specs.{Consume, Movement, MovementKind, Scrap, Stamp}
+use Rattle.plant_base.specs.{State, place_at, batch_at, Consume, Movement, MovementKind, Scrap, Stamp}
 use Rattle.plant_base.specs.declared.rows.MovementKind.TheVariants.{Scrapped, Consumed}
 use Rattle.plant_base.proofs.PutKeepsOrder.{all_push}
-use Rattle.plant_stock.specs.Stock.{comes_from, is_sublot_key, entering, leaving}
+use Rattle.plant_stock.specs.{comes_from, is_sublot_key, entering, leaving}
 use Rattle.plant_stock.proofs.StockAfterMovement.{entered_push, left_push}
-use Rattle.plant_rules.specs.Booking.{line_of}
-use Rattle.plant_view.specs.Genealogy.{edges_of, IsConsistentGenealogy}
-use Rattle.plant_view.specs.Refusals.{sublot_standing}
-use Rattle.plant_rules.specs.Scrapping.{taken_as, scrap}
-use Rattle.plant_rules.specs.Consumption.{consume, is_own_product}
-use Rattle.plant_view.specs.DecisionInvariant.{DecisionInvariant, IsThere, IsOneMaterial}
+use Rattle.plant_rules.specs.{line_of, taken_as, scrap, consume, is_own_product}
+use Rattle.plant_view.specs.{edges_of, IsConsistentGenealogy, sublot_standing, IsThere, IsOneMaterial}
+use Rattle.plant_view.specs.DecisionInvariant.{DecisionInvariant}
 use Rattle.plant_view.proofs.GenealogyAfterMovement.{descent_grows, descent_stays, keeps_into_batch}
 use Rattle.plant_view.proofs.CommandsPreserveInvariant.{taking_covered}
 use Rattle.plant_rules.proofs.TakingRows.{Takes, scrap_takes, consumption_takes}

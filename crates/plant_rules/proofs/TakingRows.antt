@@ -1,21 +1,15 @@
 -- The rows of what is taken from a sublot make the tables of the next state.
-use Rattle.std.proofs.Common.{◌≡◌, ◌∙◌, ℕ, ◌+◌, ◌-◌, cond, List, None, [], ◌∷◌, ◌++◌, map, Some, refl, sym, ap, arith}
-use Rattle.std.specs.Prelude.{◌==◌, ◌&&◌}
-use Rattle.plant_base.specs.State.{State, same, put, newest_schema, place_order, place_at}
-use Rattle.plant_base.specs.{Movement, MovementKind, Place, Stamp}
+use Rattle.std.proofs.Common.{◌≡◌, ◌∙◌, ℕ, ◌+◌, ◌-◌, cond, List, None, [], ◌∷◌, ◌++◌, map, Some, refl, sym, ap, arith, ◌==◌, ◌&&◌}
+use Rattle.plant_base.specs.{State, same, put, newest_schema, place_order, place_at, Movement, MovementKind, Place, Stamp}
 use Rattle.plant_base.specs.declared.rows.MovementKind.TheVariants.{Scrapped, Consumed}
 use Rattle.plant_base.proofs.KeyOrders.{key_itself, place_order_total, test_tie}
 use Rattle.plant_base.proofs.PutKeepsOrder.{put_there}
-use Rattle.plant_stock.specs.Stock.{goes_to, comes_from, is_sublot_key, entered, left, entering, leaving}
+use Rattle.plant_stock.specs.{goes_to, comes_from, is_sublot_key, entered, left, entering, leaving}
 use Rattle.plant_stock.proofs.StockAfterMovement.{entered_push, left_push}
 use Rattle.plant_view.specs.declared.change.RowChange.TheVariants as row
-use Rattle.plant_rules.specs.Booking.{line_of, edge_change}
-use Rattle.plant_view.specs.Refusals.{sublot_standing}
-use Rattle.plant_rules.specs.Scrapping.{taken_as}
+use Rattle.plant_rules.specs.{line_of, edge_change, taken_as}
+use Rattle.plant_view.specs.{sublot_standing, sublot_order, sublot_row, tables_of, changed_all, edges_of, marks}
 use Rattle.plant_view.specs.DecisionInvariant.{DecisionInvariant}
-use Rattle.plant_view.specs.Tables.{sublot_order, sublot_row, tables_of, changed_all}
-use Rattle.plant_view.specs.Genealogy.{edges_of}
-use Rattle.plant_view.specs.Recalls.{marks}
 use Rattle.plant_view.proofs.EdgeRowOrder.{edges_pushed}
 use Rattle.plant_view.proofs.MarksAfterMovement.{marks_plain}
 use Rattle.plant_rules.proofs.EdgeRowChanges.{edge_changed}

@@ -1,14 +1,9 @@
 -- Recalls: when they are refused, and what they add and lift.
 use Rattle.std.specs.Prelude.{ℕ, ◌+◌, ◌&&◌, nat_lt, Bool, false, not, List, [], ◌∷◌, Option, Some, None, is_some, is_none, map}
-use Rattle.plant_base.specs.Recalls.{is_open}
-use Rattle.plant_base.specs.State.{State, newest_schema, put, recall_order, lot_at, recall_at}
-use Rattle.plant_base.specs.{LiftRecall, Lot, Recall, RecallLot, Refusal, Stamp}
+use Rattle.plant_base.specs.{is_open, State, newest_schema, put, recall_order, lot_at, recall_at, LiftRecall, Lot, Recall, RecallLot, Refusal, Stamp, greatest_seq}
 use Rattle.plant_base.specs.declared.refusal.Refusal.TheVariants.{Exists, UnknownLot, UnknownRecall, RecallLifted, TooMany}
-use Rattle.plant_base.specs.Values.{greatest_seq}
 use Rattle.plant_trace.specs.{Node}
-use Rattle.plant_view.specs.Recalls.{mark_on}
-use Rattle.plant_view.specs.Refusals.{refuse, at_limit}
-use Rattle.plant_view.specs.{RowChange}
+use Rattle.plant_view.specs.{mark_on, refuse, at_limit, RowChange}
 use Rattle.plant_view.specs.declared.change.RowChange.TheVariants as row
 
 -- ---- a recall

@@ -1,19 +1,14 @@
 -- What is decided of an event of a batch in a consistent state, and its rows.
-use Rattle.std.proofs.Common.{◌≡◌, ◌∙◌, ℕ, ◌+◌, ◌≤◌, ◌<◌, true, false, cond, List, [], ◌∷◌, ◌++◌, length, map, filter, Option, Some, None, Ok, Err, is_some, is_none, option_map, min, refl, sym, ap, arith}
-use Rattle.std.specs.Prelude.{not, count_by}
+use Rattle.std.proofs.Common.{◌≡◌, ◌∙◌, ℕ, ◌+◌, ◌≤◌, ◌<◌, true, false, cond, List, [], ◌∷◌, ◌++◌, length, map, filter, Option, Some, None, Ok, Err, is_some, is_none, option_map, min, refl, sym, ap, arith, not, count_by, is_eq, le-leb, append-nil}
 use Rattle.std.specs.Cmp.Lexicographic.{texts_ties}
-use Rattle.std.specs.Ordering.{is_eq}
 use Rattle.std.specs.Result.{result_unwrap_or}
 use Rattle.std.proofs.lemmas.Option.{same_Some}
-use Rattle.std.proofs.lemmas.Bool.{le-leb}
 use Rattle.std.proofs.lemmas.Bool.Decides.{nat_tests}
 use Rattle.std.proofs.lemmas.Cmp.{eq_by_cmp_equiv}
-use Rattle.std.proofs.lemmas.List.{append-nil, map-append}
+use Rattle.std.proofs.lemmas.List.{map-append}
 use Rattle.std.proofs.lemmas.List.Elements.{filter-append}
 use Rattle.std.proofs.lemmas.List.Sums.{length-filter}
-use Rattle.plant_base.specs.Values.{greatest_seq}
-use Rattle.plant_base.specs.State.{State, newest_schema, same, put, batch_order, job_at, batch_at, control_lines_of}
-use Rattle.plant_base.specs.{Batch, BatchEvent, BatchRow, CloseBatch, ControlLine, Event, Job, Refusal, Stamp}
+use Rattle.plant_base.specs.{greatest_seq, State, newest_schema, same, put, batch_order, job_at, batch_at, control_lines_of, Batch, BatchEvent, BatchRow, CloseBatch, ControlLine, Event, Job, Refusal, Stamp}
 use Rattle.plant_base.specs.declared.refusal.Refusal.TheVariants.{UnknownBatch, BatchClosed, TooMany, NotFinished}
 use Rattle.plant_base.specs.declared.states.JobState.TheVariants.{Finished}
 use Rattle.plant_base.specs.declared.states.Event.TheVariants.{Closed}
@@ -21,19 +16,15 @@ use Rattle.plant_base.proofs.PutKeepsOrder.{put_map, put_there}
 use Rattle.plant_base.proofs.FindIsFirst.{found_passes, found_keeps}
 use Rattle.plant_base.proofs.KeyOrders.{same_id, same_itself, id_total}
 use Rattle.plant_recipe.specs.declared.progress.Progress.{Progress}
-use Rattle.plant_recipe.specs.WellFormed.{is_phase}
-use Rattle.plant_recipe.specs.Progress.{greatest_phases, is_ended, turn, turn_closed, progress_after}
+use Rattle.plant_recipe.specs.{is_phase, greatest_phases, is_ended, turn, turn_closed, progress_after}
 use Rattle.plant_recipe.specs.Progress as progress
 use Rattle.plant_recipe.proofs.EventFold.{progress_after_push, turn_capped}
 use Rattle.plant_view.specs.declared.change.RowChange.TheVariants as row
-use Rattle.plant_view.specs.Refusals.{refuse, at_limit}
+use Rattle.plant_view.specs.{refuse, at_limit, tables_of, changed_all, row_at, batch_row, batch_row_order, phases_among, events_among, headers_of, orders_of, order_among, IsConsistentBatch, progress_at}
 use Rattle.plant_view.specs.DecisionInvariant.{DecisionInvariant}
-use Rattle.plant_view.specs.Tables.{tables_of, changed_all, row_at, batch_row, batch_row_order, phases_among, events_among}
-use Rattle.plant_view.specs.Production.{headers_of, orders_of, order_among, IsConsistentBatch}
 use Rattle.plant_view.proofs.RowsInTurn.{all_of, some_mapped}
 use Rattle.plant_rules_production.specs.Orders.{with_state}
-use Rattle.plant_rules_production.specs.Batches.{turn_at, progress_in, refuse_turn, wrong_event, event_row, happened, wrong_close_batch, job_of, close_batch}
-use Rattle.plant_view.specs.Tables.{progress_at}
+use Rattle.plant_rules_production.specs.{turn_at, progress_in, refuse_turn, wrong_event, event_row, happened, wrong_close_batch, job_of, close_batch}
 use Rattle.plant_rules_production.proofs.OrdersPreserved.{order_of_job, some_order}
 use Rattle.plant_rules_production.proofs.ReleaseRows.{filter_both, apart_batches}
 

@@ -1,20 +1,15 @@
 -- What holds of the control recipes of a consistent state: they are made from well-formed recipes.
-use Rattle.std.proofs.Common.{◌≡◌, ◌∙◌, ℕ, true, false, cond, List, map, Option, Some, None, refl, sym, ap, subst, arith}
-use Rattle.std.specs.Prelude.{◌&&◌, ◌==◌, nat_le}
+use Rattle.std.proofs.Common.{◌≡◌, ◌∙◌, ℕ, true, false, cond, List, map, Option, Some, None, refl, sym, ap, subst, arith, ◌&&◌, ◌==◌, nat_le}
 use Rattle.std.specs.List.{AllByRecursion, list_any}
 use Rattle.std.proofs.lemmas.Option.{same_Some}
 use Rattle.std.proofs.lemmas.Bool.Decides.{nat_tests}
-use Rattle.plant_base.specs.Values.{greatest_amount, is_amount}
-use Rattle.plant_base.specs.WellFormedCommands.{HasLineValues}
-use Rattle.plant_base.specs.State.{State, same, batch_at}
-use Rattle.plant_base.specs.{Batch, ControlLine, Header, OrderRow, RecipeLine}
+use Rattle.plant_base.specs.{greatest_amount, is_amount, HasLineValues, State, same, batch_at, Batch, ControlLine, Header, OrderRow, RecipeLine}
 use Rattle.plant_base.specs.declared.rows.RecipeLine.TheVariants.{In, Out, Parameter, Phase}
 use Rattle.plant_base.proofs.FindIsFirst.{found_passes, found_keeps}
 use Rattle.plant_base.proofs.KeyOrders.{same_id, same_key}
-use Rattle.plant_recipe.specs.WellFormed.{fits, is_well_formed}
-use Rattle.plant_recipe.specs.Control.{is_size_of, line_scaled, scales_to_nothing, control_of}
+use Rattle.plant_recipe.specs.{fits, is_well_formed, is_size_of, line_scaled, scales_to_nothing, control_of}
 use Rattle.plant_recipe.proofs.RecipeLines.{control_fits}
-use Rattle.plant_view.specs.Production.{headers_of, header_among, lines_among, IsWholeRecipe, orders_of, order_among, is_size_of_some, control_among, control_of_header, control_of_order, IsConsistentBatch}
+use Rattle.plant_view.specs.{headers_of, header_among, lines_among, IsWholeRecipe, orders_of, order_among, is_size_of_some, control_among, control_of_header, control_of_order, IsConsistentBatch}
 use Rattle.plant_view.specs.DecisionInvariant.{DecisionInvariant}
 use Rattle.plant_view.proofs.CommandsPreserveInvariant.{all_two}
 use Rattle.plant_view.proofs.TestsAndSums.{each_fails}

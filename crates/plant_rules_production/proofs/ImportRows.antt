@@ -1,20 +1,14 @@
 -- What is decided of the orders that were found, and the rows of an import.
-use Rattle.std.proofs.Common.{◌≡◌, ◌∙◌, ℕ, ◌+◌, true, false, cond, List, [], ◌∷◌, map, filter, None, is_none, refl, sym, ap}
-use Rattle.std.specs.Prelude.{not}
+use Rattle.std.proofs.Common.{◌≡◌, ◌∙◌, ℕ, ◌+◌, true, false, cond, List, [], ◌∷◌, map, filter, None, is_none, refl, sym, ap, not}
 use Rattle.std.specs.List.{list_any}
-use Rattle.plant_base.specs.State.{State, newest_schema, job_order, recipe_at, job_at}
+use Rattle.plant_base.specs.{State, newest_schema, job_order, recipe_at, job_at, ImportOrders, OrderRow, Stamp}
 use Rattle.plant_base.specs.declared.refusal.Refusal.TheVariants.{UnknownRecipe, OrderConflict, SizeOutOfRange, TooMany}
-use Rattle.plant_base.specs.{ImportOrders, OrderRow, Stamp}
-use Rattle.plant_view.specs.{Decision}
+use Rattle.plant_view.specs.{Decision, refuse, at_limit, is_size_of_recipe, IsDecided, put_all, tables_of, changed, changed_all, Decides}
 use Rattle.plant_view.specs.declared.change.Decision.TheVariants.{Change, Refused, Repeat}
 use Rattle.plant_view.specs.declared.change.RowChange.TheVariants as row
 use Rattle.plant_rules_production.specs.declared.orders.FoundOrder.{FoundOrder}
-use Rattle.plant_view.specs.Refusals.{refuse, at_limit}
-use Rattle.plant_rules_production.specs.Orders.{conflicts, opened, new_orders, found_order, is_unplanned, is_conflict, is_oversize, is_new, wrong_found_orders, wrong_import_orders, import_orders, import_rows}
-use Rattle.plant_view.specs.Production.{is_size_of_recipe}
-use Rattle.plant_view.specs.Tables.{IsDecided}
-use Rattle.plant_view.specs.Rows.{put_all}
-use Rattle.plant_view.specs.Tables.{Tables, tables_of, changed, changed_all, Decides}
+use Rattle.plant_rules_production.specs.{conflicts, opened, new_orders, found_order, is_unplanned, is_conflict, is_oversize, is_new, wrong_found_orders, wrong_import_orders, import_orders, import_rows}
+use Rattle.plant_view.specs.Tables.{Tables}
 use Rattle.plant_view.proofs.TestsAndSums.{any_map}
 
 -- ---- rows

@@ -1,12 +1,9 @@
 -- Commands on recipes, orders and batches keep a state consistent.
-use Rattle.std.proofs.Common.{◌≡◌, ◌∙◌, ℕ, ◌+◌, true, false, List, [], ◌∷◌, ◌++◌, Option, Some, None, Result, Ok, Err, is_some, is_none, option_map, refl, sym, ap, subst}
-use Rattle.std.specs.Prelude.{not}
-use Rattle.std.specs.List.{All, AllByRecursion, list_all, list_any}
+use Rattle.std.proofs.Common.{◌≡◌, ◌∙◌, ℕ, ◌+◌, true, false, List, [], ◌∷◌, ◌++◌, Option, Some, None, Result, Ok, Err, is_some, is_none, option_map, refl, sym, ap, subst, not, All}
+use Rattle.std.specs.List.{AllByRecursion, list_all, list_any}
 use Rattle.std.proofs.lemmas.List.Elements.{recursion_from_All}
 use Rattle.std.proofs.lemmas.Bool.{false≢true}
-use Rattle.plant_base.specs.State.{State, put, recipe_order, job_order, batch_order, recipe_at, job_at, batch_at, definition_at}
-use Rattle.plant_base.specs.WellFormedCommands.{is_version, has_numbers, HasHeaderValues, HasLineValues, HasOrderValues}
-use Rattle.plant_base.specs.{AddRecipe, Batch, BatchEvent, CancelOrder, CloseBatch, ControlLine, Event, ImportOrders, Job, MasterLine, OrderRow, Recipe, RecipeLine, RecipeState, Refusal, Release, Stamp}
+use Rattle.plant_base.specs.{State, put, recipe_order, job_order, batch_order, recipe_at, job_at, batch_at, definition_at, is_version, has_numbers, HasHeaderValues, HasLineValues, HasOrderValues, AddRecipe, Batch, BatchEvent, CancelOrder, CloseBatch, ControlLine, Event, ImportOrders, Job, MasterLine, OrderRow, Recipe, RecipeLine, RecipeState, Refusal, Release, Stamp}
 use Rattle.plant_base.specs.declared.refusal.Refusal.TheVariants.{UnknownRecipe, UnknownBatch, OrderConflict, SizeOutOfRange, BatchClosed, TooMany, NotFinished}
 use Rattle.plant_base.specs.declared.states.RecipeState.TheVariants.{Draft}
 use Rattle.plant_base.specs.declared.states.JobState.TheVariants.{Cancelled, Released, Finished}
@@ -15,23 +12,16 @@ use Rattle.plant_base.proofs.FindIsFirst.{found_passes}
 use Rattle.plant_base.proofs.PutKeepsOrder.{all_weaker, all_push}
 use Rattle.plant_base.proofs.KeyOrders.{same_id}
 use Rattle.plant_recipe.specs.declared.progress.Progress.{Progress}
-use Rattle.plant_recipe.specs.WellFormed.{is_well_formed}
-use Rattle.plant_recipe.specs.Progress.{is_ended, turn_closed}
+use Rattle.plant_recipe.specs.{is_well_formed, is_ended, turn_closed}
 use Rattle.plant_recipe.specs.Progress as progress
-use Rattle.plant_view.specs.Refusals.{refuse, at_limit}
-use Rattle.plant_view.specs.Production.{is_known, is_size_of_recipe}
-use Rattle.plant_rules_production.specs.Recipes.{with_state, add_recipe}
-use Rattle.plant_rules_production.specs.Orders.{conflicts, wrong_import_orders, new_orders, is_waiting, import_orders, cancel_order}
+use Rattle.plant_view.specs.{refuse, at_limit, is_known, is_size_of_recipe, progress_at, HasValidOrder, HasBatchValues, headers_of, header_among, AreConsistentRecipes, orders_of, order_among, batch_among, is_size_of_some, AreConsistentOrders, control_of_header, control_of_order, is_batch_among, AreConsistentBatches, has_finished, AreConsistentRuns, IsConsistentGenealogy}
+use Rattle.plant_rules_production.specs.{add_recipe, conflicts, wrong_import_orders, new_orders, is_waiting, import_orders, cancel_order, turn_at, refuse_turn, wrong_event, event_row, happened, wrong_close_batch, job_of, close_batch, control_of_recipe, control_of_job, lines_in, released_batch, release}
+use Rattle.plant_rules_production.specs.Recipes.{with_state}
 use Rattle.plant_rules_production.specs.Orders as orders
-use Rattle.plant_rules_production.specs.Batches.{turn_at, refuse_turn, wrong_event, event_row, happened, wrong_close_batch, job_of, close_batch}
-use Rattle.plant_view.specs.Tables.{progress_at}
-use Rattle.plant_rules_production.specs.Releasing.{control_of_recipe, control_of_job, lines_in, released_batch, release}
-use Rattle.plant_view.specs.Production.{HasValidOrder, HasBatchValues, headers_of, header_among, AreConsistentRecipes, orders_of, order_among, batch_among, is_size_of_some, AreConsistentOrders, control_of_header, control_of_order, is_batch_among, AreConsistentBatches, has_finished, AreConsistentRuns}
 use Rattle.plant_view.specs.DecisionInvariant.{DecisionInvariant}
 use Rattle.plant_view.proofs.HeadersFound.{header_found, size_of_recipe}
 use Rattle.plant_view.proofs.RowsInTurn.{each_passes, all_filtered, filtered_passes, some_mapped}
 use Rattle.plant_view.proofs.CommandsPreserveInvariant.{passed, is_there, all_two}
-use Rattle.plant_view.specs.Genealogy.{IsConsistentGenealogy}
 use Rattle.plant_view.proofs.GenealogyAfterMovement.{descent_released}
 use Rattle.plant_view.proofs.TestsAndSums.{each_fails, not_false}
 use Rattle.plant_rules_production.proofs.RecipesPreserved.{headers_put, headers_same, with_state_sorted, recipes_moved, more, recipes_added, orders_headed, batches_headed}

@@ -1,32 +1,21 @@
 -- What is decided of a release in a consistent state, and its rows.
-use Rattle.std.proofs.Common.{◌≡◌, ◌∙◌, ℕ, ◌+◌, ◌≤◌, ◌<◌, Bool, true, false, cond, List, [], ◌∷◌, length, map, filter, Option, Some, None, is_some, is_none, option_map, refl, sym, ap, arith}
-use Rattle.std.specs.Prelude.{◌&&◌, ◌==◌, not}
+use Rattle.std.proofs.Common.{◌≡◌, ◌∙◌, ℕ, ◌+◌, ◌≤◌, ◌<◌, Bool, true, false, cond, List, [], ◌∷◌, length, map, filter, Option, Some, None, is_some, is_none, option_map, refl, sym, ap, arith, ◌&&◌, ◌==◌, not, is_eq, le-leb}
 use Rattle.std.specs.Cmp.Lexicographic.{texts_ties}
-use Rattle.std.specs.Ordering.{is_eq}
-use Rattle.std.proofs.lemmas.Bool.{le-leb}
 use Rattle.std.proofs.lemmas.Bool.Decides.{nat_tests}
-use Rattle.plant_base.specs.Values.{greatest_seq}
-use Rattle.plant_base.specs.State.{State, newest_schema, same, put, batch_order, control_line_order, recipe_at, master_lines_of, job_at, batch_at}
+use Rattle.plant_base.specs.{greatest_seq, State, newest_schema, same, put, batch_order, control_line_order, recipe_at, master_lines_of, job_at, batch_at, Batch, BatchEvent, ControlLine, Header, Job, MasterLine, OrderRow, Recipe, RecipeLine, Release, Stamp}
 use Rattle.plant_base.specs.declared.refusal.Refusal.TheVariants.{Exists, UnknownOrder, NotApproved, OrderNotOpen, ScaledToNothing, TooMany}
 use Rattle.plant_base.specs.declared.states.RecipeState.TheVariants.{Approved}
 use Rattle.plant_base.specs.declared.states.JobState.TheVariants.{Released}
-use Rattle.plant_base.specs.{Batch, BatchEvent, ControlLine, Header, Job, MasterLine, OrderRow, Recipe, RecipeLine, Release, Stamp}
 use Rattle.plant_base.proofs.PutKeepsOrder.{put_map, all_weaker}
 use Rattle.plant_base.proofs.FindIsFirst.{found_passes, found_keeps}
 use Rattle.plant_base.proofs.KeyOrders.{same_key, id_total}
-use Rattle.plant_recipe.specs.WellFormed.{is_phase, is_well_formed}
-use Rattle.plant_recipe.specs.Control.{is_size_of, control_of}
-use Rattle.plant_recipe.specs.Progress.{opening_progress, progress_after}
+use Rattle.plant_recipe.specs.{is_phase, is_well_formed, is_size_of, control_of, opening_progress, progress_after}
 use Rattle.plant_view.specs.declared.change.RowChange.TheVariants as row
-use Rattle.plant_view.specs.Refusals.{refuse, at_limit}
-use Rattle.plant_rules_production.specs.Recipes.{is_state, is_in}
-use Rattle.plant_rules_production.specs.Orders.{is_open, is_waiting, with_state}
-use Rattle.plant_rules_production.specs.Releasing.{recipe_of, control_of_recipe, control_of_job, lines_in, wrong_release, released_batch, release, release_rows}
-use Rattle.plant_view.specs.Production.{control_line}
-use Rattle.plant_view.specs.Rows.{numbered, put_all}
-use Rattle.plant_view.specs.Production.{headers_of, header_among, orders_of, order_among, is_size_of_some, IsWholeRecipe, is_batch_among}
+use Rattle.plant_view.specs.{refuse, at_limit, control_line, numbered, put_all, headers_of, header_among, orders_of, order_among, is_size_of_some, IsWholeRecipe, is_batch_among, tables_of, changed, changed_all, row_at, batch_row, batch_row_order, phases_among, events_among}
+use Rattle.plant_rules_production.specs.{is_state, is_in, is_open, is_waiting, recipe_of, control_of_recipe, control_of_job, lines_in, wrong_release, released_batch, release, release_rows}
+use Rattle.plant_rules_production.specs.Orders.{with_state}
 use Rattle.plant_view.specs.DecisionInvariant.{DecisionInvariant}
-use Rattle.plant_view.specs.Tables.{Tables, tables_of, changed, changed_all, row_at, batch_row, batch_row_order, phases_among, events_among}
+use Rattle.plant_view.specs.Tables.{Tables}
 use Rattle.plant_view.proofs.HeadersFound.{header_found}
 use Rattle.plant_view.proofs.RowsInTurn.{all_of, none_left, find_mapped, filter_past_all, all_numbered}
 use Rattle.plant_view.proofs.RowKeys.{control_line_order_total, control_batch_tied, ids_apart}

@@ -1,7 +1,7 @@
 -- Rows that are put one after another, the last first.
 use Rattle.std.proofs.Common.{◌≡◌, List, [], ◌∷◌, ◌++◌, refl, ap}
 use Rattle.std.specs.declared.cmp.Ordering.{Ordering}
-use Rattle.plant_base.specs.State.{put}
+use Rattle.plant_base.specs.PlantState.{put}
 use Rattle.plant_worklists.specs.Sorting.{in_order}
 
 module _ {R : Type 0} (order : R → R → Ordering) where

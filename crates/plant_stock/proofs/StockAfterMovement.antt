@@ -1,9 +1,9 @@
 -- What one more movement does to the stock.
-use Rattle.std.proofs.Common.{◌≡◌, ◌∙◌, ℕ, ◌+◌, List, [], ◌∷◌, ◌++◌, refl, ap, sum, arith}
-use Rattle.std.specs.List.{sum_by, AllByRecursion}
+use Rattle.std.proofs.Common.{◌≡◌, ◌∙◌, ℕ, ◌+◌, List, [], ◌∷◌, ◌++◌, refl, ap, sum, arith, sum_by}
+use Rattle.std.specs.List.{AllByRecursion}
 use Rattle.std.proofs.lemmas.List.Sums.{sum_by_push, sum_by-cons}
 use Rattle.plant_base.specs.{Movement}
-use Rattle.plant_stock.specs.Stock.{entered, left, entering, leaving}
+use Rattle.plant_stock.specs.{entered, left, entering, leaving}
 
 pub entered_push : (ms : List Movement) (m : Movement) (lot : List ℕ) (number : ℕ) → entered (ms ++ m ∷ []) lot number ≡ entered ms lot number + entering m lot number
 unfolding entered

@@ -2,10 +2,10 @@
 #![tactic(auto)]
 
 ghost use Rattle.std.specs.Prelude.{◌≡◌, ◌≤◌, length, pos};
-ghost use Rattle.plant_base.specs.Values.{greatest_amount};
-ghost use Rattle.plant_stock.specs.Stock.{goes_to, comes_from, is_sublot_key, entering, leaving, stock};
-ghost use Rattle.plant_stock.specs.Stock.{is_division, is_in_lot, entering_lot, leaving_lot, born_of};
-ghost use Rattle.plant_stock.specs.Stock.{left_of, merged_total_of};
+ghost use Rattle.plant_base.specs.{greatest_amount};
+ghost use Rattle.plant_stock.specs.Stock.{goes_to, comes_from, is_sublot_key, entering, leaving};
+ghost use Rattle.plant_stock.specs.Stock.{stock, is_division, is_in_lot, entering_lot, leaving_lot};
+ghost use Rattle.plant_stock.specs.Stock.{born_of, left_of, merged_total_of};
 
 use plant_base::{Amount, GREATEST_AMOUNT, Id, Movement, MovementKind, Part, Refusal};
 

@@ -1,9 +1,7 @@
 -- When two rows are equal in a key: where their order ties.
-use Rattle.std.proofs.Common.{◌≡◌, inl, inr, ◌==◌, eqb-true, eq-eqb, refl, sym, ap, ◌∙◌, List, ℕ, pos, Bool, [], ◌∷◌, true, false, Some, ◌&&◌, ◌||◌}
-use Rattle.std.specs.Ordering.{is_eq, nat_cmp, int_cmp, ordering_then}
+use Rattle.std.proofs.Common.{◌≡◌, inl, inr, ◌==◌, eqb-true, eq-eqb, refl, sym, ap, ◌∙◌, List, ℕ, pos, Bool, [], ◌∷◌, true, false, Some, ◌&&◌, ◌||◌, is_eq, nat_cmp, int_cmp, Ordering, Less, Equal, Greater}
+use Rattle.std.specs.Ordering.{ordering_then}
 use Rattle.std.specs.Cmp.{both_tied, unsigned_ties}
-use Rattle.std.specs.declared.cmp.Ordering.{Ordering}
-use Rattle.std.specs.declared.cmp.Ordering.TheVariants.{Less, Equal, Greater}
 use Rattle.std.proofs.lemmas.Cmp.{int_eq_equiv}
 use Rattle.std.proofs.lemmas.Map.Lookups.{exact_signed}
 use Rattle.std.proofs.lemmas.Bool.{cases_Bool, false_from_ne_true}
@@ -15,9 +13,9 @@ use Rattle.sqlite_value.proofs.OrderLemmas.{value_cmp-Text, value_cmp-Int}
 use Rattle.sqlite_sql.specs.declared.ops.BinaryOp.TheVariants.{Compare}
 use Rattle.sqlite_sql.specs.declared.ops.CompareOp.TheVariants.{Eq}
 use Rattle.sqlite_sql.specs.Ops.{binary, is_true, from_truth}
-use Rattle.plant_base.specs.State.{id_cmp, numbered_cmp}
-use Rattle.sql_tables.specs.Rows.{same_key}
-use Rattle.plant_tables_columns.specs.Kinds.{number}
+use Rattle.plant_base.specs.{id_cmp, numbered_cmp}
+use Rattle.sql_tables.specs.{same_key}
+use Rattle.plant_tables_columns.specs.{number}
 
 true_is : (b : Bool) → is_true (from_truth (Some b)) ≡ b
 true_is true = refl

@@ -1,27 +1,17 @@
 -- What the making of missing indexes comes to.
-use Rattle.std.proofs.Common.{◌≡◌, ◌∙◌, inl, inr, refl, sym, ap, subst, ℕ, true, false, List, [], ◌∷◌, map, Ok, Err, Result, OnOk, OnErr, MatchResult}
+use Rattle.std.proofs.Common.{◌≡◌, ◌∙◌, inl, inr, refl, sym, ap, subst, ℕ, true, false, List, [], ◌∷◌, map, Ok, Err, Result, OnOk, OnErr, MatchResult, filter, filter_map}
 use Rattle.std.proofs.lemmas.Bool.{cases_Bool}
 use Rattle.std.proofs.lemmas.Result.{on_ok_weaker}
-use Rattle.std.specs.Prelude.{filter}
-use Rattle.std.specs.List.{filter_map}
 use Rattle.sqlite.specs.Change.{is_used}
 use Rattle.sqlite.specs.Effect.{Database}
 use Rattle.sqlite.specs.Schema.{Schema}
 use Rattle.sqlite.specs.State.{State}
 use Rattle.sqlite_rules.specs.Lists.{Has}
-use Rattle.plant_base.specs.State.{newest_schema}
+use Rattle.plant_base.specs.{newest_schema}
 use Rattle.plant_view.specs.Tables.{Tables}
-use Rattle.sql_tables.specs.{CreateIndexStatement, Fault}
-use Rattle.sql_tables.specs.TableDefs.{TableDef}
-use Rattle.sql_tables.specs.Indexes.{IndexDef, AreOf, AreCreateIndexStatements, MakesIndexes}
-use Rattle.sql_tables.specs.CrashStates.{IsSettled, IsUndone}
+use Rattle.sql_tables.specs.{CreateIndexStatement, Fault, TableDef, IndexDef, AreOf, AreCreateIndexStatements, MakesIndexes, IsSettled, IsUndone}
 use Rattle.sql_tables.proofs.IndexesInTurn.{placed}
-use Rattle.plant_tables.specs.DeskTableDefs.{desk_table_defs}
-use Rattle.plant_tables.specs.DeskIndexes.{desk_indexes}
-use Rattle.plant_tables.specs.DeskCrashStates.{IsAt, FailureLeaves}
-use Rattle.plant_tables.specs.DeskTables.{contents_of}
-use Rattle.plant_tables.specs.Keyed.{HoldsTables}
-use Rattle.plant_tables.specs.Missing.{missing_in, is_missing, lacking, CreateLacking, AreAllTaken, CreatesIndexes, AddsMissing, CreatesMissingIndexes}
+use Rattle.plant_tables.specs.{desk_table_defs, desk_indexes, IsAt, FailureLeaves, contents_of, HoldsTables, missing_in, is_missing, lacking, CreateLacking, AreAllTaken, CreatesIndexes, AddsMissing, CreatesMissingIndexes}
 use Rattle.plant_tables.proofs.StatementsOnDesk.{sql_of}
 use Rattle.plant_tables.proofs.DeskStatements.{indexes_of_desk}
 use Rattle.plant_tables.proofs.WritingEnds.{cut_at, finds_same}

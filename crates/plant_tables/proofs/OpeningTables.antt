@@ -1,24 +1,19 @@
 -- The making of the tables of a desk that has accepted nothing.
-use Rattle.std.proofs.Common.{◌≡◌, inl, inr, refl, sym, subst, ℕ, zero, suc, ◌==◌, false, eqb-true, arith, List, [], ◌∷◌, get_or, Result, OnErr}
+use Rattle.std.proofs.Common.{◌≡◌, inl, inr, refl, sym, subst, ℕ, zero, suc, ◌==◌, false, eqb-true, arith, List, [], ◌∷◌, get_or, Result, OnErr, IsPermutation}
 use Rattle.std.specs.List.{AllByRecursion}
-use Rattle.std.specs.List.Sorted.{IsPermutation}
 use Rattle.std.proofs.lemmas.List.Sorted.{IsPermutation-refl}
 use Rattle.std.proofs.lemmas.Bool.{false_from_ne_true}
 use Rattle.std.proofs.lemmas.Result.{on_err_weaker}
 use Rattle.sqlite.specs.Order.{Row}
 use Rattle.sqlite.specs.Effect.{IsDatabase}
 use Rattle.sqlite.specs.State.{State}
-use Rattle.plant_base.specs.State.{newest_schema}
-use Rattle.plant_base.specs.{Meta}
-use Rattle.plant_view.specs.Recalls.{marks}
+use Rattle.plant_base.specs.{newest_schema, Meta}
+use Rattle.plant_view.specs.{marks}
 use Rattle.plant_view.specs.declared.change.RowChange.TheVariants as change
-use Rattle.sql_tables.specs.StoredRows.{AreFree}
-use Rattle.sql_tables.specs.CrashStates.{IsUndone}
-use Rattle.sql_tables.specs.Moves.{Moves, Founds}
+use Rattle.sql_tables.specs.{AreFree, IsUndone, Founds}
+use Rattle.sql_tables.specs.Moves.{Moves}
 use Rattle.sql_tables.proofs.WritesInTurn.{others_then}
-use Rattle.plant_tables.specs.DeskTableDefs.{desk_table_defs}
-use Rattle.plant_tables.specs.DeskTables.{contents_of, rows_changed}
-use Rattle.plant_tables.specs.DeskCrashStates.{opening_tables, MakesDesk, IsUnopened}
+use Rattle.plant_tables.specs.{desk_table_defs, contents_of, rows_changed, opening_tables, MakesDesk, IsUnopened}
 use Rattle.plant_tables.proofs.RowChangeIsTableChange.{SameRows, stand_as}
 use Rattle.plant_tables.proofs.WritingEnds.{finds_made}
 

@@ -1,18 +1,15 @@
 -- Rows that are put in the order of their key, and rows that are put in a database.
-use Rattle.std.proofs.Common.{◌≡◌, refl, ap, subst, ◌∙◌, List, Bool, [], ◌∷◌, ◌++◌, false, not, map, filter, append-nil}
+use Rattle.std.proofs.Common.{◌≡◌, refl, ap, subst, ◌∙◌, List, Bool, [], ◌∷◌, ◌++◌, false, not, map, filter, append-nil, IsPermutation, is_eq, Ordering, Less, Equal, Greater}
 use Rattle.std.proofs.lemmas.List.{map-append}
 use Rattle.std.specs.List.{AllByRecursion}
-use Rattle.std.specs.List.Sorted.{IsStrictlySortedBy, IsPermutation}
+use Rattle.std.specs.List.Sorted.{IsStrictlySortedBy}
 use Rattle.std.specs.Cmp.{IsTotalOrder}
-use Rattle.std.specs.Ordering.{match_ordering, is_eq}
-use Rattle.std.specs.declared.cmp.Ordering.{Ordering}
-use Rattle.std.specs.declared.cmp.Ordering.TheVariants.{Less, Equal, Greater}
+use Rattle.std.specs.Ordering.{match_ordering}
 use Rattle.std.proofs.lemmas.List.Sorted.{IsPermutation-refl, IsPermutation-trans, IsPermutation-sym, IsPermutation-cons, IsPermutation-middle}
 use Rattle.sqlite_value.specs.Order.{Row}
-use Rattle.plant_base.specs.State.{put}
+use Rattle.plant_base.specs.{put}
 use Rattle.plant_base.proofs.PutKeepsOrder.{all_weaker}
-use Rattle.sql_tables.specs.TableDefs.{TableDef}
-use Rattle.sql_tables.specs.Rows.{meets}
+use Rattle.sql_tables.specs.{TableDef, meets}
 use Rattle.sql_tables.specs.Rows as rows
 
 module _ {R : Type 0} (enc : R → Row) (table_def : TableDef) (r : R) where

@@ -4,16 +4,12 @@ use Rattle.std.proofs.lemmas.Result.{on_ok_weaker, on_err_weaker}
 use Rattle.sqlite.specs.Tree.{Trees}
 use Rattle.sqlite.specs.Effect.{Database}
 use Rattle.sqlite.specs.State.{State}
-use Rattle.plant_base.specs.State.{newest_schema}
-use Rattle.plant_view.specs.Tables.{Tables, changed_all}
-use Rattle.plant_view.specs.{RowChange}
-use Rattle.sql_tables.specs.StoredRows.{KeepsOtherTables}
-use Rattle.sql_tables.specs.CrashStates.{IsSettled, IsUndone}
+use Rattle.plant_base.specs.{newest_schema}
+use Rattle.plant_view.specs.{changed_all, RowChange}
+use Rattle.plant_view.specs.Tables.{Tables}
+use Rattle.sql_tables.specs.{KeepsOtherTables, IsSettled, IsUndone}
 use Rattle.sql_tables.specs.Moves.{Moves}
-use Rattle.plant_tables.specs.DeskTableDefs.{desk_table_defs, table_defs_of}
-use Rattle.plant_tables.specs.DeskTables.{contents_of, all_rows_changed}
-use Rattle.plant_tables.specs.Keyed.{HoldsTablesOf, AreKeyed, AreFresh, MovesTablesOf, MovesTables}
-use Rattle.plant_tables.specs.DeskCrashStates.{IsAtOf, IsAt, FindsOf, FailureLeavesOf, FailureLeaves}
+use Rattle.plant_tables.specs.{desk_table_defs, table_defs_of, contents_of, all_rows_changed, HoldsTablesOf, AreKeyed, AreFresh, MovesTablesOf, MovesTables, IsAtOf, IsAt, FindsOf, FailureLeavesOf, FailureLeaves}
 use Rattle.plant_tables.proofs.RowChangeIsTableChange.{all_changed, stand_as}
 
 pub tables_moved : (schema : ℕ) (cs : List RowChange) (old new : State) → Moves (table_defs_of schema) old new (all_rows_changed cs) → MovesTablesOf schema cs old.now new.now

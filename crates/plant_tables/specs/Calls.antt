@@ -2,10 +2,9 @@
 use Rattle.std.specs.Prelude.{ℕ, ◌+◌, List, Result, OnOk, OnErr}
 use Rattle.sqlite.specs.State.{State, HasCleanDisk}
 use Rattle.plant_base.specs.{Position}
-use Rattle.plant_view.specs.Tables.{Tables, changed_all}
-use Rattle.plant_view.specs.{RowChange}
-use Rattle.sql_tables.specs.StoredRows.{KeepsOtherTables, AreFree}
-use Rattle.sql_tables.specs.CrashStates.{IsSettled}
+use Rattle.plant_view.specs.{changed_all, RowChange}
+use Rattle.plant_view.specs.Tables.{Tables}
+use Rattle.sql_tables.specs.{KeepsOtherTables, AreFree, IsSettled}
 use Rattle.plant_tables.specs.DeskTableDefs.{desk_table_defs, later_table_defs}
 use Rattle.plant_tables.specs.DeskCrashStates.{IsAtOf, FailureLeavesOf}
 use Rattle.plant_tables.specs.Schemas.{AreRisable, raising}

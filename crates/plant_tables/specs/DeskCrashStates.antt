@@ -4,10 +4,10 @@ use Rattle.sqlite.specs.Tree.{Trees}
 use Rattle.sqlite.specs.Schema.{Schema}
 use Rattle.sqlite.specs.Effect.{Database, IsDatabase}
 use Rattle.sqlite.specs.State.{State}
-use Rattle.plant_base.specs.State.{newest_schema, opening}
-use Rattle.plant_view.specs.Tables.{Tables, tables_of}
-use Rattle.sql_tables.specs.StoredRows.{KeepsOtherTables, AreFree}
-use Rattle.sql_tables.specs.CrashStates.{IsSettled}
+use Rattle.plant_base.specs.{newest_schema, opening}
+use Rattle.plant_view.specs.{tables_of}
+use Rattle.plant_view.specs.Tables.{Tables}
+use Rattle.sql_tables.specs.{KeepsOtherTables, AreFree, IsSettled}
 use Rattle.plant_tables.specs.DeskTableDefs.{desk_table_defs}
 use Rattle.plant_tables.specs.Keyed.{HoldsTablesOf, HoldsTables}
 

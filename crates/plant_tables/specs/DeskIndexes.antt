@@ -1,8 +1,8 @@
 -- The indexes that serve look-ups in tables of the desk.
 use Rattle.std.specs.Prelude.{◌≡◌, ℕ, ◌==◌, nat_le, if◌then◌else◌, List, [], ◌∷◌, ◌++◌, slice_get, Some, codes}
 use Rattle.sqlite.specs.Schema.{Schema}
-use Rattle.plant_base.specs.State.{newest_schema}
-use Rattle.sql_tables.specs.Indexes.{IndexDef, HasIndex}
+use Rattle.plant_base.specs.{newest_schema}
+use Rattle.sql_tables.specs.{IndexDef, HasIndex}
 use Rattle.plant_tables.specs.DeskTableDefs.{definition_table, recipe_table, job_table, batch_table, batch_event_table, lot_table, movement_table, edge_table, receipt_table, recall_table, mark_table}
 
 abbrev pub batch_event_by_batch : IndexDef

@@ -2,8 +2,7 @@
 use Rattle.std.specs.Prelude.{List, [], ◌∷◌, map, slice_index_or as get_or}
 use Rattle.sqlite.specs.Order.{Row}
 use Rattle.sqlite.specs.declared.types.Value.TheVariants.{Text}
-use Rattle.sql_tables.specs.StoredRows.{Contents}
-use Rattle.sql_tables.specs.Moves.{changed_at, taken_at}
+use Rattle.sql_tables.specs.{Contents, changed_at, taken_at}
 use Rattle.plant_view.specs.Tables.{Tables}
 use Rattle.plant_view.specs.{RowChange}
 use Rattle.plant_view.specs.declared.change.RowChange.TheVariants as change

@@ -7,3 +7,12 @@ pub mod PutStatements
 pub mod Schemas
 pub mod Calls
 pub mod Missing
+pub use DeskTableDefs.{batch_event_table, batch_table, class_table, control_line_table, definition_table, desk_table_defs, hold_table, job_table, later_table_defs, lot_table, mark_table, meta_table, movement_table, recall_table, receipt_table, recipe_line_table, recipe_table, sublot_table, table_defs_of}
+pub use DeskIndexes.{added_indexes, desk_indexes, fourth_indexes, indexes_of, second_indexes}
+pub use DeskTables.{all_rows_changed, contents_of, rows_of}
+unfoldable pub use DeskTables.{rows_changed}
+pub use Keyed.{AreFresh, AreKeyed, AreOfSchema, HoldsTables, HoldsTablesOf, IsFresh, IsOfSchema, LacksLater, MovesTables, MovesTablesOf}
+pub use DeskCrashStates.{FailureLeaves, FailureLeavesOf, FindsOf, FindsTables, IsAt, IsAtOf, IsUnopened, MakesDesk, opening_tables}
+pub use PutStatements.{OnlyAdds}
+pub use Schemas.{AreRisable, IsOlder, RaisesTables, raising}
+pub use Missing.{AddsMissing, AreAllTaken, CreateLacking, CreatesIndexes, CreatesMissingIndexes, HasCreatedIndexes, is_missing, lacking, missing_in}

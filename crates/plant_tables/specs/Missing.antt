@@ -6,10 +6,8 @@ use Rattle.sqlite.specs.Schema.{Schema}
 use Rattle.sqlite.specs.State.{State, HasCleanDisk, Survives}
 use Rattle.sqlite_rules.specs.Lists.{Has}
 use Rattle.plant_view.specs.Tables.{Tables}
-use Rattle.sql_tables.specs.{CreateIndexStatement, Fault}
+use Rattle.sql_tables.specs.{CreateIndexStatement, Fault, IndexDef, HasIndex, AreOf, AreCreateIndexStatements, KeepsOtherTables}
 use Rattle.sql_tables.specs.declared.fault.Fault.TheVariants as fault
-use Rattle.sql_tables.specs.Indexes.{IndexDef, HasIndex, AreOf, AreCreateIndexStatements}
-use Rattle.sql_tables.specs.StoredRows.{KeepsOtherTables}
 use Rattle.plant_tables.specs.DeskTableDefs.{desk_table_defs}
 use Rattle.plant_tables.specs.DeskIndexes.{desk_indexes, HasIndexes}
 use Rattle.plant_tables.specs.DeskCrashStates.{IsAt, FailureLeaves}

@@ -1,12 +1,11 @@
 -- The raising of the tables of a schema to the next.
 use Rattle.std.specs.Prelude.{ℕ, ◌+◌, ◌≤◌, ◌<◌, List, [], ◌∷◌, ◌++◌}
 use Rattle.sqlite.specs.Effect.{Database}
-use Rattle.plant_base.specs.State.{newest_schema}
-use Rattle.plant_base.specs.{Position}
-use Rattle.plant_view.specs.Tables.{Tables, changed_all}
-use Rattle.plant_view.specs.{RowChange}
+use Rattle.plant_base.specs.{newest_schema, Position}
+use Rattle.plant_view.specs.{changed_all, RowChange}
+use Rattle.plant_view.specs.Tables.{Tables}
 use Rattle.plant_view.specs.declared.change.RowChange.TheVariants as change
-use Rattle.sql_tables.specs.StoredRows.{KeepsOtherTables, AreFree}
+use Rattle.sql_tables.specs.{KeepsOtherTables, AreFree}
 use Rattle.plant_tables.specs.DeskTableDefs.{desk_table_defs, later_table_defs}
 use Rattle.plant_tables.specs.Keyed.{HoldsTablesOf, LacksLater, AreKeyed, AreFresh, AreOfSchema}
 

@@ -2,12 +2,13 @@ ghost use Rattle.std.specs.Prelude.{◌≡◌, false, IsTrue, OnOk, OnErr, IsOkU
 ghost use Rattle.sqlite.specs.Effect.{Database, IsDatabase};
 ghost use Rattle.sqlite.specs.State.{HasCleanDisk, Survives, KeepsCommit};
 ghost use Rattle.sqlite.specs.Held.{state};
-ghost use Rattle.plant_view.specs.Tables.{Tables, changed_all};
-ghost use Rattle.sql_tables.specs.StoredRows.{KeepsOtherTables, AreFree};
-ghost use Rattle.sql_tables.specs.CrashStates.{IsSettled};
+ghost use Rattle.plant_view.specs.{changed_all};
+ghost use Rattle.plant_view.specs.Tables.{Tables};
+ghost use Rattle.sql_tables.specs.{KeepsOtherTables, AreFree, IsSettled};
 ghost use Rattle.plant_tables.specs.DeskTableDefs.{desk_table_defs};
 ghost use Rattle.plant_tables.specs.Keyed.{AreKeyed, AreFresh, MovesTables};
-ghost use Rattle.plant_tables.specs.DeskCrashStates.{IsAt, FailureLeaves, opening_tables, MakesDesk, IsUnopened};
+ghost use Rattle.plant_tables.specs.DeskCrashStates.{IsAt, FailureLeaves, opening_tables};
+ghost use Rattle.plant_tables.specs.DeskCrashStates.{MakesDesk, IsUnopened};
 
 use crate::write::{create, write_change, write_changes};
 use plant_base::{Meta, Moment, NEWEST_SCHEMA, Position};

@@ -3,9 +3,10 @@
 ghost use Rattle.std.specs.Prelude.{◌≡◌, false, map, IfOk};
 ghost use Rattle.std.specs.List.{filter_map};
 ghost use Rattle.sqlite.specs.Held.{state};
-ghost use Rattle.sql_tables.specs.Indexes.{AreCreateIndexStatements};
+ghost use Rattle.sql_tables.specs.{AreCreateIndexStatements};
 ghost use Rattle.plant_tables.specs.DeskIndexes.{desk_indexes};
-ghost use Rattle.plant_tables.specs.Missing.{missing_in, CreateLacking, CreatesIndexes, HasCreatedIndexes};
+ghost use Rattle.plant_tables.specs.Missing.{missing_in, CreateLacking, CreatesIndexes};
+ghost use Rattle.plant_tables.specs.Missing.{HasCreatedIndexes};
 
 use crate::table_defs;
 use sql_tables::{CreateIndexStatement, Fault, Work, in_one, is_taken, run_create_indexes};

@@ -3,7 +3,8 @@
 //! store refuses a row whose key is taken.
 //! Tables that are looked up by other columns than those of their keys have indexes for it, which bar no row.
 ghost use Rattle.std.specs.Prelude.{◌≡◌, ◌≤◌, take, drop};
-ghost use Rattle.plant_tables.specs.DeskTableDefs.{desk_table_defs, table_defs_of, later_table_defs};
+ghost use Rattle.plant_tables.specs.DeskTableDefs.{desk_table_defs, table_defs_of};
+ghost use Rattle.plant_tables.specs.DeskTableDefs.{later_table_defs};
 ghost use Rattle.plant_tables.specs.DeskIndexes.{desk_indexes, indexes_of, later_indexes};
 
 use sql_tables::ColumnDef::{Integer, IntegerOrNull, Text, TextOrNull};

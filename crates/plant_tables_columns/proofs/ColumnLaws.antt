@@ -5,8 +5,9 @@ use Rattle.std.specs.Bool.{⊤}
 use Rattle.sqlite.specs.declared.types.Value.{Value}
 use Rattle.sqlite.specs.Order.{Row, column}
 use Rattle.sqlite_schema.specs.declared.schema.Column.{Column}
-use Rattle.sql_tables.specs.Rows.{fits_columns}
-use Rattle.plant_tables_columns.specs.Columns.{Columns, Kind, one, ◌⊗◌, made, read_row}
+use Rattle.sql_tables.specs.{fits_columns}
+use Rattle.plant_tables_columns.specs.{Kind, one, ◌⊗◌, made, read_row}
+use Rattle.plant_tables_columns.specs.Columns.{Columns}
 use Rattle.plant_tables_columns.proofs.OptionalValues.{bound, mapped, some_same, where_true}
 use Rattle.plant_tables_columns.proofs.KindLaws.{IsKind}
 

@@ -1,6 +1,6 @@
 -- Rows that are read one after the other.
 use Rattle.std.proofs.Common.{List, ◌++◌, Option, option_map}
-use Rattle.plant_tables_columns.specs.DecodedRows.{all_from}
+use Rattle.plant_tables_columns.specs.{all_from}
 
 module _ {X R : Type 0} (row_from : X → Option R) where
   -- the rows that were read, before what is decoded from the rest of the list

@@ -1,22 +1,16 @@
 -- What one value was read from, and what is read of a value that obeys its rule.
-use Rattle.std.proofs.Common.{◌≡◌, refl, sym, ap, ◌∙◌, subst, ℕ, zero, suc, ◌≤◌, ℤ, pos, negsuc, List, ◌∷◌, Bool, true, false, [], Option, Some, None, option_map, nat_le, arith}
-use Rattle.std.proofs.lemmas.Bool.{and_parts, leb-true}
+use Rattle.std.proofs.Common.{◌≡◌, refl, sym, ap, ◌∙◌, subst, ℕ, zero, suc, ◌≤◌, ℤ, pos, negsuc, List, ◌∷◌, Bool, true, false, [], Option, Some, None, option_map, nat_le, arith, leb-true, if◌then◌else◌, unwrap_or}
+use Rattle.std.proofs.lemmas.Bool.{and_parts}
 use Rattle.std.proofs.lemmas.Bool.Decides.{nat_tests}
-use Rattle.std.specs.Prelude.{if◌then◌else◌, unwrap_or}
 use Rattle.std.specs.Bool.{⊤}
 use Rattle.std.specs.Char.{is_ascii}
 use Rattle.std.specs.List.{list_all}
 use Rattle.sqlite.specs.declared.types.Value.{Value}
 use Rattle.sqlite.specs.declared.types.Value.TheVariants.{Null, Int, Text}
-use Rattle.plant_base.specs.Values.{only, is_id, is_text, is_unit, is_moment, greatest_moment, greatest_sublot}
-use Rattle.plant_base.specs.Content.{is_there}
-use Rattle.plant_base.specs.Dates.{is_due}
+use Rattle.plant_base.specs.{only, is_id, is_text, is_unit, is_moment, greatest_moment, greatest_sublot, is_there, is_due}
 use Rattle.sqlite_schema.specs.declared.schema.Column.{Column}
-use Rattle.sql_tables.specs.TableDefs.{integer, text, integer_or_null, text_or_null}
-use Rattle.sql_tables.specs.Rows.{fits_columns}
-use Rattle.plant_tables_columns.specs.Columns.{Kind}
-use Rattle.plant_tables_columns.specs.Kinds.{number, flag, null_or, ids, texts, units, dues, contents, numbers, line_numbers, always_one, flags, ids_or_none, sublot_numbers_or_none, moments_or_none, texts_or_none}
-use Rattle.plant_tables_columns.specs.Reading.{text_in, integer_in, is_null, by_text, by_number, id_from, text_from, unit_from, due_from, content_in, content_from, is_in, number_in, number_from, line_number, line_number_from, flag_from, or_null, id_or_null, sublot_or_null, moment_or_null, readable_or_null}
+use Rattle.sql_tables.specs.{integer, text, integer_or_null, text_or_null, fits_columns}
+use Rattle.plant_tables_columns.specs.{Kind, number, flag, null_or, ids, texts, units, dues, contents, numbers, line_numbers, always_one, flags, ids_or_none, sublot_numbers_or_none, moments_or_none, texts_or_none, text_in, integer_in, is_null, by_text, by_number, id_from, text_from, unit_from, due_from, content_in, content_from, is_in, number_in, number_from, line_number, line_number_from, flag_from, or_null, id_or_null, sublot_or_null, moment_or_null, readable_or_null}
 use Rattle.plant_tables_columns.proofs.OptionalValues.{bound, mapped, some_same, only_back, only_again}
 
 -- How a kind of value is stored in a column and read of it: it is stored as the column is declared; what was read is what

@@ -5,17 +5,11 @@ use Rattle.std.proofs.lemmas.List.{nil_from_length}
 use Rattle.sqlite.specs.declared.types.Value.{Value}
 use Rattle.sqlite.specs.declared.types.Value.TheVariants.{Null, Int, Text}
 use Rattle.sqlite.specs.Order.{Row, column}
-use Rattle.plant_base.specs.Values.{is_id, is_amount, greatest_amount}
-use Rattle.plant_base.specs.WellFormedCommands.{HasLineValues}
-use Rattle.plant_base.specs.{RecipeLine}
+use Rattle.plant_base.specs.{is_id, is_amount, greatest_amount, HasLineValues, RecipeLine}
 use Rattle.plant_base.specs.declared.rows.RecipeLine.TheVariants as line
-use Rattle.sql_tables.specs.TableDefs.{integer}
-use Rattle.sql_tables.specs.Rows.{fits_columns}
-use Rattle.plant_tables_columns.specs.Columns.{Kind}
-use Rattle.plant_tables_columns.specs.Kinds.{number}
-use Rattle.plant_tables_columns.specs.Reading.{is_null, is_empty, is_zero, id_from, text_from, amount_from}
-use Rattle.plant_tables_columns.specs.Naming.{all_line_kind_codes, line_kind_from, line_kind_number}
-use Rattle.plant_tables_columns.specs.TableColumns.{columns_of_line, material_from, has_no_material, parameter_from, phase_from, line_of_code, line_from, line_columns}
+use Rattle.sql_tables.specs.{integer, fits_columns}
+use Rattle.plant_tables_columns.specs.{Kind, number, is_null, is_empty, id_from, text_from, amount_from, all_line_kind_codes, line_kind_from, line_kind_number, columns_of_line, material_from, has_no_material, parameter_from, phase_from, line_of_code, line_from, line_columns}
+use Rattle.plant_tables_columns.specs.Reading.{is_zero}
 use Rattle.plant_tables_columns.specs.declared.line.LineKindCode.{LineKindCode}
 use Rattle.plant_tables_columns.specs.declared.line.LineKindCode.TheVariants as line_kind_code
 use Rattle.plant_tables_columns.specs.declared.line.Material.{Material}

@@ -1,7 +1,6 @@
 -- Options, and values that obey a rule.
-use Rattle.std.proofs.Common.{◌≡◌, refl, subst, Bool, true, false, Option, Some, None, option_map}
-use Rattle.std.specs.Prelude.{if◌then◌else◌, option_and_then, is_none}
-use Rattle.plant_base.specs.Values.{only}
+use Rattle.std.proofs.Common.{◌≡◌, refl, subst, Bool, true, false, Option, Some, None, option_map, if◌then◌else◌, option_and_then, is_none}
+use Rattle.plant_base.specs.{only}
 
 pub bound : {A B : Type 0} (o : Option A) (f : A → Option B) (y : B) → option_and_then f o ≡ Some y → (x : A) × (o ≡ Some x) × (f x ≡ Some y)
 bound None f y h = absurd (cc)

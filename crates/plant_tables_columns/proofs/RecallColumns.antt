@@ -1,9 +1,8 @@
 -- What a recall's state asks of the columns of its lifting, and the recall of a row that has them.
-use Rattle.std.proofs.Common.{◌≡◌, refl, ap, ◌∙◌, subst, true, ◌&&◌, Option, Some, None}
-use Rattle.std.specs.Prelude.{is_none}
+use Rattle.std.proofs.Common.{◌≡◌, refl, ap, ◌∙◌, subst, true, ◌&&◌, Option, Some, None, is_none}
 use Rattle.std.proofs.lemmas.Bool.{and_parts}
 use Rattle.plant_base.specs.{Lifting, Recall}
-use Rattle.plant_tables_columns.specs.StatedRecalls.{has_no_lifting, complete_lifting, lifting_of_state, lifting_from, recalled_with, recall_from, state_by, moment_of_lift, person_of_lift, note_of_lift, stated_of}
+use Rattle.plant_tables_columns.specs.{has_no_lifting, complete_lifting, lifting_of_state, lifting_from, recalled_with, recall_from, state_by, moment_of_lift, person_of_lift, note_of_lift, stated_of}
 use Rattle.plant_tables_columns.specs.declared.recalls.RecallState.{RecallState}
 use Rattle.plant_tables_columns.specs.declared.recalls.RecallState.TheVariants as state
 use Rattle.plant_tables_columns.specs.declared.recalls.StatedRecall.{StatedRecall}

@@ -1,24 +1,13 @@
 -- What the columns of rows and of their parts keep.
-use Rattle.std.proofs.Common.{◌≡◌, refl, ap, ap₂, ◌∙◌, subst, ℕ, suc, ◌+◌, ◌≤◌, ℤ, List, true, nat_le, Some, arith}
-use Rattle.std.specs.Prelude.{option_and_then}
+use Rattle.std.proofs.Common.{◌≡◌, refl, ap, ap₂, ◌∙◌, subst, ℕ, suc, ◌+◌, ◌≤◌, ℤ, List, true, nat_le, Some, arith, option_and_then}
 use Rattle.std.proofs.lemmas.Bool.{and_from, and_parts}
 use Rattle.sqlite.specs.declared.types.Value.{Value}
 use Rattle.sqlite.specs.declared.types.Value.TheVariants.{Int, Text}
 use Rattle.sqlite.specs.Order.{Row, column}
-use Rattle.plant_base.specs.Values.{is_id, is_text, is_amount, is_moment, greatest_amount, greatest_moment, greatest_phase, greatest_priority, greatest_seq, greatest_sublot, greatest_version}
-use Rattle.plant_base.specs.WellFormedCommands.{is_version, is_priority, HasHeaderValues, HasLineValues}
-use Rattle.plant_base.specs.Words.{recipe_state_name, job_state_name, batch_state_name}
-use Rattle.plant_base.specs.{ControlLine, Event, Header, MasterLine}
-use Rattle.plant_base.specs.Edges.{edge_kind_number}
-use Rattle.plant_base.specs.Recalls.{mark_kind_number}
-use Rattle.plant_base.specs.RowValues.{HasPhaseNumber}
-use Rattle.plant_recipe.specs.Progress.{greatest_attempt}
-use Rattle.plant_view.specs.Production.{HasBatchValues, HasValidOrder}
-use Rattle.plant_tables_columns.specs.Kinds.{number, recipe_states, job_states, batch_states, recall_states, movement_kind_codes, edge_kinds, mark_kinds}
-use Rattle.plant_tables_columns.specs.Reading.{text_in, integer_in}
-use Rattle.plant_tables_columns.specs.Naming.{all_recipe_states, all_job_states, all_batch_states, all_recall_states, all_movement_kind_codes, all_edge_kinds, all_mark_kinds, event_phase, recipe_state_from, job_state_from, batch_state_from, recall_state_name, recall_state_from, event_named, event_from, movement_kind_number, movement_kind_from, edge_kind_from, mark_kind_from}
-use Rattle.plant_tables_columns.specs.TableColumns.{event_columns, header_columns, master_line_columns, control_line_columns, order_columns, released_columns, batch_columns, booked_columns, stated_columns}
-use Rattle.plant_tables_columns.specs.ValidValues.{HasBatchRowValues}
+use Rattle.plant_base.specs.{is_id, is_text, is_amount, is_moment, greatest_amount, greatest_moment, greatest_phase, greatest_priority, greatest_seq, greatest_sublot, greatest_version, is_version, is_priority, HasHeaderValues, HasLineValues, recipe_state_name, job_state_name, batch_state_name, ControlLine, Event, Header, MasterLine, edge_kind_number, mark_kind_number, HasPhaseNumber}
+use Rattle.plant_recipe.specs.{greatest_attempt}
+use Rattle.plant_view.specs.{HasBatchValues, HasValidOrder}
+use Rattle.plant_tables_columns.specs.{number, recipe_states, job_states, batch_states, recall_states, movement_kind_codes, edge_kinds, mark_kinds, text_in, integer_in, all_recipe_states, all_job_states, all_batch_states, all_recall_states, all_movement_kind_codes, all_edge_kinds, all_mark_kinds, event_phase, recipe_state_from, job_state_from, batch_state_from, recall_state_name, recall_state_from, event_named, event_from, movement_kind_number, movement_kind_from, edge_kind_from, mark_kind_from, event_columns, header_columns, master_line_columns, control_line_columns, order_columns, released_columns, batch_columns, booked_columns, stated_columns, HasBatchRowValues}
 use Rattle.plant_tables_columns.specs.declared.booked.BookedRow.{BookedRow}
 use Rattle.plant_tables_columns.specs.declared.recalls.StatedRecall.{StatedRecall}
 use Rattle.plant_tables_columns.proofs.OptionalValues.{bound}

@@ -1,14 +1,8 @@
 -- The words and numbers that states, events and kinds were read from, and what is read from theirs.
-use Rattle.std.proofs.Common.{◌≡◌, refl, sym, ap, ◌∙◌, subst, ℕ, ℤ, pos, arith, List, Bool, true, false, Some, option_map, codes, nat_le}
+use Rattle.std.proofs.Common.{◌≡◌, refl, sym, ap, ◌∙◌, subst, ℕ, ℤ, pos, arith, List, Bool, true, false, Some, option_map, codes, nat_le, if◌then◌else◌, option_and_then, int_eq}
 use Rattle.std.proofs.lemmas.Bool.{and_parts}
-use Rattle.std.proofs.lemmas.Bool.Decides.{nat_tests}
-use Rattle.std.specs.Prelude.{if◌then◌else◌, option_and_then}
-use Rattle.std.specs.Ordering.{int_eq}
-use Rattle.std.proofs.lemmas.Bool.Decides.{Decides-int_eq}
-use Rattle.plant_base.specs.State.{same}
-use Rattle.plant_base.specs.Values.{greatest_phase}
-use Rattle.plant_base.specs.Words.{recipe_state_name, job_state_name, batch_state_name, word_name}
-use Rattle.plant_base.specs.{BatchState, EdgeKind, Event, JobState, MarkKind, RecipeState, Word}
+use Rattle.std.proofs.lemmas.Bool.Decides.{nat_tests, Decides-int_eq}
+use Rattle.plant_base.specs.{same, greatest_phase, recipe_state_name, job_state_name, batch_state_name, word_name, BatchState, EdgeKind, Event, JobState, MarkKind, RecipeState, Word, HasPhaseNumber, edge_kind_number, mark_kind_number}
 use Rattle.plant_base.specs.declared.states.RecipeState.TheVariants as recipe_state
 use Rattle.plant_base.specs.declared.states.JobState.TheVariants as job_state
 use Rattle.plant_base.specs.declared.states.BatchState.TheVariants as batch_state
@@ -17,13 +11,8 @@ use Rattle.plant_base.specs.declared.states.Event.TheVariants as event
 use Rattle.plant_base.proofs.FindIsFirst.{found_passes}
 use Rattle.plant_base.proofs.KeyOrders.{same_id}
 use Rattle.sqlite.specs.declared.types.Value.TheVariants.{Text}
-use Rattle.sql_tables.specs.TableDefs.{integer, text}
-use Rattle.plant_tables_columns.specs.Kinds.{number}
-use Rattle.plant_tables_columns.specs.Reading.{number_in, by_text, by_number}
-use Rattle.plant_tables_columns.specs.Naming.{named, numbered, event_name, event_phase, all_recipe_states, all_job_states, all_batch_states, recall_state_name, all_recall_states, all_words, word_named, plain_event, event_named, line_kind_number, all_line_kind_codes, movement_kind_number, all_movement_kind_codes, all_edge_kinds, all_mark_kinds}
-use Rattle.plant_base.specs.RowValues.{HasPhaseNumber}
-use Rattle.plant_base.specs.Edges.{edge_kind_number}
-use Rattle.plant_base.specs.Recalls.{mark_kind_number}
+use Rattle.sql_tables.specs.{integer, text}
+use Rattle.plant_tables_columns.specs.{number, number_in, by_text, by_number, named, numbered, event_name, event_phase, all_recipe_states, all_job_states, all_batch_states, recall_state_name, all_recall_states, all_words, word_named, plain_event, event_named, line_kind_number, all_line_kind_codes, movement_kind_number, all_movement_kind_codes, all_edge_kinds, all_mark_kinds}
 use Rattle.plant_base.specs.declared.rows.EdgeKind.TheVariants as edge_kind
 use Rattle.plant_base.specs.declared.rows.MarkKind.TheVariants as mark_kind
 use Rattle.plant_tables_columns.specs.declared.line.LineKindCode.{LineKindCode}

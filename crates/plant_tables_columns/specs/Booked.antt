@@ -1,12 +1,11 @@
 -- The movement that a row of table movement books, where its columns are those of its kind.
 use Rattle.std.specs.Prelude.{ℕ, ◌==◌, Bool, false, ◌&&◌, List, Option, Some, None, is_none, option_map, if◌then◌else◌}
-use Rattle.plant_base.specs.State.{same}
-use Rattle.plant_base.specs.{Movement, MovementKind}
+use Rattle.plant_base.specs.{same, Movement, MovementKind}
 use Rattle.plant_base.specs.declared.rows.MovementKind.TheVariants as kind
 use Rattle.plant_tables_columns.specs.declared.booked.MovementKindCode.{MovementKindCode}
 use Rattle.plant_tables_columns.specs.declared.booked.MovementKindCode.TheVariants as kind_code
 use Rattle.plant_tables_columns.specs.declared.booked.BookedRow.{BookedRow}
-use Rattle.plant_view.specs.Genealogy.{batch_by}
+use Rattle.plant_view.specs.{batch_by}
 
 abbrev pub names_nothing : BookedRow → Bool
 names_nothing r = is_none r.lot2 && is_none r.sub2 && is_none r.batch

@@ -3,7 +3,7 @@ use Rattle.std.specs.Prelude.{ℕ, ◌+◌, ◌==◌, List, [], ◌∷◌, ◌++
 use Rattle.sqlite.specs.declared.types.Value.{Value}
 use Rattle.sqlite.specs.Order.{Row, column}
 use Rattle.sqlite_schema.specs.declared.schema.Column.{Column}
-use Rattle.plant_base.specs.Options.{◌>>=◌}
+use Rattle.plant_base.specs.{◌>>=◌}
 
 -- A kind of value: how a column of this name is declared for it, what one is stored as, and what a stored value says.
 pub record Kind (A : Type 0) : Type 0 where

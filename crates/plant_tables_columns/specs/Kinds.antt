@@ -2,12 +2,8 @@
 use Rattle.std.specs.Prelude.{ℕ, pos, Bool, true, false, List, Option, Some, None}
 use Rattle.sqlite.specs.declared.types.Value.{Value}
 use Rattle.sqlite.specs.declared.types.Value.TheVariants.{Null, Int, Text}
-use Rattle.plant_base.specs.Words.{recipe_state_name, job_state_name, batch_state_name}
-use Rattle.plant_base.specs.Values.{greatest_amount, greatest_moment, greatest_seq, greatest_sublot}
-use Rattle.plant_base.specs.Edges.{edge_kind_number}
-use Rattle.plant_base.specs.Recalls.{mark_kind_number}
-use Rattle.plant_base.specs.{BatchState, EdgeKind, JobState, MarkKind, RecipeState}
-use Rattle.sql_tables.specs.TableDefs.{integer, text, integer_or_null, text_or_null}
+use Rattle.plant_base.specs.{recipe_state_name, job_state_name, batch_state_name, greatest_amount, greatest_moment, greatest_seq, greatest_sublot, edge_kind_number, mark_kind_number, BatchState, EdgeKind, JobState, MarkKind, RecipeState}
+use Rattle.sql_tables.specs.{integer, text, integer_or_null, text_or_null}
 use Rattle.plant_tables_columns.specs.Reading.{id_from, text_from, unit_from, due_from, content_from, number_from, one_from, line_number_from, flag_from, id_or_null, sublot_or_null, moment_or_null, readable_or_null}
 use Rattle.plant_tables_columns.specs.Naming.{recipe_state_from, job_state_from, batch_state_from, recall_state_name, recall_state_from, movement_kind_number, movement_kind_from, edge_kind_from, mark_kind_from}
 use Rattle.plant_tables_columns.specs.Columns.{Kind}

@@ -2,13 +2,7 @@
 use Rattle.std.specs.Prelude.{ℕ, ℤ, pos, List, [], ◌∷◌, Option, Some, option_map, find, codes, if◌then◌else◌}
 use Rattle.std.specs.Ordering.{int_eq}
 use Rattle.sqlite.specs.declared.types.Value.{Value}
-use Rattle.plant_base.specs.Options.{◌>>=◌}
-use Rattle.plant_base.specs.Edges.{edge_kind_number}
-use Rattle.plant_base.specs.Recalls.{mark_kind_number}
-use Rattle.plant_base.specs.State.{same}
-use Rattle.plant_base.specs.Values.{greatest_phase}
-use Rattle.plant_base.specs.Words.{recipe_state_name, job_state_name, batch_state_name, word_name}
-use Rattle.plant_base.specs.{BatchState, EdgeKind, Event, JobState, MarkKind, RecipeState, Word}
+use Rattle.plant_base.specs.{◌>>=◌, edge_kind_number, mark_kind_number, same, greatest_phase, recipe_state_name, job_state_name, batch_state_name, word_name, BatchState, EdgeKind, Event, JobState, MarkKind, RecipeState, Word}
 use Rattle.plant_base.specs.declared.rows.EdgeKind.TheVariants as edge_kind
 use Rattle.plant_base.specs.declared.rows.MarkKind.TheVariants as mark_kind
 use Rattle.plant_base.specs.declared.states.RecipeState.TheVariants as recipe_state

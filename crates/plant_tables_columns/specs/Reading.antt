@@ -5,8 +5,7 @@ use Rattle.std.specs.List.{list_all}
 use Rattle.std.specs.Ordering.{int_eq}
 use Rattle.sqlite.specs.declared.types.Value.{Value}
 use Rattle.sqlite.specs.declared.types.Value.TheVariants.{Null, Int, Real, Text, Blob}
-use Rattle.plant_base.specs.Values.{only, is_id, is_text, is_unit, greatest_amount, greatest_moment, greatest_sublot}
-use Rattle.plant_base.specs.Dates.{is_due}
+use Rattle.plant_base.specs.{only, is_id, is_text, is_unit, greatest_amount, greatest_moment, greatest_sublot, is_due}
 
 -- ---- the value of a column
 

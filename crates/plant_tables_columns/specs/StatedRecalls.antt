@@ -1,7 +1,6 @@
 -- The recall that is decoded from a row of table recall, where the columns of its lifting are those of its state.
 use Rattle.std.specs.Prelude.{ℕ, Bool, ◌&&◌, List, Option, Some, None, is_none, option_map, if◌then◌else◌}
-use Rattle.plant_base.specs.Options.{◌>>=◌}
-use Rattle.plant_base.specs.{Lifting, Recall}
+use Rattle.plant_base.specs.{◌>>=◌, Lifting, Recall}
 use Rattle.plant_tables_columns.specs.declared.recalls.RecallState.{RecallState}
 use Rattle.plant_tables_columns.specs.declared.recalls.RecallState.TheVariants as state
 use Rattle.plant_tables_columns.specs.declared.recalls.StatedRecall.{StatedRecall}

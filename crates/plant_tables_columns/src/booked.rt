@@ -2,10 +2,10 @@
 
 ghost use Rattle.std.specs.Prelude.{◌≡◌, pos};
 ghost use Rattle.sqlite.specs.Order.{column};
-ghost use Rattle.plant_tables_columns.specs.Naming.{numbered, movement_kind_number, all_movement_kind_codes};
-ghost use Rattle.plant_tables_columns.specs.Naming.{movement_kind_from};
-ghost use Rattle.plant_tables_columns.specs.Booked.{names_nothing, batch_named, lot_named, sublot_named};
-ghost use Rattle.plant_tables_columns.specs.Booked.{kind_from, movement_from};
+ghost use Rattle.plant_tables_columns.specs.Naming.{numbered, movement_kind_number};
+ghost use Rattle.plant_tables_columns.specs.Naming.{all_movement_kind_codes, movement_kind_from};
+ghost use Rattle.plant_tables_columns.specs.Booked.{names_nothing, batch_named, lot_named};
+ghost use Rattle.plant_tables_columns.specs.Booked.{sublot_named, kind_from, movement_from};
 
 use crate::reading::integer;
 use plant_base::{Amount, Id, Moment, Movement, MovementKind, Text};

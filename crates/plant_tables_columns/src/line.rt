@@ -4,8 +4,9 @@ ghost use Rattle.std.specs.Prelude.{◌≡◌, ◌<◌, ◌+◌, pos};
 ghost use Rattle.sqlite.specs.Order.{column};
 ghost use Rattle.plant_tables_columns.specs.Naming.{line_kind_number, line_kind_from};
 ghost use Rattle.sqlite.specs.Values.{bound};
-ghost use Rattle.plant_tables_columns.specs.TableColumns.{columns_of_line, material_from, has_no_material};
-ghost use Rattle.plant_tables_columns.specs.TableColumns.{parameter_from, phase_from, line_from};
+ghost use Rattle.plant_tables_columns.specs.TableColumns.{columns_of_line, material_from};
+ghost use Rattle.plant_tables_columns.specs.TableColumns.{has_no_material, parameter_from};
+ghost use Rattle.plant_tables_columns.specs.TableColumns.{phase_from, line_from};
 
 use crate::reading::{amount, id, integer, is_empty, is_null, is_zero, text};
 use crate::storing;

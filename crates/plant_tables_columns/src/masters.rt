@@ -6,8 +6,9 @@ ghost use Rattle.sqlite.specs.Values.{bound};
 ghost use Rattle.plant_tables_columns.specs.TableColumns.{row_of_class, class_from};
 ghost use Rattle.plant_tables_columns.specs.TableColumns.{row_of_definition, definition_from};
 // ---- end of how rows are stored and read
-ghost use Rattle.plant_tables_columns.specs.TableColumns.{header_columns, row_of_recipe, recipe_from};
-ghost use Rattle.plant_tables_columns.specs.TableColumns.{row_of_master_line, master_line_from};
+ghost use Rattle.plant_tables_columns.specs.TableColumns.{header_columns, row_of_recipe};
+ghost use Rattle.plant_tables_columns.specs.TableColumns.{recipe_from, row_of_master_line};
+ghost use Rattle.plant_tables_columns.specs.TableColumns.{master_line_from};
 
 use crate::decoded::Decoded;
 use crate::line::{line, line_values};

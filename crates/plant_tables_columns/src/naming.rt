@@ -2,10 +2,11 @@
 
 ghost use Rattle.std.specs.Prelude.{◌≡◌};
 ghost use Rattle.sqlite.specs.Order.{column};
-ghost use Rattle.plant_base.specs.Words.{recipe_state_name, job_state_name, batch_state_name};
-ghost use Rattle.plant_tables_columns.specs.Naming.{named, all_recipe_states, all_job_states, all_batch_states};
-ghost use Rattle.plant_tables_columns.specs.Naming.{recipe_state_from, job_state_from, batch_state_from};
-ghost use Rattle.plant_tables_columns.specs.Naming.{word_named, plain_event, event_named, event_from};
+ghost use Rattle.plant_base.specs.{recipe_state_name, job_state_name, batch_state_name};
+ghost use Rattle.plant_tables_columns.specs.Naming.{named, all_recipe_states, all_job_states};
+ghost use Rattle.plant_tables_columns.specs.Naming.{all_batch_states, recipe_state_from};
+ghost use Rattle.plant_tables_columns.specs.Naming.{job_state_from, batch_state_from, word_named};
+ghost use Rattle.plant_tables_columns.specs.Naming.{plain_event, event_named, event_from};
 
 use crate::reading::{bytes, integer, tiny_within};
 use plant_base::{BatchState, Event, GREATEST_PHASE, JobState, RecipeState, Word};

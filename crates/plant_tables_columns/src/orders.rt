@@ -6,9 +6,10 @@ ghost use Rattle.sqlite_value.specs.Value.{owned};
 ghost use Rattle.plant_tables_columns.specs.Kinds.{number};
 ghost use Rattle.plant_tables_columns.specs.Naming.{event_name, event_phase};
 ghost use Rattle.plant_tables_columns.specs.TableColumns.{order_columns, row_of_job, job_from};
-ghost use Rattle.plant_tables_columns.specs.TableColumns.{released_columns, row_of_batch, batch_from};
-ghost use Rattle.plant_tables_columns.specs.TableColumns.{row_of_control_line, control_line_from};
-ghost use Rattle.plant_tables_columns.specs.TableColumns.{row_of_event, batch_event_from};
+ghost use Rattle.plant_tables_columns.specs.TableColumns.{released_columns, row_of_batch};
+ghost use Rattle.plant_tables_columns.specs.TableColumns.{batch_from, row_of_control_line};
+ghost use Rattle.plant_tables_columns.specs.TableColumns.{control_line_from, row_of_event};
+ghost use Rattle.plant_tables_columns.specs.TableColumns.{batch_event_from};
 
 use crate::decoded::Decoded;
 use crate::line::{line, line_values};

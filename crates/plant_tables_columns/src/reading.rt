@@ -3,12 +3,13 @@
 ghost use Rattle.std.specs.Prelude.{◌≡◌, ◌==◌, length, is_some, option_map};
 ghost use Rattle.sqlite.specs.Order.{column};
 ghost use Rattle.sqlite_value.specs.Value.{owned};
-ghost use Rattle.plant_tables_columns.specs.Reading.{text_in, integer_in, is_null, id_from, text_from};
-ghost use Rattle.plant_tables_columns.specs.Reading.{unit_from, due_from, number_in, number_from};
-ghost use Rattle.plant_tables_columns.specs.Reading.{amount_from, moment_from, sublot_number_from};
-ghost use Rattle.plant_tables_columns.specs.Reading.{line_number, line_number_from, flag_from, id_or_null};
-ghost use Rattle.plant_tables_columns.specs.Reading.{sublot_or_null, moment_or_null, readable_or_null};
-ghost use Rattle.plant_tables_columns.specs.Reading.{is_empty, is_zero};
+ghost use Rattle.plant_tables_columns.specs.Reading.{text_in, integer_in, is_null, id_from};
+ghost use Rattle.plant_tables_columns.specs.Reading.{text_from, unit_from, due_from, number_in};
+ghost use Rattle.plant_tables_columns.specs.Reading.{number_from, amount_from, moment_from};
+ghost use Rattle.plant_tables_columns.specs.Reading.{sublot_number_from, line_number};
+ghost use Rattle.plant_tables_columns.specs.Reading.{line_number_from, flag_from, id_or_null};
+ghost use Rattle.plant_tables_columns.specs.Reading.{sublot_or_null, moment_or_null};
+ghost use Rattle.plant_tables_columns.specs.Reading.{readable_or_null, is_empty, is_zero};
 
 use plant_base::{Amount, Due, GREATEST_SUBLOT, Id, Moment, Text, Unit};
 use sqlite::Row;

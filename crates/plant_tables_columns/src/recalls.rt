@@ -5,9 +5,12 @@ ghost use Rattle.sqlite.specs.Order.{column};
 ghost use Rattle.sqlite.specs.Values.{bound};
 ghost use Rattle.sqlite_value.specs.declared.value.Value.TheVariants.{Text as Bytes};
 ghost use Rattle.plant_tables_columns.specs.Kinds.{number, null_or};
-ghost use Rattle.plant_tables_columns.specs.Naming.{named, recall_state_name, all_recall_states, recall_state_from};
-ghost use Rattle.plant_tables_columns.specs.StatedRecalls.{has_no_lifting, complete_lifting, lifting_from, recall_from};
-ghost use Rattle.plant_tables_columns.specs.StatedRecalls.{state_by, moment_of_lift, person_of_lift, note_of_lift};
+ghost use Rattle.plant_tables_columns.specs.Naming.{named, recall_state_name, all_recall_states};
+ghost use Rattle.plant_tables_columns.specs.Naming.{recall_state_from};
+ghost use Rattle.plant_tables_columns.specs.StatedRecalls.{has_no_lifting, complete_lifting};
+ghost use Rattle.plant_tables_columns.specs.StatedRecalls.{lifting_from, recall_from, state_by};
+ghost use Rattle.plant_tables_columns.specs.StatedRecalls.{moment_of_lift, person_of_lift};
+ghost use Rattle.plant_tables_columns.specs.StatedRecalls.{note_of_lift};
 ghost use Rattle.plant_tables_columns.specs.TableColumns.{row_of_recall, stated_from, recall_read};
 
 use crate::decoded::Decoded;

@@ -5,11 +5,12 @@ ghost use Rattle.sqlite.specs.Values.{bound};
 ghost use Rattle.sqlite_value.specs.Value.{owned};
 ghost use Rattle.sqlite_value.specs.declared.value.Value.TheVariants.{Text as Bytes};
 ghost use Rattle.plant_tables_columns.specs.Booked.{code_of, other_lot, other_sublot};
-ghost use Rattle.plant_view.specs.Genealogy.{batch_by};
+ghost use Rattle.plant_view.specs.{batch_by};
 ghost use Rattle.plant_tables_columns.specs.Kinds.{number, null_or};
 ghost use Rattle.plant_tables_columns.specs.Naming.{movement_kind_number};
-ghost use Rattle.plant_tables_columns.specs.TableColumns.{row_of_lot, lot_from, row_of_sublot, sublot_from};
-ghost use Rattle.plant_tables_columns.specs.TableColumns.{booked_from, row_of_movement, movement_read};
+ghost use Rattle.plant_tables_columns.specs.TableColumns.{row_of_lot, lot_from, row_of_sublot};
+ghost use Rattle.plant_tables_columns.specs.TableColumns.{sublot_from, booked_from};
+ghost use Rattle.plant_tables_columns.specs.TableColumns.{row_of_movement, movement_read};
 ghost use Rattle.plant_tables_columns.specs.TableColumns.{row_of_hold, hold_from};
 
 use crate::booked::{BookedRow, movement_kind_code};

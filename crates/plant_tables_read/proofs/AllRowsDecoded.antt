@@ -1,21 +1,17 @@
 -- All rows of a table: as they are stored, and as they were read.
-use Rattle.std.proofs.Common.{◌≡◌, refl, sym, ap, ◌∙◌, subst, List, [], ◌∷◌, map, Option, Some}
+use Rattle.std.proofs.Common.{◌≡◌, refl, sym, ap, ◌∙◌, subst, List, [], ◌∷◌, map, Option, Some, IsPermutation}
 use Rattle.std.specs.Bool.{⊤}
 use Rattle.std.specs.List.{AllByRecursion}
-use Rattle.std.specs.List.Sorted.{IsStrictlySortedBy, IsPermutation}
+use Rattle.std.specs.List.Sorted.{IsStrictlySortedBy}
 use Rattle.std.proofs.lemmas.List.Sorted.{IsPermutation-sym, IsPermutation-trans}
 use Rattle.sqlite.specs.Effect.{Database}
 use Rattle.sqlite.specs.Order.{Row}
-use Rattle.sql_tables.specs.TableDefs.{TableDef}
-use Rattle.sql_tables.specs.Rows.{columns_of}
-use Rattle.sql_tables.specs.StoredRows.{HasStoredRows}
-use Rattle.sql_queries.specs.Reading.{Lists}
-use Rattle.sql_queries.specs.Keys.{key_order, comes_before}
-use Rattle.sql_queries.specs.Selects.{first_of}
+use Rattle.sql_tables.specs.{TableDef, columns_of, HasStoredRows}
+use Rattle.sql_queries.specs.{Lists, key_order, comes_before, first_of}
 use Rattle.sql_queries.proofs.ValueOrder.{key_total}
 use Rattle.sql_queries.proofs.RowsUpToOrder.{one_tree}
-use Rattle.plant_tables_read.specs.Loading.{Loads}
-use Rattle.plant_tables_columns.specs.DecodedRows.{all_from}
+use Rattle.plant_tables_read.specs.{Loads}
+use Rattle.plant_tables_columns.specs.{all_from}
 use Rattle.plant_tables_columns.proofs.OptionalValues.{bound, some_same}
 use Rattle.plant_tables_read.proofs.SortedRowsAreUnique.{same_sorted, strictly_sorted}
 

@@ -1,18 +1,16 @@
 -- What was read of the first tables.
-use Rattle.std.proofs.Common.{◌≡◌, sym, ap, subst, ◌∙◌, ℕ, ◌<◌, ◌≤◌, ◌+◌, List, [], ◌∷◌, ◌++◌, map, Vec, Some, None, slice_get, slice_index_or, length, inl, inr, arith}
+use Rattle.std.proofs.Common.{◌≡◌, sym, ap, subst, ◌∙◌, ℕ, ◌<◌, ◌≤◌, ◌+◌, List, [], ◌∷◌, ◌++◌, map, Vec, Some, None, slice_get, slice_index_or, length, inl, inr, arith, Global}
 use Rattle.std.proofs.lemmas.Option.{slice_get_cases, slice_get_within}
 use Rattle.std.proofs.lemmas.List.{get_or_past, get_or_append_left, map-append, length-map}
 use Rattle.std.proofs.Math.Seq.{get_or-append_seam}
-use Rattle.std.specs.declared.alloc.Global.{Global}
 use Rattle.sqlite.specs.Effect.{Database}
 use Rattle.sqlite.specs.Order.{Row}
-use Rattle.sql_tables.specs.TableDefs.{TableDef}
-use Rattle.sql_queries.specs.Keys.{comes_before}
-use Rattle.sql_queries.specs.Reading.{Lists}
+use Rattle.sql_tables.specs.{TableDef}
+use Rattle.sql_queries.specs.{comes_before, Lists}
 use Rattle.sql_queries.specs.Rises.{Rises}
 use Rattle.sql_queries.proofs.RisingLists.{split}
-use Rattle.plant_tables.specs.DeskTableDefs.{table_defs_of}
-use Rattle.plant_tables_read.specs.Loading.{AreLoaded, AreRising}
+use Rattle.plant_tables.specs.{table_defs_of}
+use Rattle.plant_tables_read.specs.{AreLoaded, AreRising}
 use Rattle.plant_tables_read.specs.declared.loaded.Loaded.{Loaded}
 
 abbrev pub Tables : Type 0

@@ -1,12 +1,10 @@
 -- The order of the rows of each table by its key is that of their columns.
-use Rattle.std.proofs.Common.{◌≡◌, refl, sym, ap, ◌∙◌, ℕ, pos, List}
-use Rattle.std.specs.Ordering.{nat_cmp, int_cmp, ordering_then}
-use Rattle.std.specs.declared.cmp.Ordering.{Ordering}
-use Rattle.std.specs.declared.cmp.Ordering.TheVariants.{Less, Equal, Greater}
+use Rattle.std.proofs.Common.{◌≡◌, refl, sym, ap, ◌∙◌, ℕ, pos, List, nat_cmp, int_cmp, Ordering, Less, Equal, Greater}
+use Rattle.std.specs.Ordering.{ordering_then}
 use Rattle.sqlite.specs.declared.types.Value.TheVariants.{Text}
-use Rattle.plant_base.specs.State.{id_cmp, numbered_cmp}
-use Rattle.plant_tables_columns.specs.Kinds.{number}
-use Rattle.sql_queries.specs.Keys.{value_order}
+use Rattle.plant_base.specs.{id_cmp, numbered_cmp}
+use Rattle.plant_tables_columns.specs.{number}
+use Rattle.sql_queries.specs.{value_order}
 use Rattle.plant_tables_read.proofs.SortedRowsAreUnique.{int_cmp_pos}
 
 then_equal : (o : Ordering) → ordering_then o Equal ≡ o

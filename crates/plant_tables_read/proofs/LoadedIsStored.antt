@@ -1,12 +1,12 @@
 -- The tables have what was loaded, as the writing side asks.
 use Rattle.std.proofs.Common.{ℕ}
 use Rattle.sqlite.specs.Effect.{Database, IsDatabase}
-use Rattle.sql_tables.specs.StoredRows.{HaveStoredRows}
-use Rattle.sql_queries.specs.Ordered.{IsRising}
+use Rattle.sql_tables.specs.{HaveStoredRows}
+use Rattle.sql_queries.specs.{IsRising}
 use Rattle.sql_queries.proofs.TableIsKnown.{listed_stands}
-use Rattle.plant_tables.specs.DeskTableDefs.{table_defs_of}
+use Rattle.plant_tables.specs.{table_defs_of}
 use Rattle.plant_tables_read.specs.declared.loaded.Loaded.{Loaded}
-use Rattle.plant_tables_read.specs.Loading.{AreLoaded, contents_loaded}
+use Rattle.plant_tables_read.specs.{AreLoaded, contents_loaded}
 
 pub loaded_is_stored : (schema : ℕ) (db : Database) (x : Loaded) → IsDatabase db → IsRising db → AreLoaded schema db x → HaveStoredRows (table_defs_of schema) db (contents_loaded x)
 loaded_is_stored schema db x sound rising are = record {

@@ -1,12 +1,9 @@
 -- The movements may be read before the other tables.
 use Rattle.std.proofs.Common.{◌≡◌, ℕ, zero, suc, List, [], ◌∷◌, Option, Some, None, map, slice_index_or, slice_set, refl, ap}
-use Rattle.plant_base.specs.Options.{◌>>=◌}
-use Rattle.plant_tables_columns.specs.DecodedRows.{all_from}
-use Rattle.plant_tables_columns.specs.TableColumns.{only_meta, class_from, definition_from, recipe_from, master_line_from, job_from, batch_from, control_line_from, batch_event_from, lot_from, sublot_from, booked_from}
-use Rattle.plant_tables_columns.specs.{BookedRow}
-use Rattle.plant_tables_read.specs.Loading.{HasOthers, contents_loaded}
+use Rattle.plant_base.specs.{◌>>=◌}
+use Rattle.plant_tables_columns.specs.{all_from, only_meta, class_from, definition_from, recipe_from, master_line_from, job_from, batch_from, control_line_from, batch_event_from, lot_from, sublot_from, booked_from, BookedRow}
+use Rattle.plant_tables_read.specs.{HasOthers, contents_loaded, rows_beside, rows_from}
 use Rattle.plant_tables_read.specs.declared.loaded.Loaded.{Loaded}
-use Rattle.plant_tables_read.specs.Collecting.{rows_beside, rows_from}
 
 -- one of the tables in a list is given other rows: those at the other positions are the same
 pub table_kept : {R : Type 0} {V : Type 0} (rows_of : V → List R) (tables : List V) (place : ℕ) (table : V) (at : ℕ) → ¬ (at ≡ place)

@@ -1,6 +1,5 @@
 -- A store has one version at most, and none where the names are free.
-use Rattle.std.proofs.Common.{◌≡◌, sym, ap, subst, subst₂, ◌∙◌, ◌≤◌, ◌<◌, length, get_or, Bool, true, false, ℤ, pos, List, [], ◌∷◌, All, arith}
-use Rattle.std.specs.Prelude.{◌↔◌}
+use Rattle.std.proofs.Common.{◌≡◌, sym, ap, subst, subst₂, ◌∙◌, ◌≤◌, ◌<◌, length, get_or, Bool, true, false, ℤ, pos, List, [], ◌∷◌, All, arith, ◌↔◌}
 use Rattle.std.proofs.lemmas.Bool.{false≢true}
 use Rattle.std.proofs.lemmas.Option.{get_or_from_slice_get, slice_get-get_or, slice_get_within}
 use Rattle.sqlite.proofs.Callers.{one_permutation}
@@ -9,12 +8,11 @@ use Rattle.sqlite.specs.Effect.{Database}
 use Rattle.sqlite.specs.Order.{Row}
 use Rattle.sqlite.specs.Schema.{Schema}
 use Rattle.sqlite.specs.declared.types.Value.TheVariants.{Int}
-use Rattle.sql_tables.specs.TableDefs.{TableDef}
-use Rattle.sql_tables.specs.StoredRows.{IsFree, AreFree}
-use Rattle.sql_queries.specs.Reading.{Lists}
+use Rattle.sql_tables.specs.{TableDef, IsFree, AreFree}
+use Rattle.sql_queries.specs.{Lists}
 use Rattle.sql_queries.proofs.RowsUpToOrder.{lists_same}
-use Rattle.plant_tables.specs.DeskTableDefs.{desk_table_defs, meta_table}
-use Rattle.plant_tables_read.specs.Version.{row_of, IsValidMeta, IsVersion}
+use Rattle.plant_tables.specs.{desk_table_defs, meta_table}
+use Rattle.plant_tables_read.specs.{row_of, IsValidMeta, IsVersion}
 use Rattle.plant_tables_read.specs.declared.finding.MetaNumbers.{MetaNumbers}
 
 -- the rows that were read are the one row of a version

@@ -1,12 +1,10 @@
 -- The tables of a schema, and those that a later one adds, by what a test of each finds.
-use Rattle.std.proofs.Common.{◌≡◌, ◌∙◌, ap, sym, subst, ℕ, List, take, drop, Bool, true, false, All}
-use Rattle.std.specs.Prelude.{◌↔◌}
+use Rattle.std.proofs.Common.{◌≡◌, ◌∙◌, ap, sym, subst, ℕ, List, take, drop, Bool, true, false, All, ◌↔◌}
 use Rattle.std.proofs.lemmas.Bool.{false≢true}
 use Rattle.sqlite.specs.Schema.{Schema}
-use Rattle.sql_tables.specs.TableDefs.{TableDef}
-use Rattle.sql_tables.specs.StoredRows.{HasTable, IsFree}
-use Rattle.plant_tables.specs.DeskTableDefs.{desk_table_defs, table_defs_of, later_table_defs}
-use Rattle.plant_tables_read.specs.Version.{HasTablesOf}
+use Rattle.sql_tables.specs.{TableDef, HasTable, IsFree}
+use Rattle.plant_tables.specs.{desk_table_defs, table_defs_of, later_table_defs}
+use Rattle.plant_tables_read.specs.{HasTablesOf}
 
 module _ (there : Schema) (schema n : ℕ) (table_defs own : List TableDef) where
   own_table_defs : table_defs ≡ desk_table_defs → own ≡ take n table_defs → take n desk_table_defs ≡ table_defs_of schema → own ≡ table_defs_of schema

@@ -1,11 +1,9 @@
 -- Lists that rise by a key: of the same rows there is one.
-use Rattle.std.proofs.Common.{◌≡◌, refl, sym, ap, ap₂, ◌∙◌, subst, inl, inr, ◌⊎◌, ℕ, suc, pos, List, [], ◌∷◌, map, filter, Bool, true, false, ◌==◌, nat_lt, is_lt, add-one, arith}
-use Rattle.std.specs.Ordering.{nat_cmp, int_cmp, ordering_reverse}
-use Rattle.std.specs.declared.cmp.Ordering.{Ordering}
-use Rattle.std.specs.declared.cmp.Ordering.TheVariants.{Less, Equal, Greater}
+use Rattle.std.proofs.Common.{◌≡◌, refl, sym, ap, ap₂, ◌∙◌, subst, inl, inr, ◌⊎◌, ℕ, suc, pos, List, [], ◌∷◌, map, filter, Bool, true, false, ◌==◌, nat_lt, is_lt, add-one, arith, nat_cmp, int_cmp, Ordering, Less, Equal, Greater, IsPermutation}
+use Rattle.std.specs.Ordering.{ordering_reverse}
 use Rattle.std.specs.Cmp.{IsTotalOrder}
 use Rattle.std.specs.List.{AllByRecursion}
-use Rattle.std.specs.List.Sorted.{IsStrictlySortedBy, IsPermutation}
+use Rattle.std.specs.List.Sorted.{IsStrictlySortedBy}
 use Rattle.std.proofs.lemmas.Bool.{false≢true}
 use Rattle.std.proofs.lemmas.Bool.Decides.{nat_tests}
 use Rattle.std.proofs.lemmas.Cmp.{tied_itself}

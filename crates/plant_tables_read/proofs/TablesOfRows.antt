@@ -1,14 +1,12 @@
 -- The rows of tables, and the tables of those rows.
-use Rattle.std.proofs.Common.{◌≡◌, refl, ap, ◌∙◌, ◌≤◌, true, List, [], ◌∷◌, map, Option, Some, is_some}
-use Rattle.std.specs.List.{AllByRecursion, filter_map, cons_option}
+use Rattle.std.proofs.Common.{◌≡◌, refl, ap, ◌∙◌, ◌≤◌, true, List, [], ◌∷◌, map, Option, Some, is_some, filter_map}
+use Rattle.std.specs.List.{AllByRecursion, cons_option}
 use Rattle.plant_base.proofs.PutKeepsOrder.{all_weaker}
-use Rattle.plant_base.specs.Content.{is_there}
+use Rattle.plant_base.specs.{is_there}
 use Rattle.plant_view.proofs.RowsInTurn.{all_mapped}
 use Rattle.plant_view.specs.Tables.{Tables}
-use Rattle.plant_tables_columns.specs.Booked.{movement_from, booked_of}
-use Rattle.plant_tables_columns.specs.StatedRecalls.{recall_from, stated_of}
-use Rattle.plant_tables_read.specs.Collecting.{tables_in, rows_in, AreWhole}
-use Rattle.plant_tables_columns.specs.ValidValues.{HasMasterLineValues, HasControlLineValues, HasMovementRowValues, HasReceiptRowValues, HasValidValues}
+use Rattle.plant_tables_columns.specs.{movement_from, booked_of, recall_from, stated_of, HasMasterLineValues, HasControlLineValues, HasMovementRowValues, HasReceiptRowValues, HasValidValues}
+use Rattle.plant_tables_read.specs.{tables_in, rows_in, AreWhole}
 use Rattle.plant_tables_columns.proofs.MovementColumns.{movement_again}
 use Rattle.plant_tables_columns.proofs.RecallColumns.{recall_again}
 use Rattle.plant_tables_columns.proofs.RowLaws.{number_low, content_there}

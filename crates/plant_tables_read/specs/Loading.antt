@@ -2,12 +2,10 @@
 use Rattle.std.specs.Prelude.{◌≡◌, ℕ, List, [], map, Some, None, slice_get, slice_index_or}
 use Rattle.sqlite.specs.Effect.{Database}
 use Rattle.sqlite.specs.Order.{Row}
-use Rattle.sql_tables.specs.TableDefs.{TableDef}
-use Rattle.sql_tables.specs.StoredRows.{Contents}
-use Rattle.sql_queries.specs.Keys.{comes_before}
-use Rattle.sql_queries.specs.Reading.{Lists}
+use Rattle.sql_tables.specs.{TableDef, Contents}
+use Rattle.sql_queries.specs.{comes_before, Lists}
 use Rattle.sql_queries.specs.Rises.{Rises}
-use Rattle.plant_tables.specs.DeskTableDefs.{table_defs_of}
+use Rattle.plant_tables.specs.{table_defs_of}
 use Rattle.plant_tables_read.specs.declared.loaded.Loaded.{Loaded}
 
 -- the table's rows are those of the list, each once, and the list rises by the key

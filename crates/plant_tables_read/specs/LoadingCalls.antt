@@ -1,11 +1,10 @@
 -- What the calls that look for the tables of a desk and read them promise, each of the store before and after it and of its result.
 use Rattle.std.specs.Prelude.{◌≡◌, ◌↔◌, ℕ, ℤ, Result, Option, IfOk, IfErr, IfSome}
 use Rattle.sqlite.specs.State.{State, HasCleanDisk, IsUnchanged}
-use Rattle.sql_tables.specs.StoredRows.{HasTable, HaveStoredRows}
-use Rattle.sql_tables.specs.{Fault}
+use Rattle.sql_tables.specs.{HasTable, HaveStoredRows, Fault}
 use Rattle.sql_tables.specs.declared.fault.Fault.TheVariants.{Memory}
-use Rattle.sql_queries.specs.Ordered.{IsRising}
-use Rattle.plant_tables.specs.DeskTableDefs.{table_defs_of, meta_table}
+use Rattle.sql_queries.specs.{IsRising}
+use Rattle.plant_tables.specs.{table_defs_of, meta_table}
 use Rattle.plant_tables_read.specs.Loading.{AreLoaded, contents_loaded}
 use Rattle.plant_tables_read.specs.Version.{IsKnown, IsVersion, HasTablesOf}
 use Rattle.plant_tables_read.specs.declared.finding.FoundTables.{FoundTables}

@@ -3,16 +3,12 @@ use Rattle.std.specs.Prelude.{◌≡◌, ℕ, Some, slice_get}
 use Rattle.sqlite.specs.Effect.{Database}
 use Rattle.plant_base.specs.{Movement, Recall}
 use Rattle.plant_view.specs.Tables.{Tables}
-use Rattle.sql_tables.specs.TableDefs.{TableDef}
-use Rattle.plant_tables.specs.DeskTableDefs.{table_defs_of}
-use Rattle.plant_tables.specs.DeskTables.{contents_of}
-use Rattle.plant_tables.specs.Keyed.{HoldsTablesOf, LacksLater}
+use Rattle.sql_tables.specs.{TableDef}
+use Rattle.plant_tables.specs.{table_defs_of, contents_of, HoldsTablesOf, LacksLater}
 use Rattle.plant_tables_read.specs.Loading.{AreLoaded, contents_loaded}
 use Rattle.plant_tables_read.specs.declared.loaded.Loaded.{Loaded}
-use Rattle.plant_tables_columns.specs.Booked.{movement_from, booked_of}
-use Rattle.plant_tables_columns.specs.StatedRecalls.{recall_from, stated_of}
+use Rattle.plant_tables_columns.specs.{movement_from, booked_of, recall_from, stated_of, HasValidValues}
 use Rattle.plant_tables_read.specs.Collecting.{Rows, rows_from, tables_in, rows_in, AreWhole, AreInOrder}
-use Rattle.plant_tables_columns.specs.ValidValues.{HasValidValues}
 
 -- Rows whose lines have numbers, whose movements have the columns of their kinds, whose receipts have contents and whose
 -- recalls have the columns of their states are the tables that were loaded.

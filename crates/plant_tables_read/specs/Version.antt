@@ -4,11 +4,10 @@ use Rattle.sqlite.specs.Effect.{Database}
 use Rattle.sqlite.specs.Order.{Row}
 use Rattle.sqlite.specs.Schema.{Schema}
 use Rattle.sqlite.specs.declared.types.Value.TheVariants.{Int}
-use Rattle.sql_queries.specs.Reading.{Lists}
-use Rattle.plant_base.specs.State.{newest_schema}
-use Rattle.plant_base.specs.Values.{greatest_moment, greatest_seq}
-use Rattle.sql_tables.specs.StoredRows.{HasTable, IsFree}
-use Rattle.plant_tables.specs.DeskTableDefs.{meta_table, table_defs_of, later_table_defs}
+use Rattle.sql_queries.specs.{Lists}
+use Rattle.plant_base.specs.{newest_schema, greatest_moment, greatest_seq}
+use Rattle.sql_tables.specs.{HasTable, IsFree}
+use Rattle.plant_tables.specs.{meta_table, table_defs_of, later_table_defs}
 use Rattle.plant_tables_read.specs.declared.finding.MetaNumbers.{MetaNumbers}
 
 -- the row of these numbers

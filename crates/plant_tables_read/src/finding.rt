@@ -1,7 +1,7 @@
 //! What a store holds of the desk.
 
-ghost use Rattle.std.specs.Prelude.{◌≡◌, ◌≢◌, ◌↔◌, ◌∷◌, [], false, true, All, None, ℤ, IfOk, IfErr, IfSome};
-ghost use Rattle.std.specs.Prelude.{is_some};
+ghost use Rattle.std.specs.Prelude.{◌≡◌, ◌≢◌, ◌↔◌, ◌∷◌, [], false, true, All, None, ℤ, IfOk, IfErr};
+ghost use Rattle.std.specs.Prelude.{IfSome, is_some};
 ghost use Rattle.std.specs.List.{list_any};
 ghost use Rattle.sqlite.specs.Does.{lacks_sequence};
 ghost use Rattle.sqlite.specs.Held.{state};
@@ -9,12 +9,13 @@ ghost use Rattle.sqlite.specs.Order.{Row as Values, column};
 ghost use Rattle.sqlite.specs.Rows.{sequence};
 ghost use Rattle.sqlite.specs.State.{HasCleanDisk, IsLive, Survives};
 ghost use Rattle.sqlite.specs.declared.types.Value.TheVariants.{Int};
-ghost use Rattle.sql_tables.specs.StoredRows.{AreFree, IsFree};
-ghost use Rattle.sql_queries.specs.Calls.{AnswersUnchanged, BeginsNone, FindsUnchanged, KeepsVisible};
+ghost use Rattle.sql_tables.specs.{AreFree, IsFree};
+ghost use Rattle.sql_queries.specs.{AnswersUnchanged, BeginsNone, FindsUnchanged, KeepsVisible};
 ghost use Rattle.plant_tables_read.specs.Loading.{Loads};
-ghost use Rattle.plant_tables.specs.DeskTableDefs.{desk_table_defs, meta_table};
+ghost use Rattle.plant_tables.specs.{desk_table_defs, meta_table};
 ghost use Rattle.plant_tables_read.specs.Version.{row_of, IsValidMeta, IsVersion};
-ghost use Rattle.plant_tables_read.specs.LoadingCalls.{FindsVersion, FindsVersionUnchanged, WantsMeta};
+ghost use Rattle.plant_tables_read.specs.LoadingCalls.{FindsVersion, FindsVersionUnchanged};
+ghost use Rattle.plant_tables_read.specs.LoadingCalls.{WantsMeta};
 
 use crate::readings::SELECT_META;
 use plant_base::{GREATEST_MOMENT, GREATEST_SEQ};

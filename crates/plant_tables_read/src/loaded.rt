@@ -2,7 +2,7 @@ ghost use Rattle.std.specs.Prelude.{◌≡◌, ◌↔◌, ◌++◌, ◌∷◌, [
 ghost use Rattle.std.specs.Prelude.{IsOkUnless};
 ghost use Rattle.sqlite.specs.Held.{state};
 ghost use Rattle.sqlite.specs.State.{HasCleanDisk, Survives};
-ghost use Rattle.sql_queries.specs.Calls.{AnswersUnchanged, BeginsNone, FindsUnchanged, KeepsVisible};
+ghost use Rattle.sql_queries.specs.{AnswersUnchanged, BeginsNone, FindsUnchanged, KeepsVisible};
 ghost use Rattle.plant_tables_read.specs.Loading.{AreLoaded, AreRising, HasOthers, contents_loaded};
 ghost use Rattle.plant_tables_read.specs.Version.{IsKnown, HasTablesOf};
 ghost use Rattle.plant_tables_read.specs.LoadingCalls.{FindsLoaded, FindsStored, ReportsLacking};

@@ -1,21 +1,16 @@
 -- The answer to a check of a command is what the command would be answered.
-use Rattle.std.proofs.Common.{◌≡◌, ◌∙◌, Bool, true, false, Option, Some, None, refl, ap}
-use Rattle.std.specs.Prelude.{is_none}
+use Rattle.std.proofs.Common.{◌≡◌, ◌∙◌, Bool, true, false, Option, Some, None, refl, ap, is_none}
 use Rattle.std.proofs.lemmas.Bool.{false≢true}
-use Rattle.plant_base.specs.State.{State}
-use Rattle.plant_base.specs.{Envelope}
-use Rattle.plant_rules.specs.Wrong.{is_whole, wrong}
-use Rattle.plant_causes.specs.Causes.{checked}
-use Rattle.plant_causes.specs.{Checked}
+use Rattle.plant_base.specs.{State, Envelope}
+use Rattle.plant_rules.specs.{is_whole, wrong}
+use Rattle.plant_causes.specs.{checked, Checked}
 use Rattle.plant_causes.specs.declared.checking.Checked.TheVariants.{Accepted, Refused}
-use Rattle.plant_command_errors.specs.CommandErrors.{command_error_of}
-use Rattle.plant_command_errors.specs.{CommandError}
+use Rattle.plant_command_errors.specs.{command_error_of, CommandError}
 use Rattle.plant_command_errors.proofs.NoErrorIfWhole.{reported_unless_whole}
-use Rattle.plant_desk.specs.Foretold.{refusal_told, refusal_foretold}
-use Rattle.plant_desk.specs.Replies.{reply}
+use Rattle.plant_desk.specs.{refusal_told, refusal_foretold, reply}
 use Rattle.plant_desk.proofs.ChecksForetell.{checks_foretell}
-use Rattle.plant_text_checks.specs.Checks.{answer_by}
-use Rattle.plant_text.specs.Checks.{refusal_answered, AnswersForetell}
+use Rattle.plant_text_checks.specs.{answer_by}
+use Rattle.plant_text.specs.{refusal_answered, AnswersForetell}
 
 by_state : (c : Checked) → refusal_answered (answer_by None c) ≡ refusal_foretold c
 by_state Accepted = refl

@@ -1,12 +1,10 @@
 -- What is held of the coming line gives the same as the whole line.
-use Rattle.std.proofs.Common.{◌≡◌, ℕ, ◌<◌, ◌≤◌, ◌+◌, ◌-◌, List, [], ◌∷◌, ◌++◌, length, map, take, get_or, Bool, true, false, nat_lt, nat_eq, cond, refl, sym, ap, ◌∙◌, ⊎_elim, arith, length-append}
-use Rattle.std.proofs.lemmas.List.{map-append, take-append-le, take_all, length-take, length-take-le}
+use Rattle.std.proofs.Common.{◌≡◌, ℕ, ◌<◌, ◌≤◌, ◌+◌, ◌-◌, List, [], ◌∷◌, ◌++◌, length, map, take, get_or, Bool, true, false, nat_lt, nat_eq, cond, refl, sym, ap, ◌∙◌, ⊎_elim, arith, length-append, take_all, length-take, length-take-le}
+use Rattle.std.proofs.lemmas.List.{map-append, take-append-le}
 use Rattle.std.proofs.lemmas.Bool.{cases_lt}
 use Rattle.std.proofs.lemmas.Bool.Decides.{nat_tests}
 use Rattle.std.specs.Str.Lines.{strip_carriage_return}
-use Rattle.plant_text.specs.Lines.{longest_line}
-use Rattle.plant_text.specs.Session.{ended_from, part_from}
-use Rattle.plant_text.specs.HeldLines.{room, held_with, held_after, ended_after}
+use Rattle.plant_text.specs.{longest_line, ended_from, part_from, room, held_with, held_after, ended_after}
 
 pub by_bool : (P : Bool → Type 0) → P true → P false → (b : Bool) → P b
 by_bool P t f true = t

@@ -1,8 +1,8 @@
 -- What a line says, by what its bytes read as.
-use Rattle.std.proofs.Common.{◌≡◌, ℕ, ◌<◌, ◌≤◌, List, [], ◌∷◌, length, nat_lt, Bool, true, false, Option, Some, None, Result, Ok, Err, refl, cond, codes, ap, subst, arith}
+use Rattle.std.proofs.Common.{◌≡◌, ℕ, ◌<◌, ◌≤◌, List, [], ◌∷◌, length, nat_lt, Bool, true, false, Option, Some, None, Result, Ok, Err, refl, cond, codes, ap, subst, arith, is_some, IfErr, IsUtf8}
 use Rattle.std.proofs.lemmas.Bool.Decides.{nat_tests}
-use Rattle.std.specs.Prelude.{⊤, is_some, IfErr}
-use Rattle.std.specs.Str.{IsUtf8, is_utf8}
+use Rattle.std.specs.Prelude.{⊤}
+use Rattle.std.specs.Str.{is_utf8}
 use Rattle.std.proofs.lemmas.Str.{IsUtf8-from_is_utf8, is_utf8-from_IsUtf8}
 use Rattle.std.specs.Result.{result_ok}
 use Rattle.serde_json.specs.Data.{Data}
@@ -13,7 +13,7 @@ use Rattle.plant_worklists.specs.declared.list.Worklist.TheVariants as list
 use Rattle.plant_base.specs.{JobState, RecipeState}
 use Rattle.plant_messages.specs.{Question}
 use Rattle.plant_messages.specs.declared.question.Question.TheVariants as Q
-use Rattle.plant_message_schema.specs.{AskedKind, Fault, FormatError, ListKind, Member, QuestionKind}
+use Rattle.plant_message_schema.specs.{AskedKind, Fault, FormatError, ListKind, Member, QuestionKind, ◌>>=◌, Reports, IsReported, object, or_malformed, is_reported, format_error_is_reported, fields_of, exactly, Values, fields_in, may_in, list_members}
 use Rattle.plant_message_schema.specs.declared.members.Member.TheVariants as m
 use Rattle.plant_message_schema.specs.declared.members.Rule.TheVariants as rule
 use Rattle.plant_message_schema.specs.declared.words.AskedKind.TheVariants as asked
@@ -22,16 +22,11 @@ use Rattle.plant_message_schema.specs.declared.words.QuestionKind.TheVariants as
 use Rattle.plant_message_schema.specs.declared.format_errors.ShapeError.TheVariants as shape_error
 use Rattle.plant_message_schema.specs.declared.format_errors.FormatError.TheVariants as format_error
 use Rattle.plant_message_schema.specs.declared.format_errors.Fault.TheVariants as fault
-use Rattle.plant_message_schema.specs.FormatErrors.{◌>>=◌, Reports, IsReported, object, or_malformed, is_reported, format_error_is_reported}
-use Rattle.plant_message_schema.specs.Fields.{fields_of, exactly}
-use Rattle.plant_message_schema.specs.ValueLaws.{Values, fields_in, may_in}
-use Rattle.plant_message_schema.specs.Tables.{list_members}
 use Rattle.plant_message_schema.proofs.FieldsAreTyped.{Good, valid_bind, valid_map, good_object, exactly_typed, only_fails, ask_fails}
-use Rattle.plant_text_commands.specs.Checks.{check_of}
+use Rattle.plant_text_commands.specs.{check_of}
 use Rattle.plant_text_commands.proofs.ChecksAreTyped.{check_valid}
-use Rattle.plant_text.specs.Lines.{kind_at, asked_by, asked_of, value_says, longest_line, text_says, line_says, line_of}
+use Rattle.plant_text.specs.{kind_at, asked_by, asked_of, value_says, longest_line, text_says, line_says, line_of, asked_alone, one_id, id_named, node_named, recipe_in, recipe_asked, page_asked, whole_asked, recipes_asked, due_asked, ledger_asked, list_in, list_asked, question_of}
 use Rattle.plant_text.specs.declared.read.Line.{Line}
-use Rattle.plant_text.specs.Questions.{asked_alone, one_id, id_named, node_named, recipe_in, recipe_asked, page_asked, whole_asked, recipes_asked, due_asked, ledger_asked, list_in, list_asked, question_of}
 
 pub at_value : (bytes : List ℕ) (d : Data) → length bytes ≤ longest_line → IsUtf8 bytes → read bytes ≡ Some d → line_says bytes ≡ value_says d
 unfolding line_says

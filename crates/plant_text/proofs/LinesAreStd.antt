@@ -1,13 +1,13 @@
 -- The lines are std's lines of the text, but for an empty last part.
-use Rattle.std.proofs.Common.{◌≡◌, ℕ, ◌==◌, List, [], ◌∷◌, ◌++◌, length, Bool, true, false, nat_eq, cond, Option, refl, sym, ap, ◌∙◌, append_assoc, ◌||◌, subst, arith}
-use Rattle.std.proofs.lemmas.List.{append-nil, map-append}
+use Rattle.std.proofs.Common.{◌≡◌, ℕ, ◌==◌, List, [], ◌∷◌, ◌++◌, length, Bool, true, false, nat_eq, cond, Option, refl, sym, ap, ◌∙◌, append_assoc, ◌||◌, subst, arith, append-nil}
+use Rattle.std.proofs.lemmas.List.{map-append}
 use Rattle.std.proofs.lemmas.Bool.Decides.{nat_tests}
 use Rattle.std.specs.List.{slice_split, onto_first}
 use Rattle.std.specs.Io.KnownBytes.{Appends}
 use Rattle.std.specs.Str.Lines.{strip_carriage_return, lines_of_parts, lines}
-use Rattle.plant_base.specs.State.{State}
-use Rattle.plant_desk.specs.Keepers.{States}
-use Rattle.plant_text.specs.Session.{Entry, nothing, entry_of, entries, ended_from, part_from, ended_lines, all_lines, texts, some_refused, AreAnswered}
+use Rattle.plant_base.specs.{State}
+use Rattle.plant_desk.specs.{States}
+use Rattle.plant_text.specs.{Entry, nothing, entry_of, entries, ended_from, part_from, ended_lines, all_lines, texts, some_refused, AreAnswered}
 use Rattle.plant_text.proofs.HeldLine.{by_bool}
 use Rattle.plant_text.proofs.TurnEnds.{entry_empty}
 use Rattle.plant_text.proofs.TurnsInSequence.{texts-append, fold-append, some_refused-append, or_false}

@@ -1,11 +1,10 @@
 -- What a stop after a run leaves, by the law of an open keeper that a stop leaves its state and no other.
 use Rattle.std.proofs.Common.{◌≡◌, ℕ, List, Bool, false, Option, inl, inr}
-use Rattle.plant_base.specs.State.{State}
-use Rattle.plant_desk.specs.Keepers.{States}
+use Rattle.plant_base.specs.{State}
+use Rattle.plant_desk.specs.{States}
 use Rattle.plant_messages.specs.{DeskFault}
 use Rattle.plant_messages.specs.declared.reply.DeskFault.TheVariants.{Store, Memory, Shut}
-use Rattle.plant_text.specs.Session.{Entry, nothing, bad, command, question, check, after, fold, CrashStatesOfFault, StopsAt, RunStopped, StoppedAmong, EndsWithin}
-use Rattle.plant_text.specs.CrashStates.{CrashStatesAtFault, CrashStatesAtStop, CrashStatesAfterSome, CrashStatesAmong, CrashStatesOfRun}
+use Rattle.plant_text.specs.{Entry, nothing, bad, command, question, check, after, fold, CrashStatesOfFault, StopsAt, RunStopped, StoppedAmong, EndsWithin, CrashStatesAtFault, CrashStatesAtStop, CrashStatesAfterSome, CrashStatesAmong, CrashStatesOfRun}
 use Rattle.plant_text.specs.declared.run.RunEnd.{RunEnd}
 use Rattle.plant_text.specs.declared.run.RunEnd.TheVariants as E
 use Rattle.plant_text.specs.declared.turns.TurnError.{TurnError}

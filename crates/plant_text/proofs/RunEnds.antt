@@ -2,18 +2,15 @@
 use Rattle.std.proofs.Common.{◌≡◌, ℕ, ◌<◌, length, List, [], ◌∷◌, ◌++◌, Bool, false, Option, sym, ap, ◌∙◌, subst, inl, inr}
 use Rattle.std.proofs.lemmas.List.{map-append}
 use Rattle.std.specs.Io.KnownBytes.{IsAtEnd}
-use Rattle.plant_base.specs.State.{State}
-use Rattle.plant_desk.specs.Keepers.{States}
+use Rattle.plant_base.specs.{State}
+use Rattle.plant_desk.specs.{States}
 use Rattle.plant_text.specs.declared.turns.TurnError.{TurnError}
 use Rattle.plant_text.specs.declared.turns.TurnError.TheVariants as S
-use Rattle.plant_text.specs.Session.{Entry, fold, AreAnswered, RunStopped, EndsWithin, nothing, entry_of, entries, ended_lines, all_lines, part_from}
-use Rattle.plant_text.specs.Turns.{LastEnds, end_of}
+use Rattle.plant_text.specs.{Entry, fold, AreAnswered, RunStopped, EndsWithin, nothing, entry_of, entries, ended_lines, all_lines, part_from, LastEnds, end_of, held_after, entries_after, longest_line}
 use Rattle.plant_text.specs.declared.run.RunEnd.{RunEnd}
 use Rattle.plant_text.specs.declared.run.RunEnd.TheVariants as E
-use Rattle.plant_text.specs.HeldLines.{held_after, entries_after}
 use Rattle.plant_text.proofs.HeldLine.{each-prefix, last_as_whole}
 use Rattle.std.specs.Str.Lines.{lines}
-use Rattle.plant_text.specs.Lines.{longest_line}
 use Rattle.plant_text.proofs.TurnEnds.{entry_long}
 use Rattle.plant_text.proofs.TurnsInSequence.{reported_more, reported_stops}
 use Rattle.plant_text.proofs.LinesAreStd.{reported_lines}

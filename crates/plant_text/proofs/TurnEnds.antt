@@ -1,28 +1,20 @@
 -- How the turn of one entry ends.
-use Rattle.std.proofs.Common.{◌≡◌, ℕ, ◌<◌, List, length, Bool, false, nat_eq, Option, Result, Ok, Err, refl, sym, subst, ap, inl, inr, arith}
+use Rattle.std.proofs.Common.{◌≡◌, ℕ, ◌<◌, List, length, Bool, false, nat_eq, Option, Result, Ok, Err, refl, sym, subst, ap, inl, inr, arith, IfErr, IfOk, IsErrAnd}
 use Rattle.std.proofs.lemmas.Bool.Decides.{nat_tests}
 use Rattle.std.specs.Io.KnownBytes.{Appends}
 use Rattle.plant_text.proofs.KnownBytes.{Appends-nil}
 use Rattle.plant_text.proofs.LineSays.{line_long}
-use Rattle.plant_base.specs.State.{State}
-use Rattle.plant_desk.specs.Keepers.{States, Executes, Asks, shuts}
-use Rattle.plant_base.specs.{Envelope}
+use Rattle.plant_base.specs.{State, Envelope}
+use Rattle.plant_desk.specs.{States, Executes, Asks, shuts}
 use Rattle.plant_messages.specs.{Answer, DeskFault, Question}
 use Rattle.plant_messages.specs.declared.reply.DeskFault.TheVariants.{Store, Memory, Shut}
-use Rattle.plant_text.specs.Lines.{longest_line, line_of}
-use Rattle.plant_text_answers.specs.Replies.{fault_text}
+use Rattle.plant_text.specs.{longest_line, line_of, ChecksAs, Entry, nothing, bad, command, question, check, entry_of, entry_where, entry_text, after, is_unknown, CrashStatesOfFault, StopsAt, with_lf, AppendsPrefix, TurnEnds, FaultWritten, AnswerWritten, BadWritten}
+use Rattle.plant_text_answers.specs.{fault_text, text_of_answer}
 use Rattle.plant_text.specs.declared.read.Line.{Line}
 use Rattle.plant_text.specs.declared.turns.TurnError.{TurnError}
 use Rattle.plant_text.specs.declared.turns.TurnError.TheVariants as S
-use Rattle.plant_text.specs.Checks.{ChecksAs}
-use Rattle.plant_text.specs.Session.{Entry, nothing, bad, command, question, check, entry_of, entry_where, entry_text, after, is_unknown, CrashStatesOfFault, StopsAt}
-use Rattle.plant_text.specs.Writes.{with_lf, AppendsPrefix}
-use Rattle.plant_text.specs.Turns.{TurnEnds, FaultWritten, AnswerWritten, BadWritten}
-use Rattle.plant_text_answers.specs.Answers.{text_of_answer}
-use Rattle.plant_text_checks.specs.Answers.{check_text}
-use Rattle.plant_text_checks.specs.{CheckAnswer}
+use Rattle.plant_text_checks.specs.{check_text, CheckAnswer}
 use Rattle.plant_text_commands.specs.{ToCheck}
-use Rattle.std.specs.Prelude.{IfErr, IfOk, IsErrAnd}
 
 pub stops_by_fault : (k : ℕ) (s : State) (e : Entry) (old new : Option (List ℕ)) (represents : States) (shut : Bool) (crash_states : States → Type 0) (f : DeskFault) (stop : TurnError)
     → FaultWritten f old new stop → CrashStatesOfFault f s e represents shut crash_states → StopsAt k s e old new represents shut crash_states stop

@@ -1,15 +1,12 @@
 -- Turns, one after the other.
-use Rattle.std.proofs.Common.{◌≡◌, ℕ, List, [], ◌∷◌, ◌++◌, Bool, true, false, ◌||◌, Option, Err, refl, sym, ap, ◌∙◌, subst, append_assoc}
-use Rattle.std.proofs.lemmas.List.{append-nil}
+use Rattle.std.proofs.Common.{◌≡◌, ℕ, List, [], ◌∷◌, ◌++◌, Bool, true, false, ◌||◌, Option, Err, refl, sym, ap, ◌∙◌, subst, append_assoc, append-nil}
 use Rattle.std.proofs.Math.Bool.{or_assoc}
-use Rattle.plant_base.specs.State.{State}
-use Rattle.plant_desk.specs.Keepers.{States}
+use Rattle.plant_base.specs.{State}
+use Rattle.plant_desk.specs.{States}
 use Rattle.plant_text.specs.declared.turns.TurnError.{TurnError}
-use Rattle.plant_text.specs.Session.{entry_of, Entry, entry_text, after, is_refused, texts, fold, some_refused, AreAnswered, StopsAt, RunStopped}
-use Rattle.plant_text.specs.Turns.{TurnEnds, FaultWritten}
+use Rattle.plant_text.specs.{entry_of, Entry, entry_text, after, is_refused, texts, fold, some_refused, AreAnswered, StopsAt, RunStopped, TurnEnds, FaultWritten, held_after, entries_after}
 use Rattle.plant_messages.specs.declared.reply.DeskFault.TheVariants.{Memory}
 use Rattle.plant_text.proofs.KnownBytes.{Appends-nil, Appends-append}
-use Rattle.plant_text.specs.HeldLines.{held_after, entries_after}
 use Rattle.plant_text.proofs.HeldLine.{each-append}
 use Rattle.plant_text.proofs.TurnEnds.{stops_by_fault}
 

@@ -1,18 +1,14 @@
 -- What comes of a check at a keeper, and that its answer is what the command would be answered.
 use Rattle.std.specs.Prelude.{◌≡◌, ⊤, Option, Some, None, Result, Ok, Err}
-use Rattle.plant_base.specs.State.{State}
-use Rattle.plant_base.specs.{Envelope, Refusal}
+use Rattle.plant_base.specs.{State, Envelope, Refusal}
 use Rattle.plant_base.specs.declared.refusal.Refusal.TheVariants.{BadForm}
-use Rattle.plant_desk.specs.Foretold.{refusal_told}
-use Rattle.plant_desk.specs.Keepers.{States}
-use Rattle.plant_desk.specs.Replies.{reply}
+use Rattle.plant_desk.specs.{refusal_told, States, reply}
 use Rattle.plant_messages.specs.{DeskFault}
 use Rattle.plant_messages.specs.declared.reply.DeskFault.TheVariants.{Store, Memory, Shut}
 use Rattle.plant_command_errors.specs.declared.reason.Reason.TheVariants as reason
 use Rattle.plant_text_commands.specs.{ToCheck}
 use Rattle.plant_text_commands.specs.declared.checks.ToCheck.TheVariants as to_check
-use Rattle.plant_text_checks.specs.Checks.{check_answer}
-use Rattle.plant_text_checks.specs.{CheckAnswer}
+use Rattle.plant_text_checks.specs.{check_answer, CheckAnswer}
 use Rattle.plant_text_checks.specs.declared.answers.CheckAnswer.TheVariants as answer
 
 -- what is to be checked is a command; else no keeper is asked

@@ -6,15 +6,11 @@ use Rattle.serde_json.specs.Data.{Data}
 use Rattle.serde_json.specs.Find.{get, as_object, as_str}
 use Rattle.serde_json.specs.Read.{read}
 use Rattle.plant_message_schema.specs.declared.format_errors.ShapeError.TheVariants as shape_error
-use Rattle.plant_message_schema.specs.{AskedKind, FormatError}
+use Rattle.plant_message_schema.specs.{AskedKind, FormatError, asked_kind, fields_of, ◌>>=◌, object}
 use Rattle.plant_message_schema.specs.declared.format_errors.FormatError.TheVariants as format_error
 use Rattle.plant_message_schema.specs.declared.members.Member.TheVariants as m
 use Rattle.plant_message_schema.specs.declared.words.AskedKind.TheVariants as asked
-use Rattle.plant_message_schema.specs.Words.{asked_kind}
-use Rattle.plant_message_schema.specs.Fields.{fields_of}
-use Rattle.plant_message_schema.specs.FormatErrors.{◌>>=◌, object}
-use Rattle.plant_text_commands.specs.Checks.{check_of}
-use Rattle.plant_text_commands.specs.Commands.{command_of}
+use Rattle.plant_text_commands.specs.{check_of, command_of}
 use Rattle.plant_text.specs.declared.read.Line.{Line}
 use Rattle.plant_text.specs.declared.read.Line.TheVariants as L
 use Rattle.plant_text.specs.Questions.{question_of}

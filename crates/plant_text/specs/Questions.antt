@@ -9,16 +9,13 @@ use Rattle.plant_worklists.specs.{DueCursor, HoldCursor, MovementCursor, RecipeC
 use Rattle.plant_worklists.specs.declared.list.Worklist.TheVariants as list
 use Rattle.plant_messages.specs.{Question}
 use Rattle.plant_messages.specs.declared.question.Question.TheVariants as Q
-use Rattle.plant_message_schema.specs.{Field, FormatError, ListKind, Member, QuestionKind}
+use Rattle.plant_message_schema.specs.{Field, FormatError, ListKind, Member, QuestionKind, ◌>>=◌, object, or_malformed, exactly, list_members}
 use Rattle.plant_message_schema.specs.declared.members.Member.TheVariants as m
 use Rattle.plant_message_schema.specs.declared.words.ListKind.TheVariants as k
 use Rattle.plant_message_schema.specs.declared.words.QuestionKind.TheVariants as q
 use Rattle.plant_message_schema.specs.declared.fields.Field.TheVariants as field
 use Rattle.plant_message_schema.specs.declared.format_errors.ShapeError.TheVariants as shape_error
 use Rattle.plant_message_schema.specs.declared.format_errors.FormatError.TheVariants as format_error
-use Rattle.plant_message_schema.specs.FormatErrors.{◌>>=◌, object, or_malformed}
-use Rattle.plant_message_schema.specs.Fields.{exactly}
-use Rattle.plant_message_schema.specs.Tables.{list_members}
 
 -- a question that names nothing
 abbrev pub asked_alone : Question → Data → Result Question FormatError

@@ -2,22 +2,18 @@
 use Rattle.std.specs.Prelude.{◌≡◌, ℕ, ◌≤◌, ◌==◌, ◌||◌, List, [], ◌∷◌, ◌++◌, length, map, Bool, true, false, if◌then◌else◌, Option, Some, None, ◌⊎◌}
 use Rattle.std.specs.Str.Lines.{strip_carriage_return, lines}
 use Rattle.std.specs.Io.KnownBytes.{Appends, IsAtEnd}
-use Rattle.plant_base.specs.State.{State}
-use Rattle.plant_base.specs.{Envelope}
+use Rattle.plant_base.specs.{State, Envelope}
 use Rattle.plant_base.specs.declared.refusal.Refusal.TheVariants.{BadForm}
-use Rattle.plant_rules.specs.Step.{step}
-use Rattle.plant_desk.specs.Replies.{reply}
-use Rattle.plant_answers.specs.Answers.{answer}
-use Rattle.plant_desk.specs.Keepers.{States}
+use Rattle.plant_rules.specs.{step}
+use Rattle.plant_desk.specs.{reply, States}
+use Rattle.plant_answers.specs.{answer}
 use Rattle.plant_messages.specs.{Answer, DeskFault, Question, Reply}
 use Rattle.plant_messages.specs.declared.question.Answer.TheVariants as A
 use Rattle.plant_messages.specs.declared.reply.Reply.TheVariants.{Accepted, Refused}
 use Rattle.plant_messages.specs.declared.reply.DeskFault.TheVariants.{Store, Memory, Shut}
 use Rattle.plant_text.specs.Lines.{line_of}
-use Rattle.plant_text_answers.specs.Replies.{reply_text, fault_text}
-use Rattle.plant_text_answers.specs.Answers.{text_of_answer}
-use Rattle.plant_text_checks.specs.Answers.{check_text}
-use Rattle.plant_text_checks.specs.Checks.{check_answer}
+use Rattle.plant_text_answers.specs.{reply_text, fault_text, text_of_answer}
+use Rattle.plant_text_checks.specs.{check_text, check_answer}
 use Rattle.plant_text_commands.specs.{ToCheck}
 use Rattle.plant_text.specs.Checks.{IsCommand}
 use Rattle.plant_text.specs.Writes.{with_lf, AppendsPrefix}

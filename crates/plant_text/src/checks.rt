@@ -1,7 +1,7 @@
 //! A check, answered by a keeper, and the law of its answer.
 ghost use Rattle.std.specs.Prelude.{◌≡◌, true, false};
-ghost use Rattle.plant_base.specs.State.{State};
-ghost use Rattle.plant_desk.specs.Keepers.{IsSameDesk};
+ghost use Rattle.plant_base.specs.{State};
+ghost use Rattle.plant_desk.specs.{IsSameDesk};
 ghost use Rattle.plant_text.specs.Checks.{ChecksAs, AnswersForetell, check_when_shut};
 
 use plant_command_errors::Reason;

@@ -1,10 +1,13 @@
 //! Questions as JSON: which objects with the word of a question are one, and what is wrong with the others.
 ghost use Rattle.std.specs.Prelude.{◌≡◌, true, IfErr};
 ghost use Rattle.serde_json.specs.View.{view};
-ghost use Rattle.plant_message_schema.specs.FormatErrors.{format_error_is_reported};
-ghost use Rattle.plant_text.specs.Questions.{asked_alone, id_named, node_named, definition_asked, lines_asked, recipe_in, recipe_asked, trace_of, edges_of};
-ghost use Rattle.plant_text.specs.Questions.{cursor_in, whole_list, list_of, list_in, hold_cursor_in, whole_asked};
-ghost use Rattle.plant_text.specs.Questions.{recipe_cursor_in, due_cursor_in, movement_cursor_in, number_in, recipes_asked, due_asked, ledger_asked, of_asked};
+ghost use Rattle.plant_message_schema.specs.{format_error_is_reported};
+ghost use Rattle.plant_text.specs.Questions.{asked_alone, id_named, node_named, definition_asked};
+ghost use Rattle.plant_text.specs.Questions.{lines_asked, recipe_in, recipe_asked, trace_of};
+ghost use Rattle.plant_text.specs.Questions.{edges_of, cursor_in, whole_list, list_of, list_in};
+ghost use Rattle.plant_text.specs.Questions.{hold_cursor_in, whole_asked, recipe_cursor_in};
+ghost use Rattle.plant_text.specs.Questions.{due_cursor_in, movement_cursor_in, number_in};
+ghost use Rattle.plant_text.specs.Questions.{recipes_asked, due_asked, ledger_asked, of_asked};
 ghost use Rattle.plant_text.specs.Questions.{list_asked, question_of};
 
 use plant_base::Id;

@@ -2,10 +2,10 @@
 ghost use Rattle.std.specs.Prelude.{◌≡◌, ◌<◌, length, true, false, Some, None, Err, IfOk, IsErrOf};
 ghost use Rattle.serde_json.specs.Errors.{IsMemory};
 ghost use Rattle.serde_json.specs.View.{view};
-ghost use Rattle.plant_message_schema.specs.FormatErrors.{Reports, IsReported};
+ghost use Rattle.plant_message_schema.specs.{Reports, IsReported};
 ghost use Rattle.plant_message_schema.specs.declared.format_errors.FormatError.TheVariants as format_error;
-ghost use Rattle.plant_text.specs.Lines.{longest_line, kind_at, asked_of, object_says, value_says, line_says};
-ghost use Rattle.plant_text.specs.Lines.{line_of};
+ghost use Rattle.plant_text.specs.Lines.{longest_line, kind_at, asked_of, object_says, value_says};
+ghost use Rattle.plant_text.specs.Lines.{line_says, line_of};
 
 use crate::questions::question_of;
 use plant_base::Envelope;

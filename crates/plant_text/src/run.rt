@@ -2,8 +2,8 @@
 ghost use Rattle.std.specs.Prelude.{◌≡◌, ℕ, ◌<◌, List, [], ◌∷◌, length, false, OnOk, IfErr};
 ghost use Rattle.std.specs.Str.Lines.{strip_carriage_return};
 ghost use Rattle.std.specs.Io.KnownBytes.{Consumes};
-ghost use Rattle.plant_base.specs.State.{State};
-ghost use Rattle.plant_desk.specs.Keepers.{IsSameDesk};
+ghost use Rattle.plant_base.specs.{State};
+ghost use Rattle.plant_desk.specs.{IsSameDesk};
 ghost use Rattle.plant_text.specs.Session.{Ends, EndsWithin, entry_of};
 ghost use Rattle.plant_text.specs.CrashStates.{CrashStatesOfRun};
 ghost use Rattle.plant_text.specs.Turns.{PieceEnds, LastEnds, FaultWritten, end_of};

@@ -1,11 +1,13 @@
 //! One line: what it says, what the keeper does, what is written.
-ghost use Rattle.std.specs.Prelude.{◌≡◌, ℕ, Bool, List, false, string_bytes, IfErr, IfOk, IsErrAnd, OnOk};
-ghost use Rattle.plant_base.specs.State.{State};
-ghost use Rattle.plant_desk.specs.Keepers.{IsSameDesk};
-ghost use Rattle.plant_text.specs.Session.{entry_of, is_refusal, is_unknown, command as command_entry};
-ghost use Rattle.plant_text.specs.Session.{question as question_entry, check as check_entry};
-ghost use Rattle.plant_text_answers.specs.Answers.{text_of_answer};
-ghost use Rattle.plant_text_checks.specs.Answers.{check_text};
+ghost use Rattle.std.specs.Prelude.{◌≡◌, ℕ, Bool, List, false, string_bytes, IfErr, IfOk, IsErrAnd};
+ghost use Rattle.std.specs.Prelude.{OnOk};
+ghost use Rattle.plant_base.specs.{State};
+ghost use Rattle.plant_desk.specs.{IsSameDesk};
+ghost use Rattle.plant_text.specs.Session.{entry_of, is_refusal, is_unknown};
+ghost use Rattle.plant_text.specs.Session.{command as command_entry, question as question_entry};
+ghost use Rattle.plant_text.specs.Session.{check as check_entry};
+ghost use Rattle.plant_text_answers.specs.{text_of_answer};
+ghost use Rattle.plant_text_checks.specs.{check_text};
 ghost use Rattle.plant_text.specs.Turns.{TurnEnds, FaultWritten, AnswerWritten, BadWritten};
 
 use crate::checks::answer_check;

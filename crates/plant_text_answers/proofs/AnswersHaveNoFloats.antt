@@ -5,23 +5,15 @@ use Rattle.serde_json.specs.declared.value.Value.{Value}
 use Rattle.serde_json.specs.View.{items_of, view}
 use Rattle.serde_json.specs.Written.{has_float, items_have_float, compact_text}
 use Rattle.plant_base.specs.{Lifting, Movement, Recall, RecipeLine}
-use Rattle.plant_view.specs.Genealogy.{batch_by, ends_of}
+use Rattle.plant_view.specs.{batch_by, ends_of}
 use Rattle.plant_messages.specs.{BatchLines, BatchView, BookedEdge, BookedLine, Booking, CommandHead, Genealogy, Listed, LotAnswer, NodeAnswer, OpenBatch, OrderAnswer, RecallAnswer, RecipeAnswer, StandingLot}
 use Rattle.plant_messages.specs.declared.genealogy.NodeAnswer.TheVariants as known
 use Rattle.plant_messages.specs.declared.listed.Listed.TheVariants as listed
 use Rattle.plant_base.specs.declared.rows.RecipeLine.TheVariants as line
-use Rattle.plant_text_answers.specs.BatchAnswers.{booking_data, batch_data}
+use Rattle.plant_text_answers.specs.{booking_data, batch_data, recall_data, node_item, edge_item, genealogy_data, node_data, trace_data, order_data, lot_data, standing_data, stands_data, order_item, batch_item, lot_item, hold_item, all_holds_item, recall_item, lifting_or_null, lifted_item, command_data, command_item, class_item, definition_item, recipe_item, movement_item, other_sub, listed_data, id_or_null, unit_or_null, number_or_null, sublot_data, recipe_line_data, recipe_line_item, booked_line_data, booked_line_item, recipe_data, batch_lines_data}
 use Rattle.plant_trace.specs.{Node}
 use Rattle.plant_trace.specs.declared.node.Node.TheVariants.{Lot, Batch}
-use Rattle.plant_text_answers.specs.RecallAnswers.{recall_data}
-use Rattle.plant_text_answers.specs.EdgeAnswers.{node_item, edge_item, genealogy_data}
-use Rattle.plant_text_answers.specs.TraceAnswers.{node_data, trace_data}
-use Rattle.plant_text_answers.specs.Answers.{order_data}
-use Rattle.plant_text_answers.specs.LotAnswers.{lot_data, standing_data, stands_data}
-use Rattle.plant_text_answers.specs.ListAnswers.{order_item, batch_item, lot_item, hold_item, all_holds_item, recall_item, lifting_or_null, lifted_item, command_data, command_item, class_item, definition_item, recipe_item, movement_item, other_sub, listed_data}
-use Rattle.plant_worklists.specs.Worklists.{other_lot}
-use Rattle.plant_text_answers.specs.Parts.{id_or_null, unit_or_null, number_or_null, sublot_data}
-use Rattle.plant_text_answers.specs.RecipeAnswers.{recipe_line_data, recipe_line_item, booked_line_data, booked_line_item, recipe_data, batch_lines_data}
+use Rattle.plant_worklists.specs.{other_lot}
 use Rattle.std.proofs.lemmas.Result.{IfOk-weaker}
 
 -- the text of a value that shows this

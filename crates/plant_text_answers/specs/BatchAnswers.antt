@@ -2,9 +2,8 @@
 use Rattle.std.specs.Prelude.{Bool, true, false, if◌then◌else◌, List, map, codes}
 use Rattle.serde_json.specs.Data.{Data, Items, boolean, string, array, object, member, no_members}
 use Rattle.serde_json.specs.View.{items_of}
-use Rattle.plant_base.specs.Words.{batch_state_name}
-use Rattle.plant_messages.specs.{BatchView, Booking}
-use Rattle.plant_messages.specs.Phases.{phases_in}
+use Rattle.plant_base.specs.{batch_state_name}
+use Rattle.plant_messages.specs.{BatchView, Booking, phases_in}
 use Rattle.plant_text_answers.specs.Natural.{natural}
 
 -- what a batch took, with the sublot

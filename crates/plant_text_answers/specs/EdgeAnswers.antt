@@ -2,7 +2,7 @@
 use Rattle.std.specs.Prelude.{ℕ, List, codes}
 use Rattle.serde_json.specs.Data.{Data, boolean, string, object, member, no_members}
 use Rattle.plant_trace.specs.declared.node.Node.TheVariants.{Batch}
-use Rattle.plant_view.specs.Genealogy.{ends_of}
+use Rattle.plant_view.specs.{ends_of}
 use Rattle.plant_messages.specs.{BookedEdge, Genealogy, LotNode, NodeAnswer}
 use Rattle.plant_messages.specs.declared.genealogy.NodeAnswer.TheVariants as known
 use Rattle.plant_text_answers.specs.ListAnswers.{rows_data}

@@ -2,12 +2,10 @@
 use Rattle.std.specs.Prelude.{ℕ, List, Option, Some, None, map, codes}
 use Rattle.serde_json.specs.Data.{Data, null, boolean, string, array, object, member, no_members}
 use Rattle.serde_json.specs.View.{items_of}
-use Rattle.plant_base.specs.Words.{batch_state_name}
-use Rattle.plant_base.specs.{Class, Definition, Hold, Job, Lifting, Movement, MovementKind, Recall, Recipe}
+use Rattle.plant_base.specs.{batch_state_name, Class, Definition, Hold, Job, Lifting, Movement, MovementKind, Recall, Recipe}
 use Rattle.plant_base.specs.declared.rows.MovementKind.TheVariants as kind
-use Rattle.plant_view.specs.Genealogy.{batch_by}
-use Rattle.plant_worklists.specs.Worklists.{other_lot}
-use Rattle.plant_worklists.specs.{Page}
+use Rattle.plant_view.specs.{batch_by}
+use Rattle.plant_worklists.specs.{other_lot, Page}
 use Rattle.plant_messages.specs.{BookedCommand, CommandHead, Listed, LotPage, OpenBatch, StandingLot}
 use Rattle.plant_messages.specs.declared.listed.Listed.TheVariants as listed
 use Rattle.plant_text_answers.specs.Natural.{natural}

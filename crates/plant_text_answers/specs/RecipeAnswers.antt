@@ -1,8 +1,7 @@
 -- The JSON trees of answers about definitions, recipes and the control recipes of batches.
 use Rattle.std.specs.Prelude.{ℕ, List, Option, codes}
 use Rattle.serde_json.specs.Data.{Data, string, object, member, no_members}
-use Rattle.plant_base.specs.Words.{recipe_state_name}
-use Rattle.plant_base.specs.{Definition, RecipeLine}
+use Rattle.plant_base.specs.{recipe_state_name, Definition, RecipeLine}
 use Rattle.plant_base.specs.declared.rows.RecipeLine.TheVariants as line
 use Rattle.plant_messages.specs.{BatchLines, BookedLine, RecipeAnswer, RecipeLineAnswer}
 use Rattle.plant_text_answers.specs.ListAnswers.{rows_data}

@@ -1,9 +1,7 @@
 -- The texts of replies and faults: JSON with no blanks, the members by the bytes of their names.
 use Rattle.std.specs.Prelude.{ℕ, List, ◌++◌, codes, decimal}
-use Rattle.plant_base.specs.Refusals.{number_of, name_of}
-use Rattle.plant_base.specs.{Refusal}
-use Rattle.plant_messages.specs.Faults.{fault_number}
-use Rattle.plant_messages.specs.{DeskFault, Reply}
+use Rattle.plant_base.specs.{number_of, name_of, Refusal}
+use Rattle.plant_messages.specs.{fault_number, DeskFault, Reply}
 use Rattle.plant_messages.specs.declared.reply.Reply.TheVariants.{Accepted, Refused}
 
 abbrev pub accepted_text : ℕ → List ℕ

@@ -1,7 +1,8 @@
 //! The texts of answers.
 ghost use Rattle.std.specs.Prelude.{◌≡◌, IfOk, string_bytes};
 ghost use Rattle.serde_json.specs.View.{view};
-ghost use Rattle.plant_text_answers.specs.Answers.{desk_data, moment_data, order_data, text_of_answer};
+ghost use Rattle.plant_text_answers.specs.Answers.{desk_data, moment_data, order_data};
+ghost use Rattle.plant_text_answers.specs.Answers.{text_of_answer};
 
 use crate::batch_answers::batch_value;
 use crate::edge_answers::genealogy_value;

@@ -2,8 +2,8 @@
 ghost use Rattle.std.specs.Prelude.{◌≡◌, IfOk};
 ghost use Rattle.serde_json.specs.Data.{array};
 ghost use Rattle.serde_json.specs.View.{view};
-ghost use Rattle.plant_text_answers.specs.BatchAnswers.{consumed_data, produced_data, booking_data, bookings_data};
-ghost use Rattle.plant_text_answers.specs.BatchAnswers.{batch_data};
+ghost use Rattle.plant_text_answers.specs.BatchAnswers.{consumed_data, produced_data, booking_data};
+ghost use Rattle.plant_text_answers.specs.BatchAnswers.{bookings_data, batch_data};
 
 use plant_messages::{BatchView, Booking, phases_in};
 use serde_json::{Value, json};

@@ -1,7 +1,8 @@
 //! The texts of the genealogy around a lot or batch.
 ghost use Rattle.std.specs.Prelude.{◌≡◌, IfOk};
 ghost use Rattle.serde_json.specs.View.{view};
-ghost use Rattle.plant_text_answers.specs.EdgeAnswers.{edge_item, genealogy_data, lot_node_data, node_item};
+ghost use Rattle.plant_text_answers.specs.EdgeAnswers.{edge_item, genealogy_data, lot_node_data};
+ghost use Rattle.plant_text_answers.specs.EdgeAnswers.{node_item};
 
 use crate::list_answers::rows_value;
 use crate::listed_rows::Shown;

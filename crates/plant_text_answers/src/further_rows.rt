@@ -2,7 +2,8 @@
 ghost use Rattle.std.specs.Prelude.{◌≡◌, IfOk};
 ghost use Rattle.serde_json.specs.View.{view};
 ghost use Rattle.plant_text_answers.specs.ListAnswers.{rows_data, all_holds_item, all_holds_data};
-ghost use Rattle.plant_text_answers.specs.ListAnswers.{lifting_data, lifting_or_null, lifted_item, lifted_data};
+ghost use Rattle.plant_text_answers.specs.ListAnswers.{lifting_data, lifting_or_null, lifted_item};
+ghost use Rattle.plant_text_answers.specs.ListAnswers.{lifted_data};
 
 use plant_base::{Hold, Lifting, Recall};
 use plant_worklists::Page;

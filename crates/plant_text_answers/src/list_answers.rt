@@ -2,8 +2,10 @@
 ghost use Rattle.std.specs.Prelude.{◌≡◌, map, IfOk};
 ghost use Rattle.serde_json.specs.Data.{array};
 ghost use Rattle.serde_json.specs.View.{view, items_of};
-ghost use Rattle.plant_text_answers.specs.ListAnswers.{orders_data, batches_data, lots_data, holds_data, recalls_data, commands_data, classes_data};
-ghost use Rattle.plant_text_answers.specs.ListAnswers.{definitions_data, recipes_data, ledger_data, listed_data};
+ghost use Rattle.plant_text_answers.specs.ListAnswers.{orders_data, batches_data, lots_data};
+ghost use Rattle.plant_text_answers.specs.ListAnswers.{holds_data, recalls_data, commands_data};
+ghost use Rattle.plant_text_answers.specs.ListAnswers.{classes_data, definitions_data};
+ghost use Rattle.plant_text_answers.specs.ListAnswers.{recipes_data, ledger_data, listed_data};
 
 use crate::further_rows::{all_holds_value, lifted_value};
 use crate::listed_rows::Shown;

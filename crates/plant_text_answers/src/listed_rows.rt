@@ -1,8 +1,10 @@
 //! What is shown of a row in a page of a worklist.
 ghost use Rattle.std.specs.Prelude.{◌≡◌};
-ghost use Rattle.plant_view.specs.Genealogy.{batch_by};
-ghost use Rattle.plant_text_answers.specs.ListAnswers.{order_item, batch_item, lot_item, hold_item, recall_item, class_item, definition_item};
-ghost use Rattle.plant_text_answers.specs.ListAnswers.{recipe_item, movement_item, movement_kind_name, other_sub};
+ghost use Rattle.plant_view.specs.{batch_by};
+ghost use Rattle.plant_text_answers.specs.ListAnswers.{order_item, batch_item, lot_item, hold_item};
+ghost use Rattle.plant_text_answers.specs.ListAnswers.{recall_item, class_item, definition_item};
+ghost use Rattle.plant_text_answers.specs.ListAnswers.{recipe_item, movement_item};
+ghost use Rattle.plant_text_answers.specs.ListAnswers.{movement_kind_name, other_sub};
 
 use crate::list_answers::rows_value;
 use crate::parts::{id_value, number_value};

@@ -1,7 +1,8 @@
 //! Values that several answers have.
 ghost use Rattle.std.specs.Prelude.{◌≡◌, IfOk};
 ghost use Rattle.serde_json.specs.View.{view};
-ghost use Rattle.plant_text_answers.specs.Parts.{sublot_data, id_or_null, unit_or_null, number_or_null};
+ghost use Rattle.plant_text_answers.specs.Parts.{sublot_data, id_or_null, unit_or_null};
+ghost use Rattle.plant_text_answers.specs.Parts.{number_or_null};
 
 use crate::listed_rows::Shown;
 use plant_base::{Id, Sublot, Unit};

@@ -1,8 +1,10 @@
 //! The texts of answers about definitions, recipes and the control recipes of batches.
 ghost use Rattle.std.specs.Prelude.{◌≡◌, IfOk};
 ghost use Rattle.serde_json.specs.View.{view};
-ghost use Rattle.plant_text_answers.specs.RecipeAnswers.{definition_data, material_data, booked_data, parameter_data, phase_data};
-ghost use Rattle.plant_text_answers.specs.RecipeAnswers.{recipe_line_item, booked_line_item, recipe_data, batch_lines_data};
+ghost use Rattle.plant_text_answers.specs.RecipeAnswers.{definition_data, material_data};
+ghost use Rattle.plant_text_answers.specs.RecipeAnswers.{booked_data, parameter_data, phase_data};
+ghost use Rattle.plant_text_answers.specs.RecipeAnswers.{recipe_line_item, booked_line_item};
+ghost use Rattle.plant_text_answers.specs.RecipeAnswers.{recipe_data, batch_lines_data};
 
 use crate::list_answers::rows_value;
 use crate::listed_rows::Shown;

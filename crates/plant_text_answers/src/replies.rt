@@ -1,6 +1,7 @@
 //! The texts of replies and faults, in a room of fixed size.
 ghost use Rattle.std.specs.Prelude.{◌≡◌, ◌+◌, ◌≤◌, ◌++◌, [], length, decimal};
-ghost use Rattle.plant_text_answers.specs.Replies.{reply_text, fault_text, refusal_text, accepted_text};
+ghost use Rattle.plant_text_answers.specs.Replies.{reply_text, fault_text, refusal_text};
+ghost use Rattle.plant_text_answers.specs.Replies.{accepted_text};
 
 use arrayvec::ArrayString;
 use itoa::Buffer;

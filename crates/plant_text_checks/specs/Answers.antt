@@ -2,12 +2,10 @@
 use Rattle.std.specs.Prelude.{ℕ, List, true, false, codes, Option, Some, None}
 use Rattle.serde_json.specs.Data.{Data, boolean, string, object, member, no_members}
 use Rattle.serde_json.specs.Written.{compact_text}
-use Rattle.plant_base.specs.Refusals.{number_of, name_of}
-use Rattle.plant_base.specs.{Refusal}
+use Rattle.plant_base.specs.{number_of, name_of, Refusal}
 use Rattle.plant_base.specs.declared.refusal.Refusal.TheVariants.{BadForm}
-use Rattle.plant_command_errors.specs.Reasons.{reason_text}
-use Rattle.plant_command_errors.specs.{Reason}
-use Rattle.plant_text_answers.specs.Natural.{natural}
+use Rattle.plant_command_errors.specs.{reason_text, Reason}
+use Rattle.plant_text_answers.specs.{natural}
 use Rattle.plant_text_checks.specs.declared.answers.CheckAnswer.{CheckAnswer}
 use Rattle.plant_text_checks.specs.declared.answers.CheckAnswer.TheVariants as answer
 

@@ -1,11 +1,9 @@
 -- What would become of what is to be checked.
 use Rattle.std.specs.Prelude.{Option, Some, None}
-use Rattle.plant_base.specs.State.{State}
-use Rattle.plant_causes.specs.Causes.{checked}
-use Rattle.plant_causes.specs.{Checked}
+use Rattle.plant_base.specs.{State}
+use Rattle.plant_causes.specs.{checked, Checked}
 use Rattle.plant_causes.specs.declared.checking.Checked.TheVariants.{Accepted, Refused}
-use Rattle.plant_command_errors.specs.CommandErrors.{command_error_of}
-use Rattle.plant_command_errors.specs.{CommandError}
+use Rattle.plant_command_errors.specs.{command_error_of, CommandError}
 use Rattle.plant_command_errors.specs.declared.reason.Reason.TheVariants as reason
 use Rattle.plant_text_commands.specs.{ToCheck}
 use Rattle.plant_text_commands.specs.declared.checks.ToCheck.TheVariants as to_check

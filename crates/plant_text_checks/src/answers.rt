@@ -1,7 +1,8 @@
 //! The answers to checks, and their texts.
 ghost use Rattle.std.specs.Prelude.{◌≡◌, IfOk, string_bytes};
 ghost use Rattle.serde_json.specs.View.{view};
-ghost use Rattle.plant_text_checks.specs.Answers.{accepted_data, refused_data, bad_form_data, check_text};
+ghost use Rattle.plant_text_checks.specs.Answers.{accepted_data, refused_data, bad_form_data};
+ghost use Rattle.plant_text_checks.specs.Answers.{check_text};
 
 use plant_base::Refusal;
 use plant_command_errors::Reason;

@@ -1,6 +1,6 @@
 //! From what a keeper says of a command to what is answered.
 ghost use Rattle.std.specs.Prelude.{◌≡◌};
-ghost use Rattle.plant_command_errors.specs.CommandErrors.{command_error_of};
+ghost use Rattle.plant_command_errors.specs.{command_error_of};
 ghost use Rattle.plant_text_checks.specs.Checks.{answer_by};
 
 use crate::answers::CheckAnswer;

@@ -1,19 +1,14 @@
 -- What asks to check no command says what is wrong with it, and so does an object that asks for no check.
-use Rattle.std.proofs.Common.{◌≡◌, true, Option, Some, None, Result, Ok, Err, refl, subst}
-use Rattle.std.specs.Prelude.{⊤, IfOk}
+use Rattle.std.proofs.Common.{◌≡◌, true, Option, Some, None, Result, Ok, Err, refl, subst, IfOk}
+use Rattle.std.specs.Prelude.{⊤}
 use Rattle.serde_json.specs.Data.{Data}
 use Rattle.serde_json.specs.Find.{get}
 use Rattle.plant_base.specs.{Envelope}
 use Rattle.plant_message_schema.specs.declared.members.Member.TheVariants as m
-use Rattle.plant_message_schema.specs.{Fault, FormatError}
+use Rattle.plant_message_schema.specs.{Fault, FormatError, name_of, check_members, Reports, object, format_error_is_reported, IsReported, exactly}
 use Rattle.plant_message_schema.specs.declared.format_errors.Fault.TheVariants as fault
-use Rattle.plant_message_schema.specs.Members.{name_of}
-use Rattle.plant_message_schema.specs.Tables.{check_members}
-use Rattle.plant_message_schema.specs.FormatErrors.{Reports, object, format_error_is_reported, IsReported}
-use Rattle.plant_message_schema.specs.Fields.{exactly}
 use Rattle.plant_message_schema.proofs.FieldsAreTyped.{Good, valid_bind, good_object, exactly_typed}
-use Rattle.plant_text_commands.specs.Commands.{command_of}
-use Rattle.plant_text_commands.specs.Checks.{checked_as, check_in, check_of, has_reason}
+use Rattle.plant_text_commands.specs.{command_of, checked_as, check_in, check_of, has_reason}
 use Rattle.plant_text_commands.specs.declared.checks.ToCheck.{ToCheck}
 use Rattle.plant_text_commands.proofs.StepsAreTyped.{command_valid}
 

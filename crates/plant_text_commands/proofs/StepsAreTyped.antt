@@ -1,11 +1,10 @@
 -- The step of each command makes something of values of its types, so the problem that is reported says what is wrong.
-use Rattle.std.proofs.Common.{◌≡◌, ℕ, ◌+◌, List, [], ◌∷◌, Bool, true, false, cond, Option, Some, None, Result, Ok, Err, option_and_then, codes, refl, subst}
-use Rattle.std.specs.Prelude.{is_some, ⊤}
-use Rattle.std.specs.Str.{bytes_eq}
+use Rattle.std.proofs.Common.{◌≡◌, ℕ, ◌+◌, List, [], ◌∷◌, Bool, true, false, cond, Option, Some, None, Result, Ok, Err, option_and_then, codes, refl, subst, is_some, bytes_eq}
+use Rattle.std.specs.Prelude.{⊤}
 use Rattle.serde_json.specs.Data.{Data, Items, no_items, item}
 use Rattle.serde_json.specs.Find.{get, as_str, as_array, as_object}
 use Rattle.plant_base.specs.{Command, Envelope}
-use Rattle.plant_message_schema.specs.{CommandKind, Fault, Field, FormatError, Member, Row, ShapeError}
+use Rattle.plant_message_schema.specs.{CommandKind, Fault, Field, FormatError, Member, Row, ShapeError, name_of, line_kind, shared_members, own_of, row_own, ◌>>=◌, Reports, object, or_malformed, is_reported, format_error_is_reported, IsReported, fields_of, none_other, exactly, may_in, Values, fields_in}
 use Rattle.plant_message_schema.specs.declared.members.Member.TheVariants as m
 use Rattle.plant_message_schema.specs.declared.members.Rule.TheVariants as rule
 use Rattle.plant_message_schema.specs.declared.words.CommandKind.TheVariants as c
@@ -13,15 +12,8 @@ use Rattle.plant_message_schema.specs.declared.words.Row.TheVariants as row
 use Rattle.plant_message_schema.specs.declared.fields.Field.TheVariants as field
 use Rattle.plant_message_schema.specs.declared.format_errors.ShapeError.TheVariants as shape_error
 use Rattle.plant_message_schema.specs.declared.format_errors.Fault.TheVariants as fault
-use Rattle.plant_message_schema.specs.Members.{name_of}
-use Rattle.plant_message_schema.specs.Words.{line_kind}
-use Rattle.plant_message_schema.specs.Tables.{shared_members, own_of, row_own}
-use Rattle.plant_message_schema.specs.FormatErrors.{◌>>=◌, Reports, object, or_malformed, is_reported, format_error_is_reported, IsReported}
-use Rattle.plant_message_schema.specs.Fields.{fields_of, none_other, exactly}
-use Rattle.plant_message_schema.specs.ValueLaws.{may_in, Values, fields_in}
 use Rattle.plant_message_schema.proofs.FieldsAreTyped.{Good, OnSome, valid_bind, valid_map, good_object, fields_typed, none_other-valid, exactly_typed, later_fails, only_fails, do_fails, kind_fails}
-use Rattle.plant_text_commands.specs.Lists.{part_of, order_of, line_of, line_row, item_by, item_of, numbered, items_from, items_where, items_at}
-use Rattle.plant_text_commands.specs.Commands.{body_of, envelope_with, kind_at, command_by, command_of}
+use Rattle.plant_text_commands.specs.{part_of, order_of, line_of, line_row, item_by, item_of, numbered, items_from, items_where, items_at, body_of, envelope_with, kind_at, command_by, command_of}
 
 -- ---- rows
 

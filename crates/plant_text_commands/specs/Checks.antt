@@ -5,12 +5,8 @@ use Rattle.serde_json.specs.Find.{get}
 use Rattle.plant_base.specs.{Envelope}
 use Rattle.plant_message_schema.specs.declared.members.Member.TheVariants as m
 use Rattle.plant_message_schema.specs.declared.format_errors.ShapeError.TheVariants as shape_error
-use Rattle.plant_message_schema.specs.{FormatError}
+use Rattle.plant_message_schema.specs.{FormatError, name_of, check_members, ◌>>=◌, object, format_error_is_reported, exactly}
 use Rattle.plant_message_schema.specs.declared.format_errors.FormatError.TheVariants as format_error
-use Rattle.plant_message_schema.specs.Members.{name_of}
-use Rattle.plant_message_schema.specs.Tables.{check_members}
-use Rattle.plant_message_schema.specs.FormatErrors.{◌>>=◌, object, format_error_is_reported}
-use Rattle.plant_message_schema.specs.Fields.{exactly}
 use Rattle.plant_text_commands.specs.Commands.{command_of}
 use Rattle.plant_text_commands.specs.declared.checks.ToCheck.{ToCheck}
 use Rattle.plant_text_commands.specs.declared.checks.ToCheck.TheVariants as to_check

@@ -4,15 +4,11 @@ use Rattle.std.specs.Option.{option_or}
 use Rattle.serde_json.specs.Data.{Data}
 use Rattle.serde_json.specs.Find.{get, as_str}
 use Rattle.plant_base.specs.{Command, Envelope}
-use Rattle.plant_message_schema.specs.{CommandKind, Field, FormatError}
+use Rattle.plant_message_schema.specs.{CommandKind, Field, FormatError, command_kind, shared_members, own_of, ◌>>=◌, object, or_malformed, fields_of, none_other}
 use Rattle.plant_message_schema.specs.declared.words.CommandKind.TheVariants as c
 use Rattle.plant_message_schema.specs.declared.fields.Field.TheVariants as field
 use Rattle.plant_message_schema.specs.declared.format_errors.ShapeError.TheVariants as shape_error
 use Rattle.plant_message_schema.specs.declared.format_errors.FormatError.TheVariants as format_error
-use Rattle.plant_message_schema.specs.Words.{command_kind}
-use Rattle.plant_message_schema.specs.Tables.{shared_members, own_of}
-use Rattle.plant_message_schema.specs.FormatErrors.{◌>>=◌, object, or_malformed}
-use Rattle.plant_message_schema.specs.Fields.{fields_of, none_other}
 use Rattle.plant_text_commands.specs.Plain.{goods_of, blocks_of, plans_of, batches_of}
 use Rattle.plant_text_commands.specs.Listing.{merge_of, add_recipe_of, import_orders_of}
 

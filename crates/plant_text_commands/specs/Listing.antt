@@ -5,11 +5,10 @@ use Rattle.plant_base.specs.{Command}
 use Rattle.plant_base.specs.declared.command.Command.TheVariants as body
 use Rattle.plant_message_schema.specs.declared.members.Member.TheVariants as m
 use Rattle.plant_message_schema.specs.declared.words.Row.TheVariants as row
-use Rattle.plant_message_schema.specs.{Field, FormatError}
+use Rattle.plant_message_schema.specs.{Field, FormatError, ◌>>=◌}
 use Rattle.plant_message_schema.specs.declared.fields.Field.TheVariants as field
 use Rattle.plant_message_schema.specs.declared.format_errors.ShapeError.TheVariants as shape_error
 use Rattle.plant_message_schema.specs.declared.format_errors.FormatError.TheVariants as format_error
-use Rattle.plant_message_schema.specs.FormatErrors.{◌>>=◌}
 use Rattle.plant_text_commands.specs.Lists.{items_at, part_of, line_of, line_row, order_of}
 
 abbrev pub merge_of : List Field → Data → Result Command FormatError

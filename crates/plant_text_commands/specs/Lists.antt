@@ -4,17 +4,12 @@ use Rattle.serde_json.specs.Data.{Data, Items, no_items, item}
 use Rattle.serde_json.specs.Find.{get, as_str, as_array, as_object}
 use Rattle.plant_base.specs.{OrderRow, Part, RecipeLine}
 use Rattle.plant_base.specs.declared.rows.RecipeLine.TheVariants as line
-use Rattle.plant_message_schema.specs.{Field, FormatError, Member, Row, ShapeError}
+use Rattle.plant_message_schema.specs.{Field, FormatError, Member, Row, ShapeError, name_of, line_kind, row_own, ◌>>=◌, or_malformed, fields_of, exactly}
 use Rattle.plant_message_schema.specs.declared.members.Member.TheVariants as m
 use Rattle.plant_message_schema.specs.declared.words.Row.TheVariants as row
 use Rattle.plant_message_schema.specs.declared.fields.Field.TheVariants as field
 use Rattle.plant_message_schema.specs.declared.format_errors.ShapeError.TheVariants as shape_error
 use Rattle.plant_message_schema.specs.declared.format_errors.FormatError.TheVariants as format_error
-use Rattle.plant_message_schema.specs.Members.{name_of}
-use Rattle.plant_message_schema.specs.Words.{line_kind}
-use Rattle.plant_message_schema.specs.Tables.{row_own}
-use Rattle.plant_message_schema.specs.FormatErrors.{◌>>=◌, or_malformed}
-use Rattle.plant_message_schema.specs.Fields.{fields_of, exactly}
 
 -- ---- what the values of a row make
 

@@ -1,7 +1,7 @@
 //! Which objects ask what would become of a command.
 ghost use Rattle.std.specs.Prelude.{◌≡◌, true, Ok, IfOk};
 ghost use Rattle.serde_json.specs.View.{view};
-ghost use Rattle.plant_message_schema.specs.FormatErrors.{Reports, IsReported};
+ghost use Rattle.plant_message_schema.specs.{Reports, IsReported};
 ghost use Rattle.plant_text_commands.specs.Commands.{command_of};
 ghost use Rattle.plant_text_commands.specs.Checks.{checked_as, check_of, has_reason};
 

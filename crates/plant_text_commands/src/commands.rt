@@ -1,10 +1,11 @@
 //! Which objects are commands, and what is wrong with the others: one reading decides both.
 ghost use Rattle.std.specs.Prelude.{◌≡◌};
 ghost use Rattle.serde_json.specs.View.{view};
-ghost use Rattle.plant_base.specs.Values.{is_text, only};
-ghost use Rattle.plant_message_schema.specs.FormatErrors.{Reports, IsReported};
-ghost use Rattle.plant_text_commands.specs.Commands.{plain_of, body_of, text_or_empty, id_or_none, envelope_with};
-ghost use Rattle.plant_text_commands.specs.Commands.{kind_at, command_by, command_of};
+ghost use Rattle.plant_base.specs.{is_text, only};
+ghost use Rattle.plant_message_schema.specs.{Reports, IsReported};
+ghost use Rattle.plant_text_commands.specs.Commands.{plain_of, body_of, text_or_empty, id_or_none};
+ghost use Rattle.plant_text_commands.specs.Commands.{envelope_with, kind_at, command_by};
+ghost use Rattle.plant_text_commands.specs.Commands.{command_of};
 
 use crate::listing::{add_recipe_of, import_orders_of, merge_of};
 use crate::plain::{batches_of, blocks_of, goods_of, plans_of};

@@ -1,7 +1,7 @@
 //! Commands that have a list.
 ghost use Rattle.std.specs.Prelude.{◌≡◌};
 ghost use Rattle.serde_json.specs.View.{view};
-ghost use Rattle.plant_message_schema.specs.FormatErrors.{Reports};
+ghost use Rattle.plant_message_schema.specs.{Reports};
 ghost use Rattle.plant_text_commands.specs.Listing.{merge_of, add_recipe_of, import_orders_of};
 
 use crate::lists::items_at;

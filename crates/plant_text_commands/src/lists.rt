@@ -1,10 +1,11 @@
 //! The lists of commands: the parts of a merge, the lines of a recipe, orders.
 ghost use Rattle.std.specs.Prelude.{◌≡◌, Some};
 ghost use Rattle.serde_json.specs.View.{view, items_view};
-ghost use Rattle.plant_message_schema.specs.FormatErrors.{Reports};
+ghost use Rattle.plant_message_schema.specs.{Reports};
 ghost use Rattle.plant_message_schema.specs.declared.members.Member.TheVariants as m;
 ghost use Rattle.plant_message_schema.specs.declared.words.Row.TheVariants as row;
-ghost use Rattle.plant_text_commands.specs.Lists.{line_row, item_of, items_from, items_at, part_of, order_of, line_of};
+ghost use Rattle.plant_text_commands.specs.Lists.{line_row, item_of, items_from, items_at, part_of};
+ghost use Rattle.plant_text_commands.specs.Lists.{order_of, line_of};
 
 use plant_base::{Items, OrderRow, Part, RecipeLine};
 use plant_message_schema::Field::{self, Amount, Chosen, Due, Id, Number, Small, Text};

@@ -1,8 +1,8 @@
 -- What makes no cycle.
 use Rattle.std.proofs.Common.{List, ◌++◌, sym, subst, inl, inr, ◌⊎◌, ⊎_elim, refl}
 use Rattle.std.proofs.lemmas.List.Elements.{Contains-append_cases}
-use Rattle.plant_trace.specs.Reach.{Reach, step, more, HasEdge, IsAcyclic}
-use Rattle.plant_trace.specs.Growth.{LeadsInto, IntoKeepsAcyclic, NewKeepsAcyclic}
+use Rattle.plant_trace.specs.{step, more, HasEdge, IsAcyclic, LeadsInto, IntoKeepsAcyclic, NewKeepsAcyclic}
+use Rattle.plant_trace.specs.Reach.{Reach}
 use Rattle.plant_trace.specs.declared.node.Node.{Node}
 
 -- a walk leaves its start by some edge

@@ -1,20 +1,15 @@
 -- Lists with no node twice, and how many nodes have a property.
-use Rattle.std.proofs.Common.{◌≡◌, ◌∙◌, ℕ, ◌+◌, ◌-◌, ◌<◌, Bool, true, false, List, [], ◌∷◌, ◌++◌, take, length, get_or, refl, sym, subst, inl, inr, ◌⊎◌, ⊎_elim, arith, Contains, ◌↔◌}
-use Rattle.std.specs.Prelude.{IsTrue}
-use Rattle.std.specs.declared.cmp.Ordering.TheVariants.{Less}
-use Rattle.std.specs.List.{remove}
-use Rattle.std.specs.List.Sorted.{IsPermutation, IsStrictlySortedBy}
+use Rattle.std.proofs.Common.{◌≡◌, ◌∙◌, ℕ, ◌+◌, ◌-◌, ◌<◌, Bool, true, false, List, [], ◌∷◌, ◌++◌, take, length, get_or, refl, sym, subst, inl, inr, ◌⊎◌, ⊎_elim, arith, Contains, ◌↔◌, IsTrue, Less, remove, IsPermutation, get_or-take, length-take-le}
+use Rattle.std.specs.List.Sorted.{IsStrictlySortedBy}
 use Rattle.std.specs.BTreeSet.{contains}
 use Rattle.std.proofs.lemmas.Bool.{false≢true, cases_lt, cases_order}
 use Rattle.std.proofs.lemmas.Cmp.{tied_itself}
-use Rattle.std.proofs.lemmas.List.{get_or_default, get_or-take, length-take-le}
+use Rattle.std.proofs.lemmas.List.{get_or_default}
 use Rattle.std.proofs.lemmas.List.Edits.{length-remove, get_or-remove_below, get_or-remove_above}
 use Rattle.std.proofs.lemmas.List.Quantifiers.{all_pairs_push, all_pairs_remove}
 use Rattle.std.proofs.lemmas.List.Sorted.{IsPermutation-remove, IsPermutation-sym, Contains-permutation}
 use Rattle.std.proofs.lemmas.Map.Keys.{Less-from_sorted}
-use Rattle.plant_trace.specs.Nodes.{node_cmp, node_eq, node_total}
-use Rattle.plant_trace.specs.Reach.{Lists}
-use Rattle.plant_trace.specs.Waiting.{AreDistinct, AreSoMany}
+use Rattle.plant_trace.specs.{node_cmp, node_eq, node_total, Lists, AreDistinct, AreSoMany}
 use Rattle.plant_trace.specs.declared.node.Node.{Node}
 use Rattle.plant_trace.proofs.NodeOrder.{node_eq_decides}
 use Rattle.plant_trace.proofs.NodeSets.{has_iff}

@@ -1,11 +1,9 @@
 -- The ends of pairs, pair by pair.
-use Rattle.std.proofs.Common.{◌≡◌, ◌∙◌, ℕ, ◌+◌, ◌<◌, true, List, [], ◌∷◌, ◌++◌, take, length, get_or, sym, ap, subst, inl, inr, ⊎_elim, Contains}
-use Rattle.std.specs.BTreeSet.{BTreeSet, Updates}
+use Rattle.std.proofs.Common.{◌≡◌, ◌∙◌, ℕ, ◌+◌, ◌<◌, true, List, [], ◌∷◌, ◌++◌, take, length, get_or, sym, ap, subst, inl, inr, ⊎_elim, Contains, BTreeSet}
+use Rattle.std.specs.BTreeSet.{Updates}
 use Rattle.std.proofs.lemmas.List.{take_more}
 use Rattle.std.proofs.lemmas.List.Elements.{Contains-append_left, Contains-push, Contains-push_cases}
-use Rattle.plant_trace.specs.Nodes.{node_cmp}
-use Rattle.plant_trace.specs.Reach.{HasEdge}
-use Rattle.plant_trace.specs.Waiting.{IsMentioned}
+use Rattle.plant_trace.specs.{node_cmp, HasEdge, IsMentioned}
 use Rattle.plant_trace.specs.declared.node.Node.{Node}
 use Rattle.plant_trace.proofs.NodeSets.{HasExactly, came, comes, none_in, stays}
 

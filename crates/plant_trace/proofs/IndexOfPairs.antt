@@ -1,19 +1,14 @@
 -- What an index has, link by link, and against the pairs.
-use Rattle.std.proofs.Common.{◌≡◌, ◌∙◌, Bool, true, false, cond, List, [], Option, Some, None, refl, sym, ap, subst, Contains}
-use Rattle.std.specs.Prelude.{IsTrue, ◌&&◌, ◌||◌, unwrap_or}
+use Rattle.std.proofs.Common.{◌≡◌, ◌∙◌, Bool, true, false, cond, List, [], Option, Some, None, refl, sym, ap, subst, Contains, IsTrue, ◌&&◌, ◌||◌, unwrap_or, is_eq, BTreeMap, BTreeSet}
 use Rattle.std.specs.List.Sorted.{IsStrictlySortedBy}
-use Rattle.std.specs.Ordering.{is_eq}
 use Rattle.std.specs.BTreeMap as tree
 use Rattle.std.specs.BTreeSet as sorted
-use Rattle.std.specs.BTreeMap.{BTreeMap, get}
-use Rattle.std.specs.BTreeSet.{BTreeSet, contains}
+use Rattle.std.specs.BTreeMap.{get}
+use Rattle.std.specs.BTreeSet.{contains}
 use Rattle.std.proofs.lemmas.Bool.{false≢true, and_parts, and_from}
 use Rattle.std.proofs.lemmas.List.Folds.{Any-from_list_any, list_any-from_Any}
 use Rattle.std.proofs.lemmas.Map.Views.{tells_apart}
-use Rattle.plant_trace.specs.Nodes.{node_cmp, node_eq, node_ties}
-use Rattle.plant_trace.specs.Turned.{turned}
-use Rattle.plant_trace.specs.Reach.{IsNext, Lists}
-use Rattle.plant_trace.specs.Index.{set_has, index_has, is_pair, pairs_lead, Indexes, Links}
+use Rattle.plant_trace.specs.{node_cmp, node_eq, node_ties, turned, IsNext, Lists, set_has, index_has, is_pair, pairs_lead, Indexes, Links}
 use Rattle.plant_trace.specs.declared.direction.Direction.{Direction}
 use Rattle.plant_trace.specs.declared.direction.Direction.TheVariants.{Forward, Back}
 use Rattle.plant_trace.specs.declared.node.Node.{Node}

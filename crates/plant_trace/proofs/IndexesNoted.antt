@@ -1,13 +1,10 @@
 -- How the positions of a list are noted one by one.
-use Rattle.std.proofs.Common.{◌≡◌, ◌∙◌, ℕ, ◌+◌, ◌<◌, ◌≤◌, Bool, true, false, cond, List, [], ◌∷◌, ◌++◌, take, length, get_or, Option, Some, refl, sym, ap, subst, ⊎_elim, arith, Contains, append_assoc}
-use Rattle.std.specs.Prelude.{zero, suc, IsSome, slice_get}
-use Rattle.std.specs.Ordering.{is_eq}
-use Rattle.std.specs.BTreeMap.{BTreeMap, get, IsEmpty, Updates}
-use Rattle.std.proofs.lemmas.List.{take_more, take-append-le, append-nil, length-take-le, length-append}
+use Rattle.std.proofs.Common.{◌≡◌, ◌∙◌, ℕ, ◌+◌, ◌<◌, ◌≤◌, Bool, true, false, cond, List, [], ◌∷◌, ◌++◌, take, length, get_or, Option, Some, refl, sym, ap, subst, ⊎_elim, arith, Contains, append_assoc, zero, suc, IsSome, slice_get, is_eq, BTreeMap, append-nil, length-take-le, length-append}
+use Rattle.std.specs.BTreeMap.{get, IsEmpty, Updates}
+use Rattle.std.proofs.lemmas.List.{take_more, take-append-le}
 use Rattle.std.proofs.lemmas.List.Elements.{Contains-append_left, Contains-push_cases}
 use Rattle.std.proofs.lemmas.Map.Views.{tells_apart}
-use Rattle.plant_trace.specs.Nodes.{node_cmp}
-use Rattle.plant_trace.specs.NodeIndexes.{AreIndexes, Grows}
+use Rattle.plant_trace.specs.{node_cmp, AreIndexes, Grows}
 use Rattle.plant_trace.specs.declared.node.Node.{Node}
 use Rattle.plant_trace.proofs.NodeOrder.{node_exact}
 use Rattle.plant_trace.proofs.NodeSets.{none_in}

@@ -1,10 +1,9 @@
 -- Where pairs lead is the least relation.
-use Rattle.std.proofs.Common.{◌≡◌, true, List, [], ◌∷◌, sym, subst, ap, inl, inr, ◌⊎◌, ⊎_elim, refl}
-use Rattle.std.specs.Prelude.{◌&&◌, ◌||◌, Contains}
+use Rattle.std.proofs.Common.{◌≡◌, true, List, [], ◌∷◌, sym, subst, ap, inl, inr, ◌⊎◌, ⊎_elim, refl, ◌&&◌, ◌||◌, Contains}
 use Rattle.std.proofs.lemmas.Bool.{false≢true, or_cases, or_left, or_right, and_from, and_parts}
 use Rattle.std.proofs.lemmas.List.Elements.{Contains-append_cases, Contains-append_left, Contains-append_right, Contains-push, Contains-push_cases}
-use Rattle.plant_trace.specs.Nodes.{node_eq}
-use Rattle.plant_trace.specs.Reach.{Reach, step, more, HasEdge, leads, LeadsWhereReached}
+use Rattle.plant_trace.specs.{node_eq, step, more, HasEdge, leads, LeadsWhereReached}
+use Rattle.plant_trace.specs.Reach.{Reach}
 use Rattle.plant_trace.specs.declared.node.Node.{Node}
 use Rattle.plant_trace.proofs.NodeOrder.{node_eq_exact, node_eq_itself}
 use Rattle.plant_trace.proofs.SearchFinds.{before}

@@ -1,11 +1,9 @@
 -- The neighbours of a node in a list of pairs, pair by pair.
-use Rattle.std.proofs.Common.{◌≡◌, ℕ, ◌<◌, ◌+◌, true, List, [], ◌∷◌, ◌++◌, take, length, get_or, subst, inl, inr, ◌⊎◌, ⊎_elim, ◌∙◌, ap, Contains}
-use Rattle.std.specs.BTreeSet.{BTreeSet, Updates}
+use Rattle.std.proofs.Common.{◌≡◌, ℕ, ◌<◌, ◌+◌, true, List, [], ◌∷◌, ◌++◌, take, length, get_or, subst, inl, inr, ◌⊎◌, ⊎_elim, ◌∙◌, ap, Contains, BTreeSet}
+use Rattle.std.specs.BTreeSet.{Updates}
 use Rattle.std.proofs.lemmas.List.{take_more}
 use Rattle.std.proofs.lemmas.List.Elements.{Contains-append_left, Contains-push, Contains-push_cases}
-use Rattle.plant_trace.specs.Nodes.{node_cmp}
-use Rattle.plant_trace.specs.Reach.{IsNext}
-use Rattle.plant_trace.specs.Turned.{turned}
+use Rattle.plant_trace.specs.{node_cmp, IsNext, turned}
 use Rattle.plant_trace.specs.declared.node.Node.{Node}
 use Rattle.plant_trace.specs.declared.direction.Direction.{Direction}
 use Rattle.plant_trace.specs.declared.direction.Direction.TheVariants.{Forward, Back}

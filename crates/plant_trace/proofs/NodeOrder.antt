@@ -1,6 +1,5 @@
 -- The order of nodes.
-use Rattle.std.proofs.Common.{◌≡◌, ◌∙◌, Bool, List, Contains, Decides, true, false, not, sym, subst, ap}
-use Rattle.std.specs.Ordering.{is_eq}
+use Rattle.std.proofs.Common.{◌≡◌, ◌∙◌, Bool, List, Contains, Decides, true, false, not, sym, subst, ap, is_eq}
 use Rattle.std.specs.List.{IsAnyAnswer}
 use Rattle.std.proofs.lemmas.List.Elements.{Decides-contains, contains_decides}
 use Rattle.std.proofs.lemmas.Cmp.{tied_itself}
@@ -10,7 +9,7 @@ use Rattle.std.proofs.lemmas.Map.Views.{tells_apart}
 use Rattle.plant_trace.specs.contracts.node.NodePartialEq.TheImpl.{ghosts as equal}
 use Rattle.plant_trace.specs.declared.node.Node.{Node}
 use Rattle.plant_trace.specs.declared.node.Node.TheVariants.{Lot, Batch}
-use Rattle.plant_trace.specs.Nodes.{node_cmp, node_ties, node_total}
+use Rattle.plant_trace.specs.{node_cmp, node_ties, node_total}
 
 -- nodes that compare alike are one
 pub node_exact : CmpEqualImpliesEq node_cmp

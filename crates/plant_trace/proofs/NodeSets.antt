@@ -1,13 +1,11 @@
 -- Sets of nodes, seen as their keys.
-use Rattle.std.proofs.Common.{◌≡◌, ℕ, ◌<◌, ◌≤◌, ◌+◌, Bool, true, false, cond, List, [], ◌∷◌, ◌++◌, take, length, get_or, refl, sym, subst, inl, inr, ◌⊎◌, ⊎_elim, ◌∙◌, arith, Contains, ◌↔◌}
-use Rattle.std.specs.Prelude.{IsTrue}
+use Rattle.std.proofs.Common.{◌≡◌, ℕ, ◌<◌, ◌≤◌, ◌+◌, Bool, true, false, cond, List, [], ◌∷◌, ◌++◌, take, length, get_or, refl, sym, subst, inl, inr, ◌⊎◌, ⊎_elim, ◌∙◌, arith, Contains, ◌↔◌, IsTrue, BTreeSet, length-append}
 use Rattle.std.specs.Bool.{OnFalse}
-use Rattle.std.specs.BTreeSet.{BTreeSet, contains, Updates}
-use Rattle.std.proofs.lemmas.List.{take_more, take-append-le, length-append}
+use Rattle.std.specs.BTreeSet.{contains, Updates}
+use Rattle.std.proofs.lemmas.List.{take_more, take-append-le}
 use Rattle.std.proofs.lemmas.List.Elements.{Contains-append_left, Contains-push_cases, Contains-push}
 use Rattle.std.proofs.lemmas.Map.Views.{btree_set_contains_iff, tells_apart}
-use Rattle.plant_trace.specs.Nodes.{node_cmp, node_total}
-use Rattle.plant_trace.specs.Seen.{Adds, Queues}
+use Rattle.plant_trace.specs.{node_cmp, node_total, Adds, Queues}
 use Rattle.plant_trace.specs.declared.node.Node.{Node}
 use Rattle.plant_trace.proofs.NodeOrder.{node_exact}
 

@@ -1,14 +1,11 @@
 -- How the counts of nodes that wait change.
-use Rattle.std.proofs.Common.{◌≡◌, ◌∙◌, ℕ, ◌-◌, ◌<◌, false, List, [], ◌∷◌, ◌++◌, Option, Some, None, refl, sym, ap, subst, inr, ⊎_elim, arith, Contains}
-use Rattle.std.specs.BTreeMap.{BTreeMap, get, IsEmpty, Updates}
-use Rattle.std.specs.Ordering.{is_eq}
+use Rattle.std.proofs.Common.{◌≡◌, ◌∙◌, ℕ, ◌-◌, ◌<◌, false, List, [], ◌∷◌, ◌++◌, Option, Some, None, refl, sym, ap, subst, inr, ⊎_elim, arith, Contains, BTreeMap, is_eq}
+use Rattle.std.specs.BTreeMap.{get, IsEmpty, Updates}
 use Rattle.std.proofs.lemmas.Bool.{cases_Bool, cases_eq}
 use Rattle.std.proofs.lemmas.List.Elements.{Contains-append_left, Contains-push, Contains-push_cases}
 use Rattle.std.proofs.lemmas.Map.Views.{tells_apart}
 use Rattle.std.proofs.lemmas.Option.{none-some, same_Some}
-use Rattle.plant_trace.specs.Nodes.{node_cmp}
-use Rattle.plant_trace.specs.Reach.{HasEdge, Lists}
-use Rattle.plant_trace.specs.Waiting.{AreDistinct, AreSoMany, AreWaiting, Awaits, HasCount, HasCounts, IsMentioned}
+use Rattle.plant_trace.specs.{node_cmp, HasEdge, Lists, AreDistinct, AreSoMany, AreWaiting, Awaits, HasCount, HasCounts, IsMentioned}
 use Rattle.plant_trace.specs.declared.node.Node.{Node}
 use Rattle.plant_trace.proofs.NodeOrder.{node_exact}
 use Rattle.plant_trace.proofs.NodeSets.{none_in}

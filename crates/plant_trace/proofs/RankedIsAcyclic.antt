@@ -1,8 +1,8 @@
 -- A rank that rises along pairs leaves no cycle.
 use Rattle.std.proofs.Common.{ℕ, ◌<◌, List, arith}
 use Rattle.std.proofs.lemmas.List.Elements.{All-contains}
-use Rattle.plant_trace.specs.Reach.{Reach, step, more, HasEdge, IsAcyclic}
-use Rattle.plant_trace.specs.Ranks.{Rises}
+use Rattle.plant_trace.specs.{step, more, HasEdge, IsAcyclic, Rises}
+use Rattle.plant_trace.specs.Reach.{Reach}
 use Rattle.plant_trace.specs.declared.node.Node.{Node}
 
 module _ (rank : Node → ℕ) (pairs : List (Node × Node)) (rises : Rises rank pairs) where

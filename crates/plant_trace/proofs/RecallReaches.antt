@@ -1,14 +1,10 @@
 -- What a recall reaches: as a list, as a test, and as pairs are added.
-use Rattle.std.proofs.Common.{◌≡◌, ◌∙◌, ℕ, List, [], ◌∷◌, ◌++◌, sym, subst, ap, inl, inr, ◌⊎◌, ⊎_elim, refl, Contains}
-use Rattle.std.specs.Prelude.{◌↔◌}
+use Rattle.std.proofs.Common.{◌≡◌, ◌∙◌, ℕ, List, [], ◌∷◌, ◌++◌, sym, subst, ap, inl, inr, ◌⊎◌, ⊎_elim, refl, Contains, ◌↔◌}
 use Rattle.std.specs.List.Sorted.{IsStrictlySortedBy}
 use Rattle.std.proofs.lemmas.Bool.{or_cases, or_left, or_right}
 use Rattle.std.proofs.lemmas.List.Elements.{Contains-append_cases, Contains-append_left, Contains-push, Contains-push_cases}
-use Rattle.plant_trace.specs.Growth.{LeadsInto, IsEnd}
-use Rattle.plant_trace.specs.Nodes.{node_cmp, node_eq}
-use Rattle.plant_trace.specs.Reach.{Reach, step, more, HasEdge, Lists, leads}
-use Rattle.plant_trace.specs.Recalls.{IsRecalled, RecalledWhereReached, ReachesNone, StaysWhereUnreached, GrowsByNew}
-use Rattle.plant_trace.specs.Seen.{Adds}
+use Rattle.plant_trace.specs.{LeadsInto, IsEnd, node_cmp, node_eq, step, more, HasEdge, Lists, leads, IsRecalled, RecalledWhereReached, ReachesNone, StaysWhereUnreached, GrowsByNew, Adds}
+use Rattle.plant_trace.specs.Reach.{Reach}
 use Rattle.plant_trace.specs.declared.node.Node.{Node}
 use Rattle.plant_trace.specs.declared.node.Node.TheVariants.{Lot}
 use Rattle.plant_trace.proofs.AddingKeepsAcyclic.{UpTo, here, on, farther, first_edge, crosses}

@@ -1,12 +1,10 @@
 -- What a search has found.
-use Rattle.std.proofs.Common.{◌≡◌, ℕ, ◌<◌, ◌+◌, List, [], ◌∷◌, ◌++◌, take, length, get_or, sym, subst, ⊎_elim, arith, Contains}
-use Rattle.std.specs.List.{All}
+use Rattle.std.proofs.Common.{◌≡◌, ℕ, ◌<◌, ◌+◌, List, [], ◌∷◌, ◌++◌, take, length, get_or, sym, subst, ⊎_elim, arith, Contains, All}
 use Rattle.std.specs.List.Sorted.{IsStrictlySortedBy}
 use Rattle.std.proofs.lemmas.List.Elements.{All-weaker, All-push, Contains-get_or}
 use Rattle.std.proofs.lemmas.List.{take_more}
-use Rattle.plant_trace.specs.Nodes.{node_cmp}
-use Rattle.plant_trace.specs.Reach.{Reach, step, more, IsNext, IsReached, HasEdge, Lists}
-use Rattle.plant_trace.specs.Seen.{Adds}
+use Rattle.plant_trace.specs.{node_cmp, step, more, IsNext, IsReached, HasEdge, Lists, Adds}
+use Rattle.plant_trace.specs.Reach.{Reach}
 use Rattle.plant_trace.specs.declared.node.Node.{Node}
 use Rattle.plant_trace.specs.declared.direction.Direction.{Direction}
 use Rattle.plant_trace.specs.declared.direction.Direction.TheVariants.{Forward, Back}

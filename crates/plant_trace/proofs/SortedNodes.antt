@@ -1,10 +1,8 @@
 -- Lists of nodes in order.
-use Rattle.std.proofs.Common.{◌≡◌, Bool, true, false, List, refl, sym}
-use Rattle.std.specs.BTreeSet.{BTreeSet}
+use Rattle.std.proofs.Common.{◌≡◌, Bool, true, false, List, refl, sym, BTreeSet}
 use Rattle.std.proofs.lemmas.Map.Lookups.{btree_set_from_contains}
-use Rattle.plant_trace.specs.Reach.{Lists}
+use Rattle.plant_trace.specs.{Lists, node_total}
 use Rattle.plant_trace.specs.declared.node.Node.{Node}
-use Rattle.plant_trace.specs.Nodes.{node_total}
 use Rattle.plant_trace.proofs.NodeOrder.{node_exact}
 use Rattle.plant_trace.proofs.NodeSets.{has_iff}
 

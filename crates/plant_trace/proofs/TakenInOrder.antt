@@ -1,18 +1,13 @@
 -- Nodes that are taken once all that lead to them are: in the order in which they are taken pairs lead on, and where no node
 -- reaches itself all are taken.
-use Rattle.std.proofs.Common.{◌≡◌, ◌∙◌, ℕ, ◌+◌, ◌<◌, ◌≤◌, List, [], ◌∷◌, ◌++◌, take, length, get_or, Option, Some, None, refl, sym, ap, subst, inl, inr, ◌⊎◌, ⊎_elim, arith, Contains}
-use Rattle.std.specs.Prelude.{IsSome, slice_get, unwrap_or}
-use Rattle.std.specs.List.{All}
-use Rattle.std.specs.BTreeMap.{BTreeMap, btree_map_len, get}
+use Rattle.std.proofs.Common.{◌≡◌, ◌∙◌, ℕ, ◌+◌, ◌<◌, ◌≤◌, List, [], ◌∷◌, ◌++◌, take, length, get_or, Option, Some, None, refl, sym, ap, subst, inl, inr, ◌⊎◌, ⊎_elim, arith, Contains, IsSome, slice_get, unwrap_or, All, BTreeMap, btree_map_len, get_or-take, length-take-le}
+use Rattle.std.specs.BTreeMap.{get}
 use Rattle.std.proofs.lemmas.Bool.{cases_lt}
-use Rattle.std.proofs.lemmas.List.{get_or-take, length-take-le, take_more}
+use Rattle.std.proofs.lemmas.List.{take_more}
 use Rattle.std.proofs.lemmas.List.Elements.{All-cons, All-contains, All-nil, All-weaker, Contains-get_or}
 use Rattle.std.proofs.lemmas.Option.{get_or_from_slice_get, same_Some, slice_get-get_or, slice_get_within}
-use Rattle.plant_trace.specs.NodeIndexes.{AreIndexes, Grows, HasFirst, IsNumbering, RiseIfAcyclic}
-use Rattle.plant_trace.specs.Nodes.{node_cmp}
-use Rattle.plant_trace.specs.Ranks.{rank_of}
-use Rattle.plant_trace.specs.Reach.{HasEdge, IsAcyclic, Reach, leads, step}
-use Rattle.plant_trace.specs.Waiting.{AreDistinct, AreWaiting, Awaits, IsMentioned}
+use Rattle.plant_trace.specs.{AreIndexes, Grows, HasFirst, IsNumbering, RiseIfAcyclic, node_cmp, rank_of, HasEdge, IsAcyclic, leads, step, AreDistinct, AreWaiting, Awaits, IsMentioned}
+use Rattle.plant_trace.specs.Reach.{Reach}
 use Rattle.plant_trace.specs.declared.node.Node.{Node}
 use Rattle.plant_trace.proofs.AddingKeepsAcyclic.{joined}
 use Rattle.plant_trace.proofs.DistinctNodes.{decided, distinct_at, in_or_not, not_before, some_of}

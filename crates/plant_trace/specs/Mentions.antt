@@ -1,6 +1,6 @@
 -- Positions of nodes in the order in which pairs first mention them.
 use Rattle.std.specs.Prelude.{ℕ, ◌+◌, List, [], ◌∷◌, ◌++◌, length, fold, Option, Some, None, find}
-use Rattle.grouped_rows.specs.Groups.{is_keyed}
+use Rattle.grouped_rows.specs.{is_keyed}
 use Rattle.plant_trace.specs.Nodes.{node_cmp}
 use Rattle.plant_trace.specs.declared.node.Node.{Node}
 use Rattle.plant_trace.specs.declared.node.Node.TheVariants.{Lot, Batch}

@@ -1,7 +1,8 @@
 //! Whether pairs already are in an order in which they lead on, as those of a plant's movements do.
 
 ghost use Rattle.std.specs.Prelude.{◌≡◌, ◌<◌, ◌↔◌, ◌^◌, IfOk, IsTrue, OnOk};
-ghost use Rattle.plant_trace.specs.Mentions.{mentions_in, noted, noted_end, noted_start, mention_rank, rank_without};
+ghost use Rattle.plant_trace.specs.Mentions.{mentions_in, noted, noted_end, noted_start};
+ghost use Rattle.plant_trace.specs.Mentions.{mention_rank, rank_without};
 ghost use Rattle.plant_trace.specs.Ranks.{Rises};
 ghost use Rattle.plant_trace.specs.Reach.{IsAcyclic};
 

@@ -1,11 +1,13 @@
 //! An order in which pairs lead on, found by taking nodes that nothing leads to any more.
 
-ghost use Rattle.std.specs.Prelude.{◌≡◌, ◌<◌, ◌+◌, ◌-◌, ℕ, List, [], ◌∷◌, ◌++◌, Contains, IfOk, OnOk, Some, None};
+ghost use Rattle.std.specs.Prelude.{◌≡◌, ◌<◌, ◌+◌, ◌-◌, ℕ, List, [], ◌∷◌, ◌++◌, Contains, IfOk};
+ghost use Rattle.std.specs.Prelude.{OnOk, Some, None};
 ghost use Rattle.std.specs.BTreeMap.{btree_map_len, get, IsEmpty, Updates};
 ghost use Rattle.plant_trace.specs.Nodes.{node_cmp};
 ghost use Rattle.plant_trace.specs.NodeIndexes.{ArePositions, Grows, IsNumbering, RiseIfAcyclic};
 ghost use Rattle.plant_trace.specs.Reach.{Lists};
-ghost use Rattle.plant_trace.specs.Waiting.{AreDistinct, AreSoMany, AreWaiting, Awaits, HasCount, HasCounts, IsMentioned};
+ghost use Rattle.plant_trace.specs.Waiting.{AreDistinct, AreSoMany, AreWaiting, Awaits, HasCount};
+ghost use Rattle.plant_trace.specs.Waiting.{HasCounts, IsMentioned};
 
 use crate::edges::Edges;
 use crate::indexed::Indexed;

@@ -4,7 +4,8 @@ ghost use Rattle.std.specs.Prelude.{◌≡◌, IfOk};
 ghost use Rattle.std.specs.List.Sorted.{IsStrictlySortedBy};
 ghost use Rattle.plant_trace.specs.Nodes.{node_cmp};
 ghost use Rattle.plant_trace.specs.Reach.{Lists};
-ghost use Rattle.plant_trace.specs.Recalls.{IsRecalled, RecalledWhereReached, StaysWhereUnreached, GrowsByNew};
+ghost use Rattle.plant_trace.specs.Recalls.{IsRecalled, RecalledWhereReached, StaysWhereUnreached};
+ghost use Rattle.plant_trace.specs.Recalls.{GrowsByNew};
 ghost use Rattle.plant_trace.specs.ReadOnly.{ReadOnly};
 
 use crate::direction::Direction;

@@ -1,18 +1,14 @@
 -- What commands keep of a consistent state: lemmas for every command.
-use Rattle.std.proofs.Common.{◌≡◌, ◌∙◌, ℕ, ◌+◌, ◌≤◌, Bool, true, false, cond, List, [], ◌∷◌, Option, Some, None, is_some, is_none, find, refl, sym, ap, arith}
-use Rattle.std.specs.Prelude.{◌==◌, ◌&&◌}
+use Rattle.std.proofs.Common.{◌≡◌, ◌∙◌, ℕ, ◌+◌, ◌≤◌, Bool, true, false, cond, List, [], ◌∷◌, Option, Some, None, is_some, is_none, find, refl, sym, ap, arith, ◌==◌, ◌&&◌}
 use Rattle.std.specs.List.{AllByRecursion}
 use Rattle.std.proofs.lemmas.Bool.{false≢true}
-use Rattle.plant_base.specs.Values.{greatest_amount}
-use Rattle.plant_base.specs.State.{State, same, put, lot_order, place_order, lot_at, place_at}
-use Rattle.plant_base.specs.{Lot, Place, Refusal}
+use Rattle.plant_base.specs.{greatest_amount, State, same, put, lot_order, place_order, lot_at, place_at, Lot, Place, Refusal}
 use Rattle.plant_base.proofs.PutKeepsOrder.{found_still, found_same}
 use Rattle.plant_base.proofs.FindIsFirst.{found_passes, found_keeps}
 use Rattle.plant_base.proofs.KeyOrders.{same_key, lot_tie, place_tie}
-use Rattle.plant_stock.specs.Stock.{entered, left}
-use Rattle.plant_view.specs.Refusals.{refuse, sublot_standing}
-use Rattle.plant_view.specs.Conservation.{is_of_lot}
-use Rattle.plant_view.specs.DecisionInvariant.{DecisionInvariant, IsThere, IsOneMaterial}
+use Rattle.plant_stock.specs.{entered, left}
+use Rattle.plant_view.specs.{refuse, sublot_standing, is_of_lot, IsThere, IsOneMaterial}
+use Rattle.plant_view.specs.DecisionInvariant.{DecisionInvariant}
 use Rattle.plant_view.proofs.RowKeys.{ids_apart}
 use Rattle.plant_view.proofs.StockColumn.{no_place, nothing_entered}
 

@@ -1,16 +1,10 @@
 -- The rows of edges: their order, and what one more movement adds.
-use Rattle.std.proofs.Common.{◌≡◌, ◌∙◌, ℕ, List, [], ◌∷◌, ◌++◌, Bool, true, false, nat_le, Option, Some, None, refl, ap}
-use Rattle.std.specs.Prelude.{if◌then◌else◌}
-use Rattle.std.specs.List.{filter_map, cons_option}
+use Rattle.std.proofs.Common.{◌≡◌, ◌∙◌, ℕ, List, [], ◌∷◌, ◌++◌, Bool, true, false, nat_le, Option, Some, None, refl, ap, if◌then◌else◌, filter_map, Ordering}
+use Rattle.std.specs.List.{cons_option}
 use Rattle.std.proofs.lemmas.List.Elements.{filter_map-append}
-use Rattle.std.specs.declared.cmp.Ordering.{Ordering}
 use Rattle.std.specs.List.Sorted.{IsStrictlySortedBy}
-use Rattle.plant_base.specs.Edges.{edge_order, edge_total}
-use Rattle.plant_base.specs.State.{put}
-use Rattle.plant_base.specs.{EdgeRow, Movement}
-use Rattle.plant_view.specs.Genealogy.{edge_row_of, edge_rows}
-use Rattle.plant_view.specs.Rows.{put_all}
-use Rattle.plant_view.specs.Tables.{edges_in}
+use Rattle.plant_base.specs.{edge_order, edge_total, put, EdgeRow, Movement}
+use Rattle.plant_view.specs.{edge_row_of, edge_rows, put_all, edges_in}
 use Rattle.plant_view.proofs.RowsInTurn.{sorted_put_all}
 
 pub edges_sorted : (schema : ℕ) (ms : List Movement) → IsStrictlySortedBy edge_order (edges_in schema ms)

@@ -1,23 +1,20 @@
 -- What movements do to the genealogy of a consistent state.
-use Rattle.std.proofs.Common.{◌≡◌, ◌∙◌, ℕ, true, false, List, [], ◌∷◌, ◌++◌, Option, Some, None, is_some, sym, subst, ap, ⊎_elim}
+use Rattle.std.proofs.Common.{◌≡◌, ◌∙◌, ℕ, true, false, List, [], ◌∷◌, ◌++◌, Option, Some, None, is_some, sym, subst, ap, ⊎_elim, append-nil}
 use Rattle.std.specs.List.{AllByRecursion, cons_option}
 use Rattle.std.proofs.lemmas.Bool.{false≢true}
-use Rattle.std.proofs.lemmas.List.{append-nil}
 use Rattle.std.proofs.lemmas.List.Elements.{filter_map-append}
-use Rattle.plant_base.specs.State.{State, put, batch_order, lot_at}
-use Rattle.plant_base.specs.{Batch, Movement, MovementKind}
+use Rattle.plant_base.specs.{State, put, batch_order, lot_at, Batch, Movement, MovementKind}
 use Rattle.plant_base.specs.declared.rows.MovementKind.TheVariants as kind
 use Rattle.plant_base.proofs.PutKeepsOrder.{all_weaker}
 use Rattle.plant_base.proofs.KeyOrders.{id_still}
-use Rattle.plant_stock.specs.Stock.{comes_from}
-use Rattle.plant_trace.specs.Reach.{Reach, HasEdge, IsAcyclic, leads}
-use Rattle.plant_trace.specs.Growth.{KeepsAcyclic, IsEnd}
-use Rattle.plant_trace.specs.{Node}
+use Rattle.plant_stock.specs.{comes_from}
+use Rattle.plant_trace.specs.{HasEdge, IsAcyclic, leads, KeepsAcyclic, IsEnd, Node}
+use Rattle.plant_trace.specs.Reach.{Reach}
 use Rattle.plant_trace.specs.declared.node.Node.TheVariants as node
 use Rattle.plant_trace.proofs.AddingKeepsAcyclic.{into_keeps, new_keeps}
 use Rattle.plant_trace.proofs.LeadsIsReach.{none_in, first_or_rest, leads_where_reached}
-use Rattle.plant_view.specs.Genealogy.{edge_by, edge_of, edges_among, edges_of, batch_by, IsBatchThere, IsConsistentGenealogy}
-use Rattle.plant_view.specs.DecisionInvariant.{DecisionInvariant, IsThere}
+use Rattle.plant_view.specs.{edge_by, edge_of, edges_among, edges_of, batch_by, IsBatchThere, IsConsistentGenealogy, IsThere}
+use Rattle.plant_view.specs.DecisionInvariant.{DecisionInvariant}
 use Rattle.plant_view.proofs.CommandsPreserveInvariant.{lot_known}
 use Rattle.plant_view.proofs.RowsInTurn.{all_append}
 

@@ -1,9 +1,7 @@
 -- The headers of recipes that are looked up.
-use Rattle.std.proofs.Common.{◌≡◌, ℕ, ◌==◌, ◌&&◌, List, Option, Some, None, refl}
-use Rattle.std.specs.Prelude.{find, option_map}
-use Rattle.plant_base.specs.State.{same}
-use Rattle.plant_base.specs.{Header, Recipe}
-use Rattle.plant_view.specs.Production.{headers_of, header_among, is_size_of_some, is_size_of_recipe}
+use Rattle.std.proofs.Common.{◌≡◌, ℕ, ◌==◌, ◌&&◌, List, Option, Some, None, refl, find, option_map}
+use Rattle.plant_base.specs.{same, Header, Recipe}
+use Rattle.plant_view.specs.{headers_of, header_among, is_size_of_some, is_size_of_recipe}
 use Rattle.plant_view.proofs.RowsInTurn.{find_mapped}
 
 -- a look-up among headers is one among recipes

@@ -1,16 +1,12 @@
 -- Why a lot's stock in a consistent state is what was born in it less what left it.
-use Rattle.std.proofs.Common.{◌≡◌, ℕ, ◌+◌, ◌-◌, Bool, true, false, cond, List, [], ◌∷◌, map, filter, refl, ap, arith}
-use Rattle.std.specs.Prelude.{◌&&◌, not, sum_by}
+use Rattle.std.proofs.Common.{◌≡◌, ℕ, ◌+◌, ◌-◌, Bool, true, false, cond, List, [], ◌∷◌, map, filter, refl, ap, arith, ◌&&◌, not, sum_by}
 use Rattle.std.proofs.lemmas.List.Sums.{sum_by-cons}
-use Rattle.plant_base.specs.State.{State, same}
-use Rattle.plant_base.specs.{Movement, MovementKind, Place, Sublot}
+use Rattle.plant_base.specs.{State, same, Movement, MovementKind, Place, Sublot}
 use Rattle.plant_base.specs.declared.rows.MovementKind.TheVariants.{Received, Consumed, Produced, Scrapped, Divided, Split, Merged}
 use Rattle.plant_base.proofs.PutKeepsOrder.{all_weaker}
-use Rattle.plant_stock.specs.Stock.{entered, left, goes_to, comes_from, is_division, is_in_lot, entering_lot, leaving_lot, born_of, left_of}
-use Rattle.plant_view.specs.Conservation.{IsBalanced}
-use Rattle.plant_view.specs.Refusals.{sublot_standing}
+use Rattle.plant_stock.specs.{entered, left, goes_to, comes_from, is_division, is_in_lot, entering_lot, leaving_lot, born_of, left_of}
+use Rattle.plant_view.specs.{IsBalanced, sublot_standing, sublot_row}
 use Rattle.plant_view.specs.DecisionInvariant.{DecisionInvariant}
-use Rattle.plant_view.specs.Tables.{sublot_row}
 use Rattle.plant_view.proofs.RowsInTurn.{all_of}
 use Rattle.plant_view.proofs.SumsOverSublots.{sums_add, chosen_add, of_place, total}
 

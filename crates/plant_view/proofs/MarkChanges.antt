@@ -1,32 +1,22 @@
 -- What the marks are, and what commands do to them.
-use Rattle.std.proofs.Common.{◌≡◌, ◌∙◌, ℕ, Bool, true, false, cond, List, [], ◌∷◌, ◌++◌, map, filter, sym, subst, ap, inl, inr, ⊎_elim, refl, Contains}
-use Rattle.std.specs.Prelude.{◌↔◌, ◌&&◌, ◌==◌, not}
-use Rattle.std.specs.List.{AllByRecursion, flat_map}
+use Rattle.std.proofs.Common.{◌≡◌, ◌∙◌, ℕ, Bool, true, false, cond, List, [], ◌∷◌, ◌++◌, map, filter, sym, subst, ap, inl, inr, ⊎_elim, refl, Contains, ◌↔◌, ◌&&◌, ◌==◌, not, flat_map, nat_cmp, Ordering, Less, Equal, Greater, eqb-true, eq-eqb}
+use Rattle.std.specs.List.{AllByRecursion}
 use Rattle.std.specs.List.Sorted.{IsStrictlySortedBy}
 use Rattle.std.specs.Cmp.{IsTotalOrder}
 use Rattle.std.specs.Cmp.Lexicographic.{nat_list_cmp_total}
-use Rattle.std.specs.Ordering.{nat_cmp, ordering_then}
-use Rattle.std.specs.declared.cmp.Ordering.{Ordering}
-use Rattle.std.specs.declared.cmp.Ordering.TheVariants.{Less, Equal, Greater}
-use Rattle.std.proofs.lemmas.Bool.{false≢true, and_from, and_parts, eqb-true, eq-eqb}
+use Rattle.std.specs.Ordering.{ordering_then}
+use Rattle.std.proofs.lemmas.Bool.{false≢true, and_from, and_parts}
 use Rattle.std.proofs.lemmas.Cmp.{on_total, tied_itself}
 use Rattle.std.proofs.lemmas.List.Kept.{IsStrictlySortedBy-filter}
 use Rattle.std.proofs.lemmas.Map.Lookups.{CmpEqualImpliesEq, exact_bytes}
-use Rattle.plant_base.specs.State.{same, put, id_cmp, recall_order}
+use Rattle.plant_base.specs.{same, put, id_cmp, recall_order, is_open, mark_kind_number, mark_order, mark_total, Mark, MarkKind, Recall}
 use Rattle.plant_base.proofs.KeyOrders.{same_id, same_itself}
-use Rattle.plant_trace.specs.Growth.{IsEnd}
-use Rattle.plant_trace.specs.Reach.{Lists, leads}
-use Rattle.plant_trace.specs.Recalls.{IsRecalled, is_recalled, ReachesNone}
-use Rattle.plant_trace.specs.{Node}
+use Rattle.plant_trace.specs.{IsEnd, Lists, leads, IsRecalled, is_recalled, ReachesNone, Node}
 use Rattle.plant_trace.specs.declared.node.Node.TheVariants as node
 use Rattle.plant_trace.proofs.AddingKeepsAcyclic.{last_edge}
 use Rattle.plant_trace.proofs.LeadsIsReach.{none_in, first_in, rest_in, first_or_rest, leads_where_reached}
 use Rattle.plant_trace.proofs.RecallReaches.{recalled_where_reached, stays_where_unreached, grows_by_new}
-use Rattle.plant_base.specs.Recalls.{is_open, mark_kind_number, mark_order, mark_total}
-use Rattle.plant_view.specs.Recalls.{mark_on, node_at, node_of, nodes_from, marks_of, marks, Reaches, recalls_on, is_on}
-use Rattle.plant_view.specs.Rows.{put_all}
-use Rattle.plant_view.specs.MarkLaws.{AreThePairs, StayWhereUnreached, GrowByProduct, ComeWithRecall, GoWithLift, AreOnNode}
-use Rattle.plant_base.specs.{Mark, MarkKind, Recall}
+use Rattle.plant_view.specs.{mark_on, node_at, node_of, nodes_from, marks_of, marks, Reaches, recalls_on, is_on, put_all, AreThePairs, StayWhereUnreached, GrowByProduct, ComeWithRecall, GoWithLift, AreOnNode}
 use Rattle.plant_base.specs.declared.rows.MarkKind.TheVariants as kind
 use Rattle.plant_view.proofs.RowKeys.{both_tie}
 use Rattle.plant_view.proofs.Membership.{all_at, map_in, map_from, filter_in, filter_from, flat_in, flat_from, put_in, put_from, put_past, put_once, all_stay, all_in, one_list, put_all_from, sorted_put_all, map_sorted}

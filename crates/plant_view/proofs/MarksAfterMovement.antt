@@ -1,22 +1,15 @@
 -- What movements do to the marks.
-use Rattle.std.proofs.Common.{◌≡◌, ◌∙◌, ℕ, Bool, true, false, cond, List, [], ◌∷◌, ◌++◌, map, filter, length, nat_le, Some, None, is_some, sym, subst, ap, refl, arith}
-use Rattle.std.specs.Prelude.{◌&&◌}
+use Rattle.std.proofs.Common.{◌≡◌, ◌∙◌, ℕ, Bool, true, false, cond, List, [], ◌∷◌, ◌++◌, map, filter, length, nat_le, Some, None, is_some, sym, subst, ap, refl, arith, ◌&&◌, le-leb, append-nil}
 use Rattle.std.specs.List.{AllByRecursion, cons_option}
-use Rattle.std.proofs.lemmas.Bool.{false≢true, le-leb}
-use Rattle.std.proofs.lemmas.List.{append-nil}
+use Rattle.std.proofs.lemmas.Bool.{false≢true}
 use Rattle.std.proofs.lemmas.List.Elements.{filter_map-append}
-use Rattle.plant_base.specs.Recalls.{is_open, mark_order}
-use Rattle.plant_base.specs.State.{State, lot_at}
-use Rattle.plant_base.specs.{Mark, Movement, Recall}
-use Rattle.plant_trace.specs.Recalls.{IsRecalled, is_recalled, ReachesNone}
-use Rattle.plant_trace.specs.{Node}
+use Rattle.plant_base.specs.{is_open, mark_order, State, lot_at, Mark, Movement, Recall}
+use Rattle.plant_trace.specs.{IsRecalled, is_recalled, ReachesNone, Node}
 use Rattle.plant_trace.specs.declared.node.Node.TheVariants as node
 use Rattle.plant_trace.proofs.RecallReaches.{recalled_where_reached}
-use Rattle.plant_view.specs.Genealogy.{edge_of, edges_among, edges_of}
-use Rattle.plant_view.specs.Recalls.{mark_on, marks, recalls_on, is_blocked}
-use Rattle.plant_view.specs.Rows.{put_all}
+use Rattle.plant_view.specs.{edge_of, edges_among, edges_of, mark_on, marks, recalls_on, is_blocked, put_all, changed_all}
 use Rattle.plant_view.specs.DecisionInvariant.{DecisionInvariant}
-use Rattle.plant_view.specs.Tables.{Tables, changed_all}
+use Rattle.plant_view.specs.Tables.{Tables}
 use Rattle.plant_view.specs.declared.change.RowChange.TheVariants as row
 use Rattle.plant_view.proofs.GenealogyAfterMovement.{EdgeHas, edges_have, new_is_end}
 use Rattle.plant_view.proofs.MarkChanges.{stay_where_unreached, grow_by_product}

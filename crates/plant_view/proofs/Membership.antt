@@ -1,18 +1,16 @@
 -- Lists by what they contain.
-use Rattle.std.proofs.Common.{◌≡◌, ◌∙◌, Bool, true, false, cond, List, [], ◌∷◌, map, filter, sym, subst, ap, inl, inr, ◌⊎◌, ⊎_elim, refl, Contains}
-use Rattle.std.specs.List.{AllByRecursion, flat_map}
+use Rattle.std.proofs.Common.{◌≡◌, ◌∙◌, Bool, true, false, cond, List, [], ◌∷◌, map, filter, sym, subst, ap, inl, inr, ◌⊎◌, ⊎_elim, refl, Contains, flat_map, Ordering, Less, Equal, Greater}
+use Rattle.std.specs.List.{AllByRecursion}
 use Rattle.std.specs.List.Sorted.{IsStrictlySortedBy}
 use Rattle.std.specs.Cmp.{IsTotalOrder}
 use Rattle.std.specs.Ordering.{match_ordering}
-use Rattle.std.specs.declared.cmp.Ordering.{Ordering}
-use Rattle.std.specs.declared.cmp.Ordering.TheVariants.{Less, Equal, Greater}
 use Rattle.std.proofs.lemmas.Bool.{false≢true}
 use Rattle.std.proofs.lemmas.Cmp.{tied_itself}
 use Rattle.std.proofs.lemmas.List.Elements.{Contains-append_cases, Contains-append_left, Contains-append_right}
 use Rattle.std.proofs.lemmas.Map.Lookups.{CmpEqualImpliesEq}
-use Rattle.plant_base.specs.State.{put}
+use Rattle.plant_base.specs.{put}
 use Rattle.plant_trace.proofs.LeadsIsReach.{none_in, first_in, rest_in, first_or_rest}
-use Rattle.plant_view.specs.Rows.{put_all}
+use Rattle.plant_view.specs.{put_all}
 pub use Rattle.plant_view.proofs.RowsInTurn.{sorted_put_all}
 
 -- ---- each of them

@@ -1,17 +1,14 @@
 -- Rows that go in one after the other, and rows that are numbered.
-use Rattle.std.proofs.Common.{◌≡◌, ◌∙◌, ℕ, ◌+◌, ◌<◌, Bool, true, false, cond, List, [], ◌++◌, ◌∷◌, Option, Some, None, map, filter, find, is_some, take, get_or, option_map, length, refl, sym, ap, append_assoc, arith}
-use Rattle.std.specs.Prelude.{◌&&◌}
+use Rattle.std.proofs.Common.{◌≡◌, ◌∙◌, ℕ, ◌+◌, ◌<◌, Bool, true, false, cond, List, [], ◌++◌, ◌∷◌, Option, Some, None, map, filter, find, is_some, take, get_or, option_map, length, refl, sym, ap, append_assoc, arith, ◌&&◌, is_eq, Ordering, Less, Equal, Greater, append-nil}
 use Rattle.std.specs.List.{AllByRecursion, list_all}
 use Rattle.std.specs.List.Sorted.{IsStrictlySortedBy}
 use Rattle.std.specs.Cmp.{IsTotalOrder}
-use Rattle.std.specs.Ordering.{match_ordering, is_eq, ordering_reverse}
-use Rattle.std.specs.declared.cmp.Ordering.{Ordering}
-use Rattle.std.specs.declared.cmp.Ordering.TheVariants.{Less, Equal, Greater}
+use Rattle.std.specs.Ordering.{match_ordering, ordering_reverse}
 use Rattle.std.proofs.lemmas.Bool.{false≢true}
-use Rattle.std.proofs.lemmas.List.{append-nil, take_more, map-append}
-use Rattle.plant_base.specs.State.{put}
+use Rattle.std.proofs.lemmas.List.{take_more, map-append}
+use Rattle.plant_base.specs.{put}
 use Rattle.plant_base.proofs.PutKeepsOrder.{all_weaker, all_put, all_push, sorted_put, found_same}
-use Rattle.plant_view.specs.Rows.{numbered, put_all}
+use Rattle.plant_view.specs.{numbered, put_all}
 
 -- ---- what holds of rows
 

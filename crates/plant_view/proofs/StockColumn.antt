@@ -1,21 +1,16 @@
 -- The stock column after one more movement.
-use Rattle.std.proofs.Common.{◌≡◌, ◌∙◌, ℕ, ◌-◌, true, false, cond, List, [], ◌∷◌, ◌++◌, map, Option, Some, None, is_some, refl, sym, ap, arith}
-use Rattle.std.specs.Prelude.{◌==◌, ◌&&◌, option_map}
+use Rattle.std.proofs.Common.{◌≡◌, ◌∙◌, ℕ, ◌-◌, true, false, cond, List, [], ◌∷◌, ◌++◌, map, Option, Some, None, is_some, refl, sym, ap, arith, ◌==◌, ◌&&◌, option_map, is_eq}
 use Rattle.std.specs.List.{AllByRecursion}
 use Rattle.std.specs.List.Sorted.{IsStrictlySortedBy}
-use Rattle.std.specs.Ordering.{is_eq}
 use Rattle.std.proofs.lemmas.Bool.{false≢true, false_from_ne_true}
-use Rattle.plant_base.specs.State.{State, same, put, place_order, lot_at, place_at}
-use Rattle.plant_base.specs.{Movement, Place}
+use Rattle.plant_base.specs.{State, same, put, place_order, lot_at, place_at, Movement, Place}
 use Rattle.plant_base.proofs.PutKeepsOrder.{put_map, all_weaker}
 use Rattle.plant_base.proofs.FindIsFirst.{found_passes, found_keeps}
 use Rattle.plant_base.proofs.KeyOrders.{same_id, same_key, place_order_total, same_key_tie}
-use Rattle.plant_stock.specs.Stock.{entered, left, entering, leaving, is_sublot_key, goes_to, comes_from}
+use Rattle.plant_stock.specs.{entered, left, entering, leaving, is_sublot_key, goes_to, comes_from}
 use Rattle.plant_stock.proofs.StockAfterMovement.{entered_push, left_push, entered_nothing, left_nothing}
-use Rattle.plant_view.specs.Tables.{sublot_order, sublot_row}
-use Rattle.plant_view.specs.DecisionInvariant.{DecisionInvariant, IsThere}
-use Rattle.plant_view.specs.Refusals.{sublot_standing}
-use Rattle.plant_view.specs.Views.{IsSublotOf}
+use Rattle.plant_view.specs.{sublot_order, sublot_row, IsThere, sublot_standing, IsSublotOf}
+use Rattle.plant_view.specs.DecisionInvariant.{DecisionInvariant}
 use Rattle.plant_view.proofs.RowsInTurn.{all_of}
 
 -- a movement that names this sublot alone

@@ -1,14 +1,11 @@
 -- Why nothing is lost and nothing made in a consistent state.
-use Rattle.std.proofs.Common.{◌≡◌, ◌∙◌, ℕ, ◌+◌, Bool, true, false, cond, List, refl, ap, arith}
-use Rattle.std.specs.Prelude.{◌&&◌}
-use Rattle.plant_base.specs.State.{State}
-use Rattle.plant_base.specs.{Movement, MovementKind}
+use Rattle.std.proofs.Common.{◌≡◌, ◌∙◌, ℕ, ◌+◌, Bool, true, false, cond, List, refl, ap, arith, ◌&&◌}
+use Rattle.plant_base.specs.{State, Movement, MovementKind}
 use Rattle.plant_base.specs.declared.rows.MovementKind.TheVariants.{Received, Consumed, Produced, Scrapped, Divided, Split, Merged}
 use Rattle.plant_base.proofs.PutKeepsOrder.{all_weaker}
-use Rattle.plant_stock.specs.Stock.{entered, left, goes_to, comes_from}
-use Rattle.plant_view.specs.Refusals.{sublot_standing}
-use Rattle.plant_view.specs.DecisionInvariant.{DecisionInvariant, IsOneMaterial}
-use Rattle.plant_view.specs.Conservation.{is_of, is_birth, is_end, IsConserved}
+use Rattle.plant_stock.specs.{entered, left, goes_to, comes_from}
+use Rattle.plant_view.specs.{sublot_standing, IsOneMaterial, is_of, is_birth, is_end, IsConserved}
+use Rattle.plant_view.specs.DecisionInvariant.{DecisionInvariant}
 use Rattle.plant_view.proofs.RowsInTurn.{all_of}
 use Rattle.plant_view.proofs.SumsOverSublots.{sums_add, chosen_add, of_place, total}
 

@@ -1,19 +1,15 @@
 -- What all movements bring to the sublots of some lots, summed over the sublots and over the movements.
-use Rattle.std.proofs.Common.{◌≡◌, ◌∙◌, ℕ, ◌+◌, Bool, true, false, cond, List, [], ◌∷◌, Option, Some, None, is_some, find, refl, sym, ap, arith}
-use Rattle.std.specs.Prelude.{sum_by}
+use Rattle.std.proofs.Common.{◌≡◌, ◌∙◌, ℕ, ◌+◌, Bool, true, false, cond, List, [], ◌∷◌, Option, Some, None, is_some, find, refl, sym, ap, arith, sum_by, is_eq, Ordering, Less, Equal, Greater}
 use Rattle.std.specs.List.{AllByRecursion}
 use Rattle.std.specs.List.Sorted.{IsStrictlySortedBy}
-use Rattle.std.specs.Ordering.{is_eq}
-use Rattle.std.specs.declared.cmp.Ordering.{Ordering}
-use Rattle.std.specs.declared.cmp.Ordering.TheVariants.{Less, Equal, Greater}
 use Rattle.std.proofs.lemmas.List.Sums.{sum_by-cons}
 use Rattle.std.proofs.lemmas.Bool.{false≢true}
-use Rattle.plant_base.specs.State.{State, place_order}
-use Rattle.plant_base.specs.{Movement, Place}
+use Rattle.plant_base.specs.{State, place_order, Movement, Place}
 use Rattle.plant_base.proofs.PutKeepsOrder.{at_rest, all_weaker}
 use Rattle.plant_base.proofs.KeyOrders.{same_key, place_order_total, same_key_tie, test_tie}
-use Rattle.plant_stock.specs.Stock.{is_sublot_key}
-use Rattle.plant_view.specs.DecisionInvariant.{DecisionInvariant, IsThere}
+use Rattle.plant_stock.specs.{is_sublot_key}
+use Rattle.plant_view.specs.{IsThere}
+use Rattle.plant_view.specs.DecisionInvariant.{DecisionInvariant}
 use Rattle.plant_view.proofs.RowsInTurn.{all_of}
 
 -- ---- sums

@@ -1,9 +1,8 @@
 -- Material of one definition: what came in, what went out, and what is in stock.
 use Rattle.std.specs.Prelude.{◌≡◌, ℕ, ◌+◌, Bool, true, false, ◌&&◌, if◌then◌else◌, List, Option, Some, None, sum_by}
-use Rattle.plant_base.specs.State.{State, same, lot_at}
-use Rattle.plant_base.specs.{Lot, MovementKind}
+use Rattle.plant_base.specs.{State, same, lot_at, Lot, MovementKind}
 use Rattle.plant_base.specs.declared.rows.MovementKind.TheVariants.{Received, Consumed, Produced, Scrapped, Divided, Split, Merged}
-use Rattle.plant_stock.specs.Stock.{born_of, left_of}
+use Rattle.plant_stock.specs.{born_of, left_of}
 use Rattle.plant_view.specs.Refusals.{sublot_standing}
 use Rattle.plant_view.specs.Tables.{sublots_of}
 

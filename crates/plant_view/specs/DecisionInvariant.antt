@@ -2,10 +2,8 @@
 use Rattle.std.specs.Prelude.{◌≡◌, ◌==◌, ◌&&◌, ℕ, Bool, ◌≤◌, true, List, Option, Some, None, find, is_some, ⊤}
 use Rattle.std.specs.List.{AllByRecursion}
 use Rattle.std.specs.List.Sorted.{IsStrictlySortedBy}
-use Rattle.plant_base.specs.Values.{greatest_amount, greatest_sublot}
-use Rattle.plant_base.specs.State.{State, same, class_order, definition_order, lot_order, place_order, hold_order, recall_order}
-use Rattle.plant_base.specs.{Batch, BatchEvent, Class, ControlLine, Definition, Header, Hold, Job, Lot, MasterLine, Movement, Place, Recall}
-use Rattle.plant_stock.specs.Stock.{goes_to, comes_from, entered, left}
+use Rattle.plant_base.specs.{greatest_amount, greatest_sublot, State, same, class_order, definition_order, lot_order, place_order, hold_order, recall_order, Batch, BatchEvent, Class, ControlLine, Definition, Header, Hold, Job, Lot, MasterLine, Movement, Place, Recall}
+use Rattle.plant_stock.specs.{goes_to, comes_from, entered, left}
 use Rattle.plant_view.specs.Conservation.{is_of_lot}
 use Rattle.plant_view.specs.Genealogy.{IsConsistentGenealogy}
 use Rattle.plant_view.specs.Production.{AreConsistentRecipes, AreConsistentOrders, AreConsistentBatches, AreConsistentRuns, headers_of, orders_of, is_defined}

@@ -2,15 +2,10 @@
 use Rattle.std.specs.Prelude.{◌≡◌, ◌↔◌, ℕ, true, false, not, List, [], ◌∷◌, ◌++◌, map, filter, Contains}
 use Rattle.std.specs.List.{AllByRecursion}
 use Rattle.std.specs.List.Sorted.{IsStrictlySortedBy}
-use Rattle.plant_base.specs.State.{same, put, recall_order}
-use Rattle.plant_trace.specs.Growth.{IsEnd}
-use Rattle.plant_trace.specs.Reach.{Lists}
-use Rattle.plant_trace.specs.Recalls.{IsRecalled, ReachesNone}
-use Rattle.plant_trace.specs.{Node}
-use Rattle.plant_base.specs.Recalls.{mark_order, is_open}
+use Rattle.plant_base.specs.{same, put, recall_order, mark_order, is_open, Mark, MarkKind, Recall}
+use Rattle.plant_trace.specs.{IsEnd, Lists, IsRecalled, ReachesNone, Node}
 use Rattle.plant_view.specs.Recalls.{node_at, is_on, marks, mark_on, node_of, recalls_on, Reaches}
 use Rattle.plant_view.specs.Rows.{put_all}
-use Rattle.plant_base.specs.{Mark, MarkKind, Recall}
 
 -- the marks are the pairs of an open recall and a node that it reaches, each once
 abbrev pub AreThePairs : Type 0

@@ -1,13 +1,8 @@
 -- What recalls reach, and the marks that tables keep of it.
-use Rattle.std.specs.Prelude.{◌≡◌, ◌==◌, ℕ, Bool, true, not, ◌&&◌, if◌then◌else◌, nat_le, List, [], ◌∷◌, map, filter, length, Contains}
-use Rattle.std.specs.List.{flat_map}
-use Rattle.plant_base.specs.Recalls.{is_open, mark_kind_number, mark_order}
-use Rattle.plant_base.specs.State.{State, same}
-use Rattle.plant_base.specs.{Mark, MarkKind, Movement, Recall}
+use Rattle.std.specs.Prelude.{◌≡◌, ◌==◌, ℕ, Bool, true, not, ◌&&◌, if◌then◌else◌, nat_le, List, [], ◌∷◌, map, filter, length, Contains, flat_map}
+use Rattle.plant_base.specs.{is_open, mark_kind_number, mark_order, State, same, Mark, MarkKind, Movement, Recall}
 use Rattle.plant_base.specs.declared.rows.MarkKind.TheVariants as kind
-use Rattle.plant_trace.specs.Reach.{leads}
-use Rattle.plant_trace.specs.Recalls.{IsRecalled, is_recalled}
-use Rattle.plant_trace.specs.{Node}
+use Rattle.plant_trace.specs.{leads, IsRecalled, is_recalled, Node}
 use Rattle.plant_trace.specs.declared.node.Node.TheVariants as node
 use Rattle.plant_view.specs.Genealogy.{edges_among, edges_of}
 use Rattle.plant_view.specs.Rows.{put_all}

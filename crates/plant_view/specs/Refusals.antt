@@ -1,9 +1,7 @@
 -- Conditions: the first one that fails names the refusal.
 use Rattle.std.specs.Prelude.{ℕ, ◌-◌, Bool, Option, Some, filter, length, if◌then◌else◌, nat_le, List}
-use Rattle.plant_base.specs.Values.{greatest_seq}
-use Rattle.plant_base.specs.State.{State, same}
-use Rattle.plant_base.specs.{Hold, Refusal}
-use Rattle.plant_stock.specs.Stock.{entered, left}
+use Rattle.plant_base.specs.{greatest_seq, State, same, Hold, Refusal}
+use Rattle.plant_stock.specs.{entered, left}
 
 -- refused where the test holds, and else for what follows
 abbrev pub refuse : Bool → Refusal → Option Refusal → Option Refusal

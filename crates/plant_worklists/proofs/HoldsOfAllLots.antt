@@ -1,17 +1,14 @@
 -- The holds after a cursor are the further ones of its lot, and those of the lots after it.
-use Rattle.std.proofs.Common.{◌≡◌, ◌∙◌, Bool, true, false, ◌&&◌, ◌||◌, Some, refl, ap, filter}
+use Rattle.std.proofs.Common.{◌≡◌, ◌∙◌, Bool, true, false, ◌&&◌, ◌||◌, Some, refl, ap, filter, is_eq, is_gt, Ordering, Less, Equal, Greater}
 use Rattle.std.proofs.Math.Bool.{or-false}
 use Rattle.std.proofs.lemmas.Cmp.{then_total, on_total, nat_list_cmp_total}
 use Rattle.std.specs.Cmp.{IsTotalOrder}
 use Rattle.std.specs.Cmp.Lexicographic.{texts_ties}
-use Rattle.std.specs.Ordering.{is_eq, is_gt, ordering_then}
+use Rattle.std.specs.Ordering.{ordering_then}
 use Rattle.std.specs.Set.{sorted_merge}
-use Rattle.std.specs.declared.cmp.Ordering.{Ordering}
-use Rattle.std.specs.declared.cmp.Ordering.TheVariants.{Less, Equal, Greater}
-use Rattle.plant_base.specs.State.{State, hold_order, id_cmp, same}
-use Rattle.plant_base.specs.{Hold}
+use Rattle.plant_base.specs.{State, hold_order, id_cmp, same, Hold}
 use Rattle.plant_view.specs.DecisionInvariant.{DecisionInvariant}
-use Rattle.plant_worklists.specs.Worklists.{all_holds, holds_after, holds_on, is_after, is_hold_after, is_hold_on}
+use Rattle.plant_worklists.specs.{all_holds, holds_after, holds_on, is_after, is_hold_after, is_hold_on}
 use Rattle.plant_worklists.specs.declared.cursors.HoldCursor.{HoldCursor}
 use Rattle.plant_worklists.proofs.MergedLists.{merged_filters}
 

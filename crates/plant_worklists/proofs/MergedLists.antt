@@ -1,17 +1,14 @@
 -- Two lists in order as one.
-use Rattle.std.proofs.Common.{◌≡◌, ◌∙◌, ◌≤◌, ◌<◌, ℕ, zero, suc, Bool, true, false, cond, ◌||◌, List, [], ◌∷◌, filter, take, length, nat_lt, refl, sym, ap, arith}
+use Rattle.std.proofs.Common.{◌≡◌, ◌∙◌, ◌≤◌, ◌<◌, ℕ, zero, suc, Bool, true, false, cond, ◌||◌, List, [], ◌∷◌, filter, take, length, nat_lt, refl, sym, ap, arith, Ordering, Less, Equal, Greater, take_all}
 use Rattle.std.specs.List.{AllByRecursion}
 use Rattle.std.specs.List.Sorted.{IsStrictlySortedBy}
 use Rattle.std.specs.Cmp.{IsTotalOrder}
 use Rattle.std.specs.Ordering.{ordering_reverse}
 use Rattle.std.specs.Set.{sorted_merge}
-use Rattle.std.specs.declared.cmp.Ordering.{Ordering}
-use Rattle.std.specs.declared.cmp.Ordering.TheVariants.{Less, Equal, Greater}
 use Rattle.std.proofs.lemmas.Bool.Decides.{nat_tests}
 use Rattle.std.proofs.lemmas.Cmp.{tied_itself}
-use Rattle.std.proofs.lemmas.List.{take_all}
 use Rattle.plant_view.proofs.RowsInTurn.{all_filtered}
-use Rattle.plant_worklists.specs.Pages.{page_size, page_of}
+use Rattle.plant_worklists.specs.{page_size, page_of}
 use Rattle.plant_worklists.specs.declared.page.Page.{Page}
 use Rattle.std.proofs.lemmas.Grind.{common_steps}
 

@@ -1,8 +1,7 @@
 -- What is read ahead once a lot is asked for: whether a page is read, and what is then there.
 use Rattle.std.proofs.Common.{◌≡◌, ◌∙◌, ℕ, Bool, true, false, not, cond, ◌&&◌, List, Ok, Err, IfOk, Result, sym, ap}
 use Rattle.std.proofs.lemmas.Bool.{and_parts, false≢true}
-use Rattle.plant_worklists.specs.Pages.{page_of}
-use Rattle.plant_worklists.specs.Prefetching.{asked_for, counted, is_answered, is_page_due, prefetched, rows_after, wants_page, with_page}
+use Rattle.plant_worklists.specs.{page_of, asked_for, counted, is_answered, is_page_due, prefetched, rows_after, wants_page, with_page}
 use Rattle.plant_worklists.specs.declared.page.Page.{Page}
 use Rattle.plant_worklists.specs.declared.prefetch.ReadAhead.{ReadAhead}
 

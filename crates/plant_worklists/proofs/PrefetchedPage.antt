@@ -1,19 +1,13 @@
 -- A page of what comes after a lot is all there is of each lot before its last, and of all where nothing comes after it.
-use Rattle.std.proofs.Common.{◌≡◌, ◌∙◌, ℕ, ◌+◌, ◌-◌, ◌<◌, ◌≤◌, Bool, true, false, cond, nat_lt, List, [], ◌∷◌, ◌++◌, filter, take, drop, length, get_or, slice_get, option_map, Option, Some, None, refl, sym, ap, arith}
-use Rattle.std.specs.Prelude.{if◌then◌else◌}
-use Rattle.std.specs.Ordering.{is_eq, is_lt, ordering_index, ordering_reverse}
-use Rattle.std.specs.declared.cmp.Ordering.{Ordering}
-use Rattle.std.specs.declared.cmp.Ordering.TheVariants.{Less, Greater}
+use Rattle.std.proofs.Common.{◌≡◌, ◌∙◌, ℕ, ◌+◌, ◌-◌, ◌<◌, ◌≤◌, Bool, true, false, cond, nat_lt, List, [], ◌∷◌, ◌++◌, filter, take, drop, length, get_or, slice_get, option_map, Option, Some, None, refl, sym, ap, arith, if◌then◌else◌, is_eq, is_lt, Ordering, Less, Greater, append-nil, length-take, length-drop, get_or-take, get_or-drop, take_all}
+use Rattle.std.specs.Ordering.{ordering_index, ordering_reverse}
 use Rattle.std.proofs.lemmas.Bool.{and_parts, false≢true}
 use Rattle.std.proofs.lemmas.Bool.Decides.{nat_tests}
 use Rattle.std.proofs.lemmas.Cmp.{nat_list_cmp_total}
-use Rattle.std.proofs.lemmas.List.{append-nil, length-take, length-drop, get_or-take, get_or-drop, take_all}
 use Rattle.std.proofs.lemmas.Option.{get_or_from_slice_get, slice_get-get_or}
-use Rattle.plant_base.specs.State.{id_cmp, same}
+use Rattle.plant_base.specs.{id_cmp, same}
 use Rattle.plant_base.proofs.KeyOrders.{same_id}
-use Rattle.plant_worklists.specs.Prefetching.{AreRead, Rise, end_of, is_before, is_between, rows_after, rows_of}
-use Rattle.plant_worklists.specs.Pages.{page_of, page_size}
-use Rattle.plant_worklists.specs.Worklists.{is_after}
+use Rattle.plant_worklists.specs.{AreRead, Rise, end_of, is_before, is_between, rows_after, rows_of, page_of, page_size, is_after}
 use Rattle.plant_worklists.specs.declared.page.Page.{Page}
 use Rattle.plant_worklists.proofs.RowsOfLot.{prefix_and_rest, is_of, none_pass, rise_prefix, rises}
 

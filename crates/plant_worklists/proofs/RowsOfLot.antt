@@ -1,18 +1,15 @@
 -- Rows in the order of their lots: what is between the positions that two searches find is what is of the lot.
-use Rattle.std.proofs.Common.{◌≡◌, ◌∙◌, ℕ, suc, ◌+◌, ◌<◌, ◌≤◌, Bool, true, false, List, [], ◌∷◌, ◌++◌, filter, take, drop, length, get_or, refl, sym, ap, arith}
+use Rattle.std.proofs.Common.{◌≡◌, ◌∙◌, ℕ, suc, ◌+◌, ◌<◌, ◌≤◌, Bool, true, false, List, [], ◌∷◌, ◌++◌, filter, take, drop, length, get_or, refl, sym, ap, arith, is_eq, is_le, is_lt, Ordering, Less, Equal, Greater, append-nil, length-take, length-drop, get_or-take, get_or-drop, take-append-drop}
 use Rattle.std.specs.List.Sorted.{IsNonDecreasingBy, IsPartitionPoint, IsPartitionedBy}
-use Rattle.std.specs.Ordering.{is_eq, is_le, is_lt, ordering_index}
-use Rattle.std.specs.declared.cmp.Ordering.{Ordering}
-use Rattle.std.specs.declared.cmp.Ordering.TheVariants.{Less, Equal, Greater}
+use Rattle.std.specs.Ordering.{ordering_index}
 use Rattle.std.specs.Cmp.Lexicographic.{texts_ties}
 use Rattle.std.proofs.lemmas.Bool.{false≢true}
 use Rattle.std.proofs.lemmas.Bool.Decides.{nat_tests}
 use Rattle.std.proofs.lemmas.Cmp.{is_lt_index, nat_list_cmp_total}
-use Rattle.std.proofs.lemmas.List.{append-nil, length-take, length-drop, get_or-take, get_or-drop, take-append-drop}
 use Rattle.std.proofs.lemmas.List.Elements.{filter-append}
 use Rattle.std.proofs.lemmas.List.Sorted.{searchable_from_sorted}
-use Rattle.plant_base.specs.State.{id_cmp, same}
-use Rattle.plant_worklists.specs.Prefetching.{Rise, rows_of}
+use Rattle.plant_base.specs.{id_cmp, same}
+use Rattle.plant_worklists.specs.{Rise, rows_of}
 
 -- ---- what each passes, and what none does
 

@@ -1,15 +1,12 @@
 -- Numbers of few digits are small, and a text with no dot names no cursor.
-use Rattle.std.proofs.Common.{◌≡◌, ℕ, ◌<◌, ◌≤◌, ◌^◌, Bool, true, false, ◌&&◌, cond, List, length, Option, Some, None, nat_le, refl, ap, subst, arith, []}
+use Rattle.std.proofs.Common.{◌≡◌, ℕ, ◌<◌, ◌≤◌, ◌^◌, Bool, true, false, ◌&&◌, cond, List, length, Option, Some, None, nat_le, refl, ap, subst, arith, [], drop_of_length-le}
 use Rattle.std.specs.Char.{is_ascii_digit}
 use Rattle.std.specs.List.{list_all, position_or_len, before_first, after_first}
 use Rattle.std.specs.Str.Parse.{digits_value}
 use Rattle.std.proofs.lemmas.Bool.Decides.{nat_tests}
 use Rattle.std.proofs.lemmas.Str.Parse.{digits_value_short, numerals_by_value, tells_all_ascii_digits}
-use Rattle.std.proofs.Math.ListN.{drop_of_length-le}
-use Rattle.plant_base.specs.Digits.{digits_of}
-use Rattle.plant_base.specs.Values.{is_id, only}
-use Rattle.plant_base.specs.Dates.{is_due}
-use Rattle.plant_worklists.specs.Cursors.{is_dot, due_cursor_of, due_cursor, hold_cursor_of, hold_cursor, recipe_cursor_of, recipe_cursor, movement_cursor_of, movement_cursor}
+use Rattle.plant_base.specs.{digits_of, is_id, only, is_due}
+use Rattle.plant_worklists.specs.{is_dot, due_cursor_of, due_cursor, hold_cursor_of, hold_cursor, recipe_cursor_of, recipe_cursor, movement_cursor_of, movement_cursor}
 
 abbrev or_zero : Option ℕ → ℕ
 or_zero None = 0

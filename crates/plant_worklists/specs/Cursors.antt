@@ -1,9 +1,7 @@
 -- Cursors in lists whose rows have keys of two values, and how such a cursor is written.
 use Rattle.std.specs.Prelude.{ℕ, Bool, List, Option, Some, None, ◌==◌}
 use Rattle.std.specs.List.{before_first, after_first}
-use Rattle.plant_base.specs.Dates.{is_due}
-use Rattle.plant_base.specs.Digits.{digits_of}
-use Rattle.plant_base.specs.Values.{is_id, only}
+use Rattle.plant_base.specs.{is_due, digits_of, is_id, only}
 use Rattle.plant_worklists.specs.declared.cursors.DueCursor.{DueCursor}
 use Rattle.plant_worklists.specs.declared.cursors.HoldCursor.{HoldCursor}
 use Rattle.plant_worklists.specs.declared.cursors.RecipeCursor.{RecipeCursor}

@@ -2,9 +2,8 @@
 use Rattle.std.specs.Prelude.{◌≡◌, ◌-◌, ◌==◌, ℕ, Bool, true, false, not, ◌&&◌, if◌then◌else◌, List, [], Option, Some, None, filter, length, map, nat_eq, option_map, slice_get, take, IsSortedByKey}
 use Rattle.std.specs.List.{starts_with}
 use Rattle.std.specs.Ordering.{is_lt}
-use Rattle.plant_base.specs.State.{State, id_cmp, same}
-use Rattle.plant_base.specs.{Hold, Lot, Sublot}
-use Rattle.plant_view.specs.Tables.{sublot_row}
+use Rattle.plant_base.specs.{State, id_cmp, same, Hold, Lot, Sublot}
+use Rattle.plant_view.specs.{sublot_row}
 use Rattle.plant_worklists.specs.FetchPolicy.{after_hit, after_miss, first_policy, is_due, row_with}
 use Rattle.plant_worklists.specs.Pages.{page_of}
 use Rattle.plant_worklists.specs.Worklists.{is_after}

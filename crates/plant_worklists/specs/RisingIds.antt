@@ -1,15 +1,15 @@
 -- The rows of a consistent state are in the order of their lots.
-use Rattle.std.proofs.Common.{◌≡◌, ◌∙◌, ℕ, zero, suc, ◌+◌, Bool, false, List, [], ◌∷◌, map, filter, refl, ap, arith}
+use Rattle.std.specs.Prelude.{◌≡◌, ℕ, zero, suc, ◌+◌, Bool, false, List, [], ◌∷◌, map, filter, refl}
+use Rattle.std.proofs.Common.{◌∙◌, ap, arith}
 use Rattle.std.specs.List.Sorted.{IsStrictlySortedBy}
 use Rattle.std.specs.Ordering.{is_lt, nat_cmp, ordering_reverse, ordering_then}
 use Rattle.std.specs.declared.cmp.Ordering.{Ordering}
 use Rattle.std.specs.declared.cmp.Ordering.TheVariants.{Less, Equal, Greater}
 use Rattle.std.proofs.lemmas.Cmp.{nat_list_cmp_total}
 use Rattle.std.proofs.lemmas.List.Kept.{IsStrictlySortedBy-filter}
-use Rattle.plant_base.specs.State.{State, id_cmp, lot_order, place_order, hold_order}
-use Rattle.plant_base.specs.{Hold, Lot, Sublot}
+use Rattle.plant_base.specs.{State, id_cmp, lot_order, place_order, hold_order, Hold, Lot, Sublot}
 use Rattle.plant_view.specs.DecisionInvariant.{DecisionInvariant}
-use Rattle.plant_view.specs.Tables.{sublot_order, sublot_row}
+use Rattle.plant_view.specs.{sublot_order, sublot_row}
 use Rattle.plant_worklists.specs.Prefetching.{Rise}
 use Rattle.plant_view.proofs.Membership.{map_sorted}
 

@@ -1,7 +1,7 @@
 -- Rows as they are sorted.
 use Rattle.std.specs.Prelude.{List, [], ◌∷◌}
 use Rattle.std.specs.declared.cmp.Ordering.{Ordering}
-use Rattle.plant_base.specs.State.{put}
+use Rattle.plant_base.specs.{put}
 
 -- the rows in this order, whatever order they come in
 abbrev pub in_order : {R : Type 0} → (R → R → Ordering) → List R → List R

@@ -2,13 +2,9 @@
 use Rattle.std.specs.Prelude.{ℕ, Bool, not, ◌&&◌, ◌||◌, if◌then◌else◌, List, [], Option, Some, None, filter, map}
 use Rattle.std.specs.Ordering.{is_gt, nat_cmp, ordering_then}
 use Rattle.std.specs.declared.cmp.Ordering.{Ordering}
-use Rattle.plant_base.specs.Recalls.{is_open}
-use Rattle.plant_base.specs.State.{State, id_cmp, numbered_cmp, same}
-use Rattle.plant_base.specs.Words.{job_state_name, recipe_state_name}
-use Rattle.plant_base.specs.{BatchRow, Class, Definition, Hold, Job, JobState, Lot, Movement, MovementKind, Recall, Receipt, Recipe, RecipeState, Sublot}
+use Rattle.plant_base.specs.{is_open, State, id_cmp, numbered_cmp, same, job_state_name, recipe_state_name, BatchRow, Class, Definition, Hold, Job, JobState, Lot, Movement, MovementKind, Recall, Receipt, Recipe, RecipeState, Sublot}
 use Rattle.plant_base.specs.declared.rows.MovementKind.TheVariants as kind
-use Rattle.plant_view.specs.Tables.{batch_row, sublot_row}
-use Rattle.plant_view.specs.Views.{is_named}
+use Rattle.plant_view.specs.{batch_row, sublot_row, is_named}
 use Rattle.plant_worklists.specs.Sorting.{in_order}
 use Rattle.plant_worklists.specs.declared.cursors.DueCursor.{DueCursor}
 use Rattle.plant_worklists.specs.declared.cursors.HoldCursor.{HoldCursor}

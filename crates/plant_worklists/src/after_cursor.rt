@@ -1,7 +1,9 @@
 //! The cursor in a list from which a page goes on.
 ghost use Rattle.std.specs.Prelude.{◌≡◌};
-ghost use Rattle.plant_worklists.specs.Worklists.{text_after, is_after, recipe_after, is_recipe_after};
-ghost use Rattle.plant_worklists.specs.Worklists.{movement_after, is_movement_after, due_after, is_due_after, number_after, is_number_after};
+ghost use Rattle.plant_worklists.specs.Worklists.{text_after, is_after, recipe_after};
+ghost use Rattle.plant_worklists.specs.Worklists.{is_recipe_after, movement_after};
+ghost use Rattle.plant_worklists.specs.Worklists.{is_movement_after, due_after, is_due_after};
+ghost use Rattle.plant_worklists.specs.Worklists.{number_after, is_number_after};
 
 use crate::cursors::{DueCursor, MovementCursor, RecipeCursor};
 use plant_base::{Id, Job, Movement, Receipt, Recipe};

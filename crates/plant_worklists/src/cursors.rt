@@ -1,9 +1,8 @@
 //! Cursors in lists whose rows have keys of two values, and how such a cursor is written.
 ghost use Rattle.std.specs.Prelude.{◌≡◌};
-ghost use Rattle.plant_base.specs.Digits.{digits_of};
-ghost use Rattle.plant_worklists.specs.Cursors.{due_cursor, hold_cursor, recipe_cursor, movement_cursor};
-ghost use Rattle.plant_base.specs.Dates.{is_due};
-ghost use Rattle.plant_base.specs.Values.{only};
+ghost use Rattle.plant_base.specs.{digits_of, is_due, only};
+ghost use Rattle.plant_worklists.specs.Cursors.{due_cursor, hold_cursor, recipe_cursor};
+ghost use Rattle.plant_worklists.specs.Cursors.{movement_cursor};
 
 use plant_base::{Due, Id, read_digits};
 

@@ -1,10 +1,9 @@
 //! A page of the holds of all lots.
 ghost use Rattle.std.specs.Prelude.{◌≡◌, true, List, Some, IfOk};
-ghost use Rattle.plant_base.specs.{Hold as Row};
+ghost use Rattle.plant_base.specs.{Hold as Row, hold_order};
 ghost use Rattle.plant_trace.specs.ReadOnly.{ReadOnly};
 ghost use Rattle.plant_view.specs.DecisionInvariant.{DecisionInvariant};
 ghost use Rattle.std.specs.Set.{sorted_merge};
-ghost use Rattle.plant_base.specs.State.{hold_order};
 ghost use Rattle.plant_worklists.specs.Pages.{page_of};
 ghost use Rattle.plant_worklists.specs.Worklists.{all_holds, holds_after, holds_on};
 

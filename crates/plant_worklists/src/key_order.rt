@@ -18,7 +18,7 @@ pub trait HasKeyOrder {
 }
 
 impl HasKeyOrder for Recipe {
-    ghost use Rattle.plant_base.specs.State.{recipe_order};
+    ghost use Rattle.plant_base.specs.{recipe_order};
 
     ghost order = { recipe_order };
 
@@ -45,7 +45,7 @@ impl HasKeyOrder for Job {
 }
 
 impl HasKeyOrder for Hold {
-    ghost use Rattle.plant_base.specs.State.{hold_order};
+    ghost use Rattle.plant_base.specs.{hold_order};
 
     ghost order = { hold_order };
 
@@ -55,7 +55,7 @@ impl HasKeyOrder for Hold {
 }
 
 impl HasKeyOrder for Movement {
-    ghost use Rattle.plant_base.specs.State.{movement_order};
+    ghost use Rattle.plant_base.specs.{movement_order};
 
     ghost order = { movement_order };
 

@@ -1,14 +1,15 @@
 //! What is known of lots that are asked for one after another, by their ids, with the fault of a decision.
 
 ghost use Rattle.std.specs.Prelude.{◌≡◌, true, false, IfErr, IfOk, IsOk, length, nat_le, slice_get};
-ghost use Rattle.plant_base.specs.State.{lot_at};
+ghost use Rattle.plant_base.specs.{lot_at};
 ghost use Rattle.plant_trace.specs.ReadOnly.{ReadOnly};
-ghost use Rattle.plant_view.specs.Refusals.{is_held};
+ghost use Rattle.plant_view.specs.{is_held, sublots_of};
 ghost use Rattle.plant_view.specs.DecisionInvariant.{DecisionInvariant};
-ghost use Rattle.plant_view.specs.Tables.{sublots_of};
-ghost use Rattle.plant_worklists.specs.Prefetching.{IsValidPrefetch, IsValidHoldPrefetch, IsValidLotPrefetch, IsValidSublotPrefetch};
-ghost use Rattle.plant_worklists.specs.Prefetching.{asked_for, counted, is_answered, prefetched, wants_page};
-ghost use Rattle.plant_worklists.specs.Prefetching.{prefetched_holds, prefetched_lots, prefetched_sublots};
+ghost use Rattle.plant_worklists.specs.Prefetching.{IsValidPrefetch, IsValidHoldPrefetch};
+ghost use Rattle.plant_worklists.specs.Prefetching.{IsValidLotPrefetch, IsValidSublotPrefetch};
+ghost use Rattle.plant_worklists.specs.Prefetching.{asked_for, counted, is_answered, prefetched};
+ghost use Rattle.plant_worklists.specs.Prefetching.{wants_page, prefetched_holds, prefetched_lots};
+ghost use Rattle.plant_worklists.specs.Prefetching.{prefetched_sublots};
 
 use crate::of_lot::OfLot;
 use crate::prefetch::ReadAhead;

@@ -1,5 +1,6 @@
 //! Two pages of rows in the order of their keys as one.
-ghost use Rattle.std.specs.Prelude.{◌≡◌, ◌∷◌, [], ◌+◌, ◌<◌, ◌||◌, true, List, length, IfOk, IfSome, IfNone};
+ghost use Rattle.std.specs.Prelude.{◌≡◌, ◌∷◌, [], ◌+◌, ◌<◌, ◌||◌, true, List, length, IfOk, IfSome};
+ghost use Rattle.std.specs.Prelude.{IfNone};
 ghost use Rattle.std.specs.Set.{sorted_merge};
 ghost use Rattle.plant_worklists.specs.Pages.{page_of};
 

@@ -1,7 +1,7 @@
 //! The rows of lots.
 
 ghost use Rattle.std.specs.Prelude.{map};
-ghost use Rattle.plant_view.specs.Tables.{sublot_row};
+ghost use Rattle.plant_view.specs.{sublot_row};
 ghost use Rattle.plant_worklists.specs.RisingIds.{lots_rise, sublots_rise, holds_rise};
 
 use crate::page::Page;
@@ -12,7 +12,7 @@ use plant_view::ViewFault;
 /// A row of a lot: the lot itself, or what is recorded of its id.
 pub trait OfLot: Sized + Copy {
     ghost use Rattle.std.specs.Prelude.{◌≡◌, ℕ, Bool, List, IfOk, filter};
-    ghost use Rattle.plant_base.specs.State.{State};
+    ghost use Rattle.plant_base.specs.{State};
     ghost use Rattle.plant_trace.specs.ReadOnly.{ReadOnly};
     ghost use Rattle.plant_view.specs.DecisionInvariant.{DecisionInvariant};
     ghost use Rattle.plant_worklists.specs.Prefetching.{Rise, rows_after};

@@ -1,7 +1,8 @@
 //! When a page is read ahead. It changes no answer, but how long one takes.
 
 ghost use Rattle.std.specs.Prelude.{◌≡◌};
-ghost use Rattle.plant_worklists.specs.FetchPolicy.{after_hit, after_miss, first_policy, is_due, next_pause, row_with, was_worth};
+ghost use Rattle.plant_worklists.specs.FetchPolicy.{after_hit, after_miss, first_policy, is_due};
+ghost use Rattle.plant_worklists.specs.FetchPolicy.{next_pause, row_with, was_worth};
 
 /// A page takes the time of some thirty look-ups: after one that answered so many lots the next is read at once.
 const WORTH: u32 = 32;

@@ -1,8 +1,10 @@
 //! Rows of lots that are read ahead: where lots are asked for one after another, by their ids, a page of rows answers many.
 
 ghost use Rattle.std.specs.Prelude.{◌≡◌, IfSome, List, is_some};
-ghost use Rattle.plant_worklists.specs.Prefetching.{IsValidPrefetch, Rise, end_of, is_before, is_between, rows_after, rows_of};
-ghost use Rattle.plant_worklists.specs.Prefetching.{are_near, asked_for, counted, is_answered, unread, wants_page, with_page};
+ghost use Rattle.plant_worklists.specs.Prefetching.{IsValidPrefetch, Rise, end_of, is_before};
+ghost use Rattle.plant_worklists.specs.Prefetching.{is_between, rows_after, rows_of, are_near};
+ghost use Rattle.plant_worklists.specs.Prefetching.{asked_for, counted, is_answered, unread};
+ghost use Rattle.plant_worklists.specs.Prefetching.{wants_page, with_page};
 ghost use Rattle.plant_worklists.specs.Pages.{page_of};
 
 use crate::after_cursor::is_after;

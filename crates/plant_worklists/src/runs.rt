@@ -3,7 +3,7 @@
 ghost use Rattle.std.specs.Prelude.{◌≡◌, ◌≤◌, true, false, length};
 ghost use Rattle.std.specs.List.Sorted.{IsPartitionPoint};
 ghost use Rattle.std.specs.Ordering.{is_le, is_lt};
-ghost use Rattle.plant_base.specs.State.{id_cmp};
+ghost use Rattle.plant_base.specs.{id_cmp};
 ghost use Rattle.plant_worklists.specs.Prefetching.{Rise, rows_of};
 
 use crate::of_lot::OfLot;

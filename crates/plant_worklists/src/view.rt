@@ -15,8 +15,10 @@ pub trait Worklists: View {
     ghost use Rattle.std.specs.Prelude.{◌≡◌, IfOk};
     ghost use Rattle.plant_trace.specs.ReadOnly.{ReadOnly};
     ghost use Rattle.plant_worklists.specs.Pages.{page_of};
-    ghost use Rattle.plant_worklists.specs.Worklists.{orders_in, batches_in, lots_of, holds_on, recalls_in, classes_after, definitions_in};
-    ghost use Rattle.plant_worklists.specs.Worklists.{recipes_in, ledger_of, movements_into, orders_by_due, receipts_by_number};
+    ghost use Rattle.plant_worklists.specs.Worklists.{orders_in, batches_in, lots_of, holds_on};
+    ghost use Rattle.plant_worklists.specs.Worklists.{recalls_in, classes_after, definitions_in};
+    ghost use Rattle.plant_worklists.specs.Worklists.{recipes_in, ledger_of, movements_into};
+    ghost use Rattle.plant_worklists.specs.Worklists.{orders_by_due, receipts_by_number};
     ghost use Rattle.plant_worklists.specs.Worklists.{lots_after, sublots_after, holds_after};
     ghost use Rattle.plant_view.specs.DecisionInvariant.{DecisionInvariant};
 

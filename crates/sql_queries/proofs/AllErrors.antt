@@ -1,6 +1,5 @@
 -- What holds of every error.
-use Rattle.std.proofs.Common.{Result, Ok, Err}
-use Rattle.std.specs.Prelude.{IfErr}
+use Rattle.std.proofs.Common.{Result, Ok, Err, IfErr}
 
 pub if_error : {T E : Type 0} (r : Result T E) (P : E → Type 0) → ((e : E) → P e) → IfErr r P
 if_error (Ok x) P all = tt

@@ -7,10 +7,9 @@ use Rattle.sqlite.specs.Kind.TheVariants.{Integer}
 use Rattle.sqlite_value.specs.declared.keys.Collation.{Collation}
 use Rattle.sqlite_value.specs.declared.keys.Collation.TheVariants.{Binary}
 use Rattle.sqlite_schema.specs.Names.{column_named}
-use Rattle.sql_tables.specs.TableDefs.{TableDef, strict_column, table_of}
+use Rattle.sql_tables.specs.{TableDef, strict_column, table_of}
 use Rattle.sqlite_resolve.specs.Lowering.{max_budget}
-use Rattle.sql_queries.specs.Paging.{is_compared, is_orderable}
-use Rattle.sql_queries.specs.Selects.{column_at, names_at, all_column_indexes, first_of, is_at, is_named, is_binary, is_plain, is_readable}
+use Rattle.sql_queries.specs.{is_compared, is_orderable, column_at, names_at, all_column_indexes, first_of, is_at, is_named, is_binary, is_plain, is_readable}
 use Rattle.sql_tables.proofs.WhereGiven.{Entry, AreColumns, IsGiven}
 use Rattle.sql_queries.proofs.SelectResolves.{names_of}
 use Rattle.sql_queries.proofs.QueryAnswer.{places_of}

@@ -1,7 +1,6 @@
 -- A comparison of columns with parameters, and the rows that pass it.
-use Rattle.std.proofs.Common.{◌≡◌, refl, sym, ap₂, List, ℕ, zero, suc, ◌-◌, ◌<◌, Bool, [], ◌∷◌, drop, Some, true, false, arith, length, ◌&&◌, not}
+use Rattle.std.proofs.Common.{◌≡◌, refl, sym, ap₂, List, ℕ, zero, suc, ◌-◌, ◌<◌, Bool, [], ◌∷◌, drop, Some, true, false, arith, length, ◌&&◌, not, Less}
 use Rattle.std.specs.List.{list_all}
-use Rattle.std.specs.declared.cmp.Ordering.TheVariants.{Less}
 use Rattle.std.proofs.lemmas.Bool.{and_parts, not-true}
 use Rattle.sqlite_value.specs.declared.value.Value.{Value}
 use Rattle.sqlite_value.specs.declared.value.Value.TheVariants.{Null}
@@ -15,11 +14,9 @@ use Rattle.sqlite_sql.specs.Term.{Term, col, op2, holds}
 use Rattle.sqlite_schema.specs.declared.schema.Table.{Table}
 use Rattle.sqlite_resolve.specs.Lowering.{nothing, chosen, alone, first_found}
 use Rattle.sqlite_resolve.specs.Scope.{declared}
-use Rattle.sql_tables.specs.TableDefs.{TableDef, table_of}
-use Rattle.sql_tables.specs.Rows.{columns_of}
+use Rattle.sql_tables.specs.{TableDef, table_of, columns_of}
 use Rattle.sql_tables.proofs.RowConflicts.{padded_column}
-use Rattle.sql_queries.specs.Found.{has_values}
-use Rattle.sql_queries.specs.Selects.{column_at, is_named, is_plain}
+use Rattle.sql_queries.specs.{has_values, column_at, is_named, is_plain}
 use Rattle.sql_tables.proofs.WhereGiven.{Entry, test_of}
 use Rattle.sql_queries.proofs.ShownRows.{passes_all}
 use Rattle.sql_queries.proofs.ColumnEntries.{entries, named, binary as is_by_bytes}

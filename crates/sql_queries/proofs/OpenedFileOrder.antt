@@ -25,8 +25,7 @@ use Rattle.sqlite.specs.Effect.{Database}
 use Rattle.sqlite.specs.Held.{Held}
 use Rattle.sqlite.specs.Files.{AreFoundIn, IsEmpty, IsOpened, file_state}
 use Rattle.sql_tables.proofs.TransactionEnds.{IsStore}
-use Rattle.sql_queries.specs.Opened.{IsNewlyOpened}
-use Rattle.sql_queries.specs.Ordered.{IsRising}
+use Rattle.sql_queries.specs.{IsNewlyOpened, IsRising}
 use Rattle.sql_queries.proofs.StoreLaws.{rising_of, newly_opened}
 
 -- the trees of a whole file

@@ -24,13 +24,8 @@ use Rattle.sqlite_resolve.specs.Compile.{first}
 use Rattle.sqlite_resolve.specs.Lowering.{nothing, max_budget}
 use Rattle.sqlite.specs.Effect.{IsDatabase}
 use Rattle.sqlite.specs.State.{State, Shown}
-use Rattle.sql_tables.specs.TableDefs.{TableDef, table_of}
-use Rattle.sql_tables.specs.Rows.{columns_of}
-use Rattle.sql_tables.specs.StoredRows.{IsDeclared, HasTable}
-use Rattle.sql_queries.specs.Plain.{OnlyReads}
-use Rattle.sql_queries.specs.Selects.{column_at, names_at, all_column_indexes}
-use Rattle.sql_queries.specs.Written.{select_where, filter_after, up_to, parsed_as}
-use Rattle.sql_queries.specs.Paging.{SelectsPage, IsPage, AreBounds, is_beyond, is_compared}
+use Rattle.sql_tables.specs.{TableDef, table_of, columns_of, IsDeclared, HasTable}
+use Rattle.sql_queries.specs.{OnlyReads, column_at, names_at, all_column_indexes, select_where, filter_after, up_to, parsed_as, SelectsPage, IsPage, AreBounds, is_beyond, is_compared}
 use Rattle.sql_tables.proofs.WhereGiven.{Entry, test_of}
 use Rattle.sql_queries.proofs.WhereAfter.{above_test, none_above, one_above, two_above}
 use Rattle.sql_queries.proofs.SelectResolves.{names_of}

@@ -1,8 +1,7 @@
 -- The rows that a query of a definition's table answers are in the order of the columns that it names, as a store compares values.
-use Rattle.std.proofs.Common.{◌≡◌, refl, sym, subst, ap, List, ℕ, zero, suc, ◌+◌, ◌-◌, ◌<◌, [], ◌∷◌, map, drop, true, false, length, arith, All, slice_index_or}
-use Rattle.std.specs.Prelude.{filter, IsPermutation, IsSorted}
+use Rattle.std.proofs.Common.{◌≡◌, refl, sym, subst, ap, List, ℕ, zero, suc, ◌+◌, ◌-◌, ◌<◌, [], ◌∷◌, map, drop, true, false, length, arith, All, slice_index_or, filter, IsPermutation, IsSorted, is_lt}
 use Rattle.std.specs.List.{list_all}
-use Rattle.std.specs.Ordering.{is_lt, ordering_then}
+use Rattle.std.specs.Ordering.{ordering_then}
 use Rattle.std.proofs.lemmas.Bool.{and_parts}
 use Rattle.std.proofs.lemmas.List.{get_or-map, length-map}
 use Rattle.std.proofs.lemmas.List.FromFn.{get_or-map-range_with_len}
@@ -20,9 +19,8 @@ use Rattle.sqlite_resolve.specs.Scope.{declared}
 use Rattle.sqlite_schema.specs.declared.schema.Table.{Table}
 use Rattle.sqlite_schema.specs.Names.{place_of}
 use Rattle.sqlite_draft.specs.Query.{query_of}
-use Rattle.sql_tables.specs.TableDefs.{TableDef, table_of}
-use Rattle.sql_queries.specs.Selects.{column_at, all_column_indexes, is_named, is_plain}
-use Rattle.sql_queries.specs.Paging.{stored_order, is_compared}
+use Rattle.sql_tables.specs.{TableDef, table_of}
+use Rattle.sql_queries.specs.{column_at, all_column_indexes, is_named, is_plain, stored_order, is_compared}
 use Rattle.sql_tables.proofs.WhereGiven.{Entry}
 use Rattle.sql_queries.proofs.ShownRows.{at_places, passes_all}
 use Rattle.sql_queries.proofs.QueryMeaning.{draft_up_to, key_for}

@@ -1,6 +1,5 @@
 -- What the answer of a query of one table is.
-use Rattle.std.proofs.Common.{◌≡◌, refl, ap, ◌∙◌, List, ℕ, ◌^◌, Bool, [], ◌∷◌, map, None, Option, nat_le, if◌then◌else◌, inl, inr}
-use Rattle.std.specs.Prelude.{filter, flat_map, IsPermutation}
+use Rattle.std.proofs.Common.{◌≡◌, refl, ap, ◌∙◌, List, ℕ, ◌^◌, Bool, [], ◌∷◌, map, None, Option, nat_le, if◌then◌else◌, inl, inr, filter, flat_map, IsPermutation}
 use Rattle.std.proofs.lemmas.List.Sorted.{IsPermutation-map}
 use Rattle.sqlite_value.specs.Order.{Row, column}
 use Rattle.sqlite_trees.specs.Tree.{Trees}
@@ -12,9 +11,8 @@ use Rattle.sqlite_schema.specs.Names.{place_of}
 use Rattle.sqlite_resolve.specs.declared.scope.Output.{Output as Shown}
 use Rattle.sqlite_draft.specs.Query.{query_of}
 use Rattle.sql_queries.proofs.ShownRows.{at_places, passes_all}
-use Rattle.sql_tables.proofs.WhereGiven.{Entry}
+use Rattle.sql_tables.proofs.WhereGiven.{Entry, same_either}
 use Rattle.sql_queries.proofs.QueryMeaning.{outputs_of, draft_up_to}
-use Rattle.sql_tables.proofs.WhereGiven.{same_either}
 use Rattle.std.proofs.lemmas.Bool.{cases_Bool}
 
 abbrev pub places_of : Table → List Entry → List ℕ

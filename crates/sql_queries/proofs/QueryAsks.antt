@@ -24,11 +24,8 @@ use Rattle.sqlite.specs.Effect.{Reads}
 use Rattle.sqlite.specs.Listing.{understood, reads_listing}
 use Rattle.sqlite.specs.State.{State, Shown}
 use Rattle.sqlite.proofs.Callers.{IsPlain, command_of, reads_as}
-use Rattle.sql_tables.specs.TableDefs.{TableDef, table_of}
-use Rattle.sql_tables.specs.StoredRows.{IsDeclared}
-use Rattle.sql_queries.specs.Plain.{OnlyReads}
-use Rattle.sql_queries.specs.Selects.{names_at, all_column_indexes}
-use Rattle.sql_queries.specs.Written.{select_where, parsed_as}
+use Rattle.sql_tables.specs.{TableDef, table_of, IsDeclared}
+use Rattle.sql_queries.specs.{OnlyReads, names_at, all_column_indexes, select_where, parsed_as}
 use Rattle.sql_tables.proofs.WhereGiven.{Entry}
 use Rattle.sql_tables.proofs.ColumnIsRead.{context_of, state_at}
 use Rattle.sql_queries.proofs.SelectResolves.{names_of, last_after, budget_after}

@@ -1,6 +1,5 @@
 -- The query that SELECT of columns of one table means, whatever else the schema has.
-use Rattle.std.proofs.Common.{◌≡◌, refl, ◌∙◌, ◌⊎◌, inl, inr, Ok, Err, List, ℕ, suc, negsuc, ◌-◌, ◌+◌, ◌<◌, [], ◌∷◌, ◌++◌, map, None, Some, Option, true, false, slice_get, arith, nat_lt, length, append-nil, ◌&&◌}
-use Rattle.std.proofs.lemmas.List.{append_assoc}
+use Rattle.std.proofs.Common.{◌≡◌, refl, ◌∙◌, ◌⊎◌, inl, inr, Ok, Err, List, ℕ, suc, negsuc, ◌-◌, ◌+◌, ◌<◌, [], ◌∷◌, ◌++◌, map, None, Some, Option, true, false, slice_get, arith, nat_lt, length, append-nil, ◌&&◌, append_assoc}
 use Rattle.std.proofs.lemmas.Bool.{cases_Bool}
 use Rattle.std.specs.List.{position_from}
 use Rattle.sqlite_value.specs.declared.value.Value.TheVariants.{Int}
@@ -35,8 +34,8 @@ use Rattle.sqlite_resolve.specs.Compile.{read, first, compiled, planned, meaning
 use Rattle.sqlite_resolve.specs.declared.compiled.Compiled.{Compiled}
 use Rattle.sqlite_resolve.specs.declared.error.CompileError.TheVariants.{Mismatch}
 use Rattle.sqlite.specs.Listing.{understood, reads_listing}
-use Rattle.sql_queries.specs.Written.{sort_by, from_table, core_of, select_where, up_to, parsed_as}
-use Rattle.sql_tables.specs.Views.{ast_views}
+use Rattle.sql_queries.specs.{sort_by, from_table, core_of, select_where, up_to, parsed_as}
+use Rattle.sql_tables.specs.{ast_views}
 use Rattle.sql_tables.proofs.ColumnIsRead.{the_bound, context_of, state_at, lower_column}
 use Rattle.sql_tables.proofs.WhereGiven.{Entry, AreColumns}
 use Rattle.sql_queries.proofs.SelectResolves.{names_of, output_of, last_after, budget_after, core_opens, enough_for, result_read, bounds_read, matching_read}

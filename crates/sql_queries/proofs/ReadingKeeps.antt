@@ -15,8 +15,8 @@ use Rattle.sqlite_resolve.specs.declared.compiled.Compiled.{Compiled}
 use Rattle.sqlite_resolve.specs.declared.error.CompileError.{CompileError}
 use Rattle.sqlite.proofs.Callers.{unchanged_then}
 use Rattle.sqlite.proofs.StateLemmas.{survives_weaker}
-use Rattle.sql_tables.specs.AtRest.{IsAtRest, Keeps}
-use Rattle.sql_queries.specs.Plain.{OnlyReads}
+use Rattle.sql_tables.specs.{IsAtRest, Keeps}
+use Rattle.sql_queries.specs.{OnlyReads}
 
 pub keeps_same : (old new : State) → IsAtRest old → IsUnchanged old new → Keeps old new
 keeps_same old new rest same = record { was_open = λ _. same.0.was_open; now = λ _. same.0.now_is; committed = λ _. same.0.committed_is }

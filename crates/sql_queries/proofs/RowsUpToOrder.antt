@@ -1,15 +1,12 @@
 -- A table has one list of rows, but for their order.
-use Rattle.std.proofs.Common.{◌≡◌, ap, subst, List, ℕ, map}
-use Rattle.std.specs.Prelude.{IsPermutation}
+use Rattle.std.proofs.Common.{◌≡◌, ap, subst, List, ℕ, map, IsPermutation}
 use Rattle.std.proofs.lemmas.List.Sorted.{IsPermutation-sym, IsPermutation-trans}
 use Rattle.sqlite.specs.Effect.{Database}
 use Rattle.sqlite.specs.Order.{Row}
 use Rattle.sqlite.specs.Schema.{Schema}
 use Rattle.sqlite.specs.Table.{Table}
-use Rattle.sql_tables.specs.TableDefs.{TableDef, table_of}
-use Rattle.sql_tables.specs.Rows.{columns_of}
-use Rattle.sql_tables.specs.StoredRows.{IsDeclared}
-use Rattle.sql_queries.specs.Reading.{Lists}
+use Rattle.sql_tables.specs.{TableDef, table_of, columns_of, IsDeclared}
+use Rattle.sql_queries.specs.{Lists}
 
 -- a table that is declared twice over has one tree
 pub one_tree : (schema : Schema) (table_def : TableDef) (at tree at' tree' : ℕ) → IsDeclared schema table_def at tree → IsDeclared schema table_def at' tree' → tree ≡ tree'

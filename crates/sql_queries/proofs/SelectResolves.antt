@@ -1,6 +1,5 @@
 -- How SELECT of columns of one table is resolved, whatever else the schema has.
-use Rattle.std.proofs.Common.{◌≡◌, refl, ◌∙◌, Ok, List, ℕ, ◌-◌, ◌<◌, Bool, [], ◌∷◌, ◌++◌, map, None, Some, Option, true, false, slice_get, arith, nat_lt, length, append-nil}
-use Rattle.std.proofs.lemmas.List.{append_assoc}
+use Rattle.std.proofs.Common.{◌≡◌, refl, ◌∙◌, Ok, List, ℕ, ◌-◌, ◌<◌, Bool, [], ◌∷◌, ◌++◌, map, None, Some, Option, true, false, slice_get, arith, nat_lt, length, append-nil, append_assoc}
 use Rattle.sqlite_sql.specs.Term.{Term, col}
 use Rattle.sqlite_schema.specs.declared.schema.Schema.{Schema}
 use Rattle.sqlite_schema.specs.declared.schema.Table.{Table}
@@ -17,9 +16,8 @@ use Rattle.sqlite_resolve.specs.Expr.{lower_to}
 use Rattle.sqlite_resolve.specs.Select.{outermost}
 use Rattle.sqlite_resolve.specs.Body as body
 use Rattle.sqlite_resolve.specs.Body.{table_in, bound, bounds, heading, is_column, shown, outputs, result, tests, shared, inner_join, join, joins, matching}
-use Rattle.sql_tables.specs.Written.{column_expr}
-use Rattle.sql_queries.specs.Written.{shown_column, from_table, core_of}
-use Rattle.sql_tables.specs.Views.{ast_views}
+use Rattle.sql_tables.specs.{column_expr, ast_views}
+use Rattle.sql_queries.specs.{shown_column, from_table, core_of}
 use Rattle.sql_tables.proofs.WhereGiven.{Entry, AreColumns}
 use Rattle.sql_tables.proofs.ColumnIsRead.{the_bound, context_of, state_at, find_column, lower_column}
 

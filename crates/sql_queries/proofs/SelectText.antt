@@ -1,6 +1,5 @@
 -- What a text reads that selects from a definition's table.
-use Rattle.std.proofs.Common.{◌≡◌, refl, ap, Ok, List, ℕ, ◌-◌, ◌<◌, ◌≤◌, [], ◌∷◌, map, Option, None, true, not, nat_le, length, arith, ◌&&◌}
-use Rattle.std.specs.Prelude.{filter, IsPermutation}
+use Rattle.std.proofs.Common.{◌≡◌, refl, ap, Ok, List, ℕ, ◌-◌, ◌<◌, ◌≤◌, [], ◌∷◌, map, Option, None, true, not, nat_le, length, arith, ◌&&◌, filter, IsPermutation}
 use Rattle.std.specs.List.{AllByRecursion, list_all}
 use Rattle.std.proofs.lemmas.Bool.{and_parts}
 use Rattle.std.proofs.lemmas.List.Sorted.{IsPermutation-sym}
@@ -23,15 +22,9 @@ use Rattle.sqlite_resolve.specs.Lowering.{nothing}
 use Rattle.sqlite_resolve.specs.Body.{tests}
 use Rattle.sqlite.specs.Effect.{Database, IsDatabase}
 use Rattle.sqlite.specs.State.{State, Shown}
-use Rattle.sql_tables.specs.TableDefs.{TableDef, table_of}
-use Rattle.sql_tables.specs.Rows.{columns_of}
-use Rattle.sql_tables.specs.StoredRows.{IsDeclared, HasTable}
-use Rattle.sql_queries.specs.Found.{has_values}
-use Rattle.sql_queries.specs.Plain.{OnlyReads}
-use Rattle.sql_queries.specs.Reading.{Lists, Finds}
-use Rattle.sql_queries.specs.Selects.{Selects, names_at, all_column_indexes, first_of, is_named, is_plain}
-use Rattle.sql_tables.specs.Written.{filter_of}
-use Rattle.sql_queries.specs.Written.{select_where, parsed_as}
+use Rattle.sql_tables.specs.{TableDef, table_of, columns_of, IsDeclared, HasTable, filter_of}
+use Rattle.sql_queries.specs.{has_values, OnlyReads, Lists, Finds, names_at, all_column_indexes, first_of, is_named, is_plain, select_where, parsed_as}
+use Rattle.sql_queries.specs.Selects.{Selects}
 use Rattle.sql_tables.proofs.WhereGiven.{one_given, two_given, three_given}
 use Rattle.sql_queries.proofs.SelectResolves.{names_of}
 use Rattle.sql_queries.proofs.QueryMeaning.{draft_of, no_limit, no_limit_read}

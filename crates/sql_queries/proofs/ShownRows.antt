@@ -1,5 +1,5 @@
 -- What a query of one table shows of a row.
-use Rattle.std.specs.Prelude.{ℕ, Bool, List, [], ◌∷◌, map}
+use Rattle.std.proofs.Common.{ℕ, Bool, List, [], ◌∷◌, map}
 use Rattle.std.specs.List.{list_all}
 use Rattle.sqlite_value.specs.Order.{Row, column}
 use Rattle.sqlite_sql.specs.Term.{Term, holds}

@@ -14,8 +14,7 @@ use Rattle.sqlite.specs.State as store
 use Rattle.sqlite.specs.State.{Opens}
 use Rattle.sqlite.specs.Steps.{over_memory, IsEmpty}
 use Rattle.sql_tables.proofs.TransactionEnds.{IsStore}
-use Rattle.sql_queries.specs.Opened.{IsNewlyOpened}
-use Rattle.sql_queries.specs.Ordered.{IsRising}
+use Rattle.sql_queries.specs.{IsNewlyOpened, IsRising}
 
 -- the shapes that the list of objects gives order each of the trees
 pub rising_of : (shapes : ℕ → Shape) (reals : ℕ → ℕ) (schema : Schema) (db : Trees) → IsListed (db catalog_tree) shapes reals → IsOrdered shapes db → IsSound schema db

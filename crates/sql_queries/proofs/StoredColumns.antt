@@ -1,7 +1,6 @@
 -- A stored row as it is shown: its columns, those that it lacks being NULL.
-use Rattle.std.proofs.Common.{◌≡◌, refl, ap, ap₂, ◌∙◌, List, ℕ, zero, suc, ◌+◌, ◌≤◌, Bool, true, [], ◌∷◌, map, drop, length, None, arith, inl, inr}
+use Rattle.std.proofs.Common.{◌≡◌, refl, ap, ap₂, ◌∙◌, List, ℕ, zero, suc, ◌+◌, ◌≤◌, Bool, true, [], ◌∷◌, map, drop, length, None, arith, inl, inr, filter}
 use Rattle.std.proofs.lemmas.Bool.{and_parts, cases_Bool}
-use Rattle.std.specs.Prelude.{filter}
 use Rattle.std.specs.List.{AllByRecursion, range_with_len}
 use Rattle.sqlite_value.specs.declared.value.Value.{Value}
 use Rattle.sqlite_value.specs.declared.value.Value.TheVariants.{Null}
@@ -12,7 +11,7 @@ use Rattle.sqlite_schema.specs.declared.schema.Constraint.TheVariants.{Datatype}
 use Rattle.sqlite_schema.specs.declared.schema.Schema.{Schema}
 use Rattle.sqlite_schema.specs.declared.schema.Table.{Table}
 use Rattle.sqlite_trees.specs.Tree.{Trees}
-use Rattle.sql_tables.specs.Rows.{padded}
+use Rattle.sql_tables.specs.{padded}
 use Rattle.sql_queries.proofs.ShownRows.{at_places}
 
 no_more : (at : ℕ) (cs : List Column) (vs : Row) → are_typed None at cs vs ≡ true → length vs ≤ length cs

@@ -6,10 +6,8 @@ use Rattle.sqlite_rules.proofs.ListLemmas.{has_got}
 use Rattle.sqlite_trees.specs.View.{IsShaped}
 use Rattle.sqlite_trees.specs.declared.store.Shape.TheVariants as shape
 use Rattle.sqlite.specs.Order.{Row}
-use Rattle.sql_tables.specs.TableDefs.{TableDef, table_of}
-use Rattle.sql_tables.specs.StoredRows.{HasStoredRows}
-use Rattle.sql_queries.specs.Ordered.{IsRising}
-use Rattle.sql_queries.specs.Reading.{Lists}
+use Rattle.sql_tables.specs.{TableDef, table_of, HasStoredRows}
+use Rattle.sql_queries.specs.{IsRising, Lists}
 
 -- a declared table's rows have integer rowids, which rise
 pub shaped_at : (db : Database) (at : ℕ) (table : Table) → IsRising db → slice_get db.schema.tables at ≡ Some table → IsShaped shape.Table (db.trees table.tree)

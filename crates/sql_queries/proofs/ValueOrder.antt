@@ -4,7 +4,7 @@ use Rattle.std.specs.Cmp.{IsTotalOrder}
 use Rattle.std.proofs.lemmas.Cmp.{then_total, on_total, nat_list_cmp_total, int_cmp_total}
 use Rattle.sqlite.specs.declared.types.Value.TheVariants.{Null}
 use Rattle.sqlite.specs.Order.{Row, column}
-use Rattle.sql_queries.specs.Keys.{number_of, text_of, value_order, key_order}
+use Rattle.sql_queries.specs.{number_of, text_of, value_order, key_order}
 
 pub value_total : IsTotalOrder value_order
 value_total = then_total (on_total number_of int_cmp_total) (on_total text_of nat_list_cmp_total)

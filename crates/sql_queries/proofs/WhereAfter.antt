@@ -11,9 +11,8 @@ use Rattle.sqlite_resolve.specs.Lowering.{nothing, spend, begin, finish, chosen}
 use Rattle.sqlite_resolve.specs.Scope.{Name, declared}
 use Rattle.sqlite_resolve.specs.Expr.{lower_to, node, opened, passes, operation, wanted_truth, both, tests_truth, tests_alias, combine}
 use Rattle.sqlite_resolve.specs.Body.{tests}
-use Rattle.sql_tables.specs.Written.{equals, equals_from}
-use Rattle.sql_queries.specs.Written.{greater, filter_after}
-use Rattle.sql_tables.specs.Views.{ast_views}
+use Rattle.sql_tables.specs.{equals, equals_from, ast_views}
+use Rattle.sql_queries.specs.{greater, filter_after}
 use Rattle.sql_tables.proofs.ColumnIsRead.{context_of, state_at, lower_column}
 use Rattle.sql_tables.proofs.WhereGiven.{Entry, AreColumns, IsGiven, test_of, compared_given, lower_equals, lower_both, lower_and}
 

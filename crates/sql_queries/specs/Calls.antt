@@ -1,7 +1,7 @@
 -- What calls that read a store promise, each of the store before and after it and of its result.
 use Rattle.std.specs.Prelude.{◌≡◌, false, Result, Option, OnOk, IfOk, IfSome}
 use Rattle.sqlite.specs.State.{State, HasCleanDisk, IsUnchanged}
-use Rattle.sql_tables.specs.AtRest.{Keeps}
+use Rattle.sql_tables.specs.{Keeps}
 
 -- where it answered, nothing was changed
 abbrev pub AnswersUnchanged : {A E : Type 0} → State → State → Result A E → Type 0

@@ -7,7 +7,7 @@ use Rattle.std.specs.declared.cmp.Ordering.TheVariants.{Equal}
 use Rattle.sqlite.specs.Order.{Row, column}
 use Rattle.sqlite.specs.declared.types.Value.{Value}
 use Rattle.sqlite.specs.declared.types.Value.TheVariants.{Null, Int, Text}
-use Rattle.sql_tables.specs.TableDefs.{TableDef}
+use Rattle.sql_tables.specs.{TableDef}
 use Rattle.sql_queries.specs.Selects.{first_of}
 
 -- the number of a value, and 0 where it is none

@@ -12,10 +12,7 @@ use Rattle.sqlite_resolve.specs.Compile.{first}
 use Rattle.sqlite_resolve.specs.Lowering.{max_budget}
 use Rattle.sqlite.specs.Effect.{Database}
 use Rattle.sqlite.specs.State.{State, HasCleanDisk}
-use Rattle.sql_tables.specs.TableDefs.{TableDef}
-use Rattle.sql_tables.specs.Rows.{columns_of}
-use Rattle.sql_tables.specs.StoredRows.{IsDeclared}
-use Rattle.sql_tables.specs.Written.{Name}
+use Rattle.sql_tables.specs.{TableDef, columns_of, IsDeclared, Name}
 use Rattle.sql_queries.specs.Selects.{column_at, names_at, all_column_indexes, is_named, is_plain, is_readable}
 use Rattle.sql_queries.specs.Written.{select_where, filter_after, up_to, parsed_as}
 use Rattle.sql_queries.specs.declared.page.Page.{Page}

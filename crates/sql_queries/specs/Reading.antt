@@ -2,9 +2,7 @@
 use Rattle.std.specs.Prelude.{ℕ, ◌<◌, ◌^◌, List, filter, map, IsPermutation}
 use Rattle.sqlite.specs.Order.{Row}
 use Rattle.sqlite.specs.Effect.{Database}
-use Rattle.sql_tables.specs.TableDefs.{TableDef}
-use Rattle.sql_tables.specs.Rows.{columns_of}
-use Rattle.sql_tables.specs.StoredRows.{IsDeclared}
+use Rattle.sql_tables.specs.{TableDef, columns_of, IsDeclared}
 use Rattle.sql_queries.specs.Found.{has_values}
 
 -- The definition's table is declared, and these are its rows, each once, in some order.

@@ -9,8 +9,7 @@ use Rattle.sqlite_schema.specs.Names.{column_named}
 use Rattle.sqlite_resolve.specs.Compare.{is_filler}
 use Rattle.sqlite_resolve.specs.Compile.{first}
 use Rattle.sqlite_resolve.specs.Lowering.{max_budget}
-use Rattle.sql_tables.specs.TableDefs.{TableDef, strict_column, table_of}
-use Rattle.sql_tables.specs.Written.{Name}
+use Rattle.sql_tables.specs.{TableDef, strict_column, table_of, Name}
 use Rattle.sql_queries.specs.Written.{select_of, parsed_as}
 
 -- the column with an index, the first being 1

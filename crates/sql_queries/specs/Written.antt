@@ -12,7 +12,7 @@ use Rattle.sqlite_ast.specs.declared.Statement.TheVariants as written
 use Rattle.sqlite_syntax.specs.declared.statement.Parsed.{Parsed}
 use Rattle.sqlite_ast.specs.declared.Expr.TheVariants as e
 use Rattle.sqlite_ast.specs.declared.Binary.TheVariants as op
-use Rattle.sql_tables.specs.Written.{Name, column_expr, equals, equals_from, filter_of}
+use Rattle.sql_tables.specs.{Name, column_expr, equals, equals_from, filter_of}
 
 abbrev pub shown_column : Name → Shown
 shown_column name = One (column_expr name) None name

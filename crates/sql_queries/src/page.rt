@@ -4,7 +4,7 @@ ghost use Rattle.std.specs.Prelude.{◌≡◌, ◌≤◌, ℕ, List, length, IfO
 ghost use Rattle.sqlite.specs.State.{HasCleanDisk, Survives};
 ghost use Rattle.sqlite.specs.Held.{state};
 ghost use Rattle.sqlite.specs.Values.{bound};
-ghost use Rattle.sql_tables.specs.StoredRows.{HasTable};
+ghost use Rattle.sql_tables.specs.{HasTable};
 ghost use Rattle.sql_queries.specs.Calls.{AnswersUnchanged, BeginsNone, KeepsVisible};
 ghost use Rattle.sql_queries.specs.Given.{HasGivenRow};
 ghost use Rattle.sql_queries.specs.Keys.{is_before};

@@ -1,11 +1,11 @@
-ghost use Rattle.std.specs.Prelude.{◌≡◌, ◌<◌, false, true, IsTrue, length, slice_index_or, ◌-◌, ◌++◌, ◌∷◌};
-ghost use Rattle.std.specs.Prelude.{[], IfOk, IfErr, OnOk, IsOkUnless, Some};
+ghost use Rattle.std.specs.Prelude.{◌≡◌, ◌<◌, false, true, IsTrue, length, slice_index_or, ◌-◌};
+ghost use Rattle.std.specs.Prelude.{◌++◌, ◌∷◌, [], IfOk, IfErr, OnOk, IsOkUnless, Some};
 ghost use Rattle.sqlite.specs.Order.{Row as Values};
 ghost use Rattle.sqlite.specs.State.{HasCleanDisk, Survives, Shown};
 ghost use Rattle.sqlite.specs.Held.{state};
 ghost use Rattle.sqlite.specs.Given.{Advances};
 ghost use Rattle.sqlite.specs.Values.{bound};
-ghost use Rattle.sql_tables.specs.AtRest.{IsAtRest, Keeps};
+ghost use Rattle.sql_tables.specs.{IsAtRest, Keeps};
 ghost use Rattle.sql_queries.specs.Calls.{AnswersUnchanged, KeepsVisible};
 ghost use Rattle.sql_queries.specs.Plain.{OnlyReads};
 ghost use Rattle.sql_queries.specs.Given.{HasGivenRow};

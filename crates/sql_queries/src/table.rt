@@ -2,7 +2,7 @@ ghost use Rattle.std.specs.Prelude.{◌≡◌, ◌↔◌, [], true, false, All, 
 ghost use Rattle.sqlite.specs.State.{HasCleanDisk, Survives};
 ghost use Rattle.sqlite.specs.Held.{state};
 ghost use Rattle.sqlite.specs.Values.{bound};
-ghost use Rattle.sql_tables.specs.StoredRows.{HasTable, IsFree};
+ghost use Rattle.sql_tables.specs.{HasTable, IsFree};
 ghost use Rattle.sql_queries.specs.Calls.{AnswersUnchanged, BeginsNone, KeepsVisible};
 ghost use Rattle.sql_queries.specs.Found.{AreGiven};
 ghost use Rattle.sql_queries.specs.Reading.{Lists, Finds};

@@ -13,8 +13,7 @@ use Rattle.sqlite_resolve.specs.Lowering.{nothing, spend, begin, finish}
 use Rattle.sqlite_resolve.specs.Scope.{Context, Name, find, in_level, only, hit, column_in, column, column_at, term_of, is_among, declared}
 use Rattle.sqlite_resolve.specs.Expr.{lower_to, node, opened, passes}
 use Rattle.sqlite_resolve.specs.declared.state.Carried.{Carried}
-use Rattle.sql_tables.specs.Written.{column_expr}
-use Rattle.sql_tables.specs.Views.{ast_views}
+use Rattle.sql_tables.specs.{column_expr, ast_views}
 
 abbrev pub the_bound : Name → ℕ → Bound
 the_bound name at = record { name = name; table = at; slot = 1; shared = [] }

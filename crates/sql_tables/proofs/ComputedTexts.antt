@@ -20,10 +20,7 @@ use Rattle.sqlite_resolve.specs.Write.{places, row}
 use Rattle.sqlite_resolve.specs.Given.{given}
 use Rattle.sqlite_rules.specs.Probe.{equalities, other_rowid}
 use Rattle.sqlite_value.specs.Keys.{plain}
-use Rattle.sql_tables.specs.TableDefs.{TableDef, table_of, strict_column}
-use Rattle.sql_tables.specs.Rows.{column_indexes_from}
-use Rattle.sql_tables.specs.Written.{Name, filter_of, excluded_sets}
-use Rattle.sql_tables.specs.Texts.{IsDeleteStatement, IsInsertStatement, IsUpsertStatement, taking, parameters_from}
+use Rattle.sql_tables.specs.{TableDef, table_of, strict_column, column_indexes_from, Name, filter_of, excluded_sets, IsDeleteStatement, IsInsertStatement, IsUpsertStatement, taking, parameters_from}
 use Rattle.sql_tables.proofs.WhereGiven.{Entry, AreColumns, IsGiven, test_of, one_deleted, two_deleted}
 use Rattle.sql_tables.proofs.ExcludedTerms.{AreExcluded, excluded_terms, update_read}
 

@@ -1,16 +1,15 @@
 -- What a text that makes a definition's table leaves.
-use Rattle.std.proofs.Common.{◌≡◌, inl, inr, ℕ, ◌+◌, ◌<◌, List, [], ◌∷◌, ◌++◌, map, length, Bool, true, false, not, cond, Option, Some, None, Ok, refl, sym, ap, subst, ◌∙◌, slice_get, get_or, codes, is_some, arith, add-zero, option_and_then}
+use Rattle.std.proofs.Common.{◌≡◌, inl, inr, ℕ, ◌+◌, ◌<◌, List, [], ◌∷◌, ◌++◌, map, length, Bool, true, false, not, cond, Option, Some, None, Ok, refl, sym, ap, subst, ◌∙◌, slice_get, get_or, codes, is_some, arith, add-zero, option_and_then, IsPermutation}
 use Rattle.std.proofs.lemmas.Bool.{cases_Bool, and_parts, not-false, not-true}
 use Rattle.std.proofs.lemmas.Bool.Decides.{nat_tests}
 use Rattle.std.proofs.lemmas.List.Sorted.{IsPermutation-refl}
 use Rattle.std.specs.List.{list_any, list_all, position_from}
-use Rattle.sqlite.specs.Order.{Row}
+use Rattle.sqlite.specs.Order.{Row, column}
 use Rattle.sqlite.specs.Tree.{Trees}
 use Rattle.sqlite.specs.Table.{Table}
 use Rattle.sqlite.specs.Schema.{Schema}
 use Rattle.sqlite.specs.Command.TheVariants.{CreateTable}
 use Rattle.sqlite.specs.Does.{Tally, Does, lacks_sequence}
-use Rattle.std.specs.List.Sorted.{IsPermutation}
 use Rattle.sqlite.specs.Rows.{sequence}
 use Rattle.sqlite.specs.Effect.{Database, IsDatabase}
 use Rattle.sqlite.specs.Change.{created, next_tree, automatics, KeepsRows}
@@ -30,13 +29,9 @@ use Rattle.sqlite_rules.proofs.ActionLemmas.{got_last, got_still}
 use Rattle.sqlite_catalog.proofs.StepLemmas.{same_itself, no_table, no_index, no_view, table_below}
 use Rattle.sqlite_catalog.specs.Listing.{IsSound}
 use Rattle.sqlite_catalog.proofs.LayoutLemmas.{zipped_left, index_owner}
-use Rattle.sqlite.specs.Order.{column}
 use Rattle.sqlite_trees.specs.View.{IsShaped}
 use Rattle.sqlite_trees.specs.declared.store.Shape.TheVariants as shape
-use Rattle.sql_tables.specs.TableDefs.{TableDef, table_of}
-use Rattle.sql_tables.specs.Rows.{columns_of}
-use Rattle.sql_tables.specs.StoredRows.{IsDeclared, HasStoredRows, IsFree}
-use Rattle.sql_tables.specs.Texts.{IsCreateStatement}
+use Rattle.sql_tables.specs.{TableDef, table_of, columns_of, IsDeclared, HasStoredRows, IsFree, IsCreateStatement}
 use Rattle.sql_tables.proofs.DefsApart.{Differ}
 use Rattle.sql_tables.proofs.StatementTurns.{ran_whole, represents_still}
 use Rattle.sql_tables.proofs.PutUpserts.{went, same_value}

@@ -6,8 +6,7 @@ use Rattle.sqlite.specs.Change.{automatics}
 use Rattle.sqlite_schema.specs.declared.schema.Index.{Index}
 use Rattle.sqlite_schema.specs.Names.{same_name}
 use Rattle.sqlite_catalog.proofs.StepLemmas.{same_itself}
-use Rattle.sql_tables.specs.TableDefs.{TableDef, table_of}
-use Rattle.sql_tables.specs.Moves.{differs_from, all_differ, AreApart}
+use Rattle.sql_tables.specs.{TableDef, table_of, differs_from, all_differ, AreApart}
 
 -- two table definitions whose names differ, and the names of the one's indexes from that of the other
 pub record Differ (f g : TableDef) : Type 0 where

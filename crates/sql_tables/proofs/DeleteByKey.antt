@@ -1,5 +1,5 @@
 -- What a text that takes away a row by its key makes of the definition's table.
-use Rattle.std.proofs.Common.{◌≡◌, ◌⊎◌, inl, inr, ℕ, suc, ◌+◌, List, [], ◌∷◌, ◌++◌, map, drop, filter, length, true, false, not, Option, Some, None, Ok, Err, refl, sym, ap, subst, ◌∙◌, slice_get, ltb}
+use Rattle.std.proofs.Common.{◌≡◌, ◌⊎◌, inl, inr, ℕ, suc, ◌+◌, List, [], ◌∷◌, ◌++◌, map, drop, filter, length, true, false, not, Option, Some, None, Ok, Err, refl, sym, ap, subst, ◌∙◌, slice_get, ltb, IsPermutation}
 use Rattle.sqlite.specs.Order.{Row}
 use Rattle.sqlite.specs.Term.{Term}
 use Rattle.sqlite.specs.Schema.{Schema}
@@ -7,8 +7,7 @@ use Rattle.sqlite.specs.Table.{Table}
 use Rattle.sqlite_ast.specs.declared.Expr.{Expr}
 use Rattle.sqlite_ast.specs.declared.Statement.TheVariants as written
 use Rattle.std.specs.List.{list_any, list_all}
-use Rattle.std.specs.List.Sorted.{IsPermutation}
-use Rattle.std.proofs.lemmas.Bool.{and_parts}
+use Rattle.std.proofs.lemmas.Bool.{and_parts, cases_Bool}
 use Rattle.sqlite.specs.declared.types.Value.TheVariants.{Null}
 use Rattle.sqlite.specs.Tree.{Trees}
 use Rattle.sqlite.specs.Rows.{Written, Deletes}
@@ -33,15 +32,12 @@ use Rattle.sqlite_rules.specs.Calls.{ids_of}
 use Rattle.sqlite_rules.specs.Probe.{AreFound, equalities, other_rowid}
 use Rattle.sqlite_rules.proofs.ProbeLemmas.{found_rowids, passes_pair, has_mapped, mapped_has}
 use Rattle.sqlite_rules.proofs.ListLemmas.{all_has, some_has, some_from}
-use Rattle.sql_tables.specs.Rows.{padded, columns_of, column_indexes_from, has_values, delete_by_key}
-use Rattle.sql_tables.specs.Texts.{IsDeleteStatement, taking}
-use Rattle.sql_tables.specs.StoredRows.{IsDeclared, HasStoredRows}
+use Rattle.sql_tables.specs.{padded, columns_of, column_indexes_from, has_values, delete_by_key, IsDeleteStatement, taking, IsDeclared, HasStoredRows, TableDef, table_of}
 use Rattle.sql_tables.proofs.RowLists.{same_bool, filter_on, without_is}
 use Rattle.sql_tables.proofs.RowConflicts.{same_row, own_rowid, column_shift}
 use Rattle.sql_tables.proofs.TextsCompile.{plain_command, program_of, compiles_to}
 use Rattle.sql_tables.proofs.PutUpserts.{went, same_value, Trees_turn, task_of, step_crash_states}
 use Rattle.sql_tables.proofs.StatementTurns.{not_run, Turns, turned_by, ran_as}
-use Rattle.std.proofs.lemmas.Bool.{cases_Bool}
 use Rattle.sqlite.specs.Command.TheVariants.{Delete}
 use Rattle.sqlite_schema.specs.Program.{lets_of}
 use Rattle.sqlite_schema.specs.Names.{table_named}
@@ -52,7 +48,6 @@ use Rattle.sqlite_resolve.specs.declared.error.CompileError.TheVariants.{Mismatc
 use Rattle.sqlite_resolve.specs.Program.{program}
 use Rattle.sqlite_resolve.specs.Compile.{first, compiled, meaning, timed, returning, shows, command, delete, small}
 use Rattle.sqlite_resolve.specs.Write.{deleted}
-use Rattle.sql_tables.specs.TableDefs.{TableDef, table_of}
 use Rattle.sqlite_resolve.specs.Lowering.{Checked, and_then}
 use Rattle.sqlite.specs.Command.{Command}
 

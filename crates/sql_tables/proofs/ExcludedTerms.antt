@@ -22,8 +22,7 @@ use Rattle.sqlite_resolve.specs.Reach.{any_scans}
 use Rattle.sqlite_resolve.specs.Terms.{equal}
 use Rattle.sqlite_draft.specs.declared.join.Step.TheVariants.{Inner}
 use Rattle.sqlite_value.specs.declared.keys.Collation.TheVariants.{Binary}
-use Rattle.sql_tables.specs.Written.{excluded_expr, excluded_sets}
-use Rattle.sql_tables.specs.Views.{ast_views}
+use Rattle.sql_tables.specs.{excluded_expr, excluded_sets, ast_views}
 use Rattle.sql_tables.proofs.ColumnIsRead.{state_at}
 use Rattle.sql_tables.proofs.WhereGiven.{same_either}
 

@@ -26,10 +26,7 @@ use Rattle.sqlite_schema.specs.Names.{same_name, table_named, view_named, index_
 use Rattle.sqlite_catalog.proofs.StepLemmas.{no_table, no_index, no_view}
 use Rattle.sqlite_rules.specs.Lists.{Has}
 use Rattle.sqlite_rules.proofs.ListLemmas.{all_has, has_left, has_right, has_either, has_got}
-use Rattle.sql_tables.specs.TableDefs.{TableDef, table_of}
-use Rattle.sql_tables.specs.StoredRows.{Contents, IsDeclared, HasStoredRows, HaveStoredRows, IsFree, AreFree}
-use Rattle.sql_tables.specs.Moves.{RunsInside, Founds}
-use Rattle.sql_tables.specs.Indexes.{IndexDef, index_of, HasIndex, IsCreateIndexStatement, AreCreateIndexStatements, AreOf, AddsIndexes, are_named_apart}
+use Rattle.sql_tables.specs.{TableDef, table_of, Contents, IsDeclared, HasStoredRows, HaveStoredRows, IsFree, AreFree, RunsInside, Founds, IndexDef, index_of, HasIndex, IsCreateIndexStatement, AreCreateIndexStatements, AreOf, AddsIndexes, are_named_apart}
 use Rattle.sql_tables.proofs.TextsCompile.{plain_command, compiled_as, IsRefusedBy, compiles_to}
 use Rattle.sql_tables.proofs.StatementTurns.{not_run, ran_whole, represents_still}
 use Rattle.sql_tables.proofs.PutUpserts.{went, same_value}

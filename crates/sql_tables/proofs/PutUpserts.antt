@@ -1,9 +1,8 @@
 -- What a statement that puts a row makes of the definition's table and of the others.
-use Rattle.std.proofs.Common.{◌≡◌, ◌≢◌, ◌⊎◌, inl, inr, ℕ, ◌/◌, ℤ, List, [], ◌∷◌, map, filter, drop, length, Bool, true, false, not, Option, Some, None, Ok, Err, Result, refl, sym, ap, subst, true≢false, ◌∙◌, append-nil, ltb, ◌++◌, ◌+◌, is_eq}
+use Rattle.std.proofs.Common.{◌≡◌, ◌≢◌, ◌⊎◌, inl, inr, ℕ, ◌/◌, ℤ, List, [], ◌∷◌, map, filter, drop, length, Bool, true, false, not, Option, Some, None, Ok, Err, Result, refl, sym, ap, subst, true≢false, ◌∙◌, append-nil, ltb, ◌++◌, ◌+◌, is_eq, IsPermutation}
 use Rattle.std.proofs.lemmas.Bool.{and_parts, or_cases, not-true}
 use Rattle.std.proofs.lemmas.Cmp.{tied_itself}
 use Rattle.std.specs.List.{list_any, list_all}
-use Rattle.std.specs.List.Sorted.{IsPermutation}
 use Rattle.std.proofs.lemmas.List.Sorted.{IsPermutation-trans, IsPermutation-cons, IsPermutation-map}
 use Rattle.sqlite.specs.declared.types.Value.{Value}
 use Rattle.sqlite.specs.declared.types.Value.TheVariants.{Null, Int}
@@ -27,7 +26,7 @@ use Rattle.sqlite_trees.proofs.ListLemmas.{filter-map, IsPermutation-filter}
 use Rattle.sqlite.specs.Rowids.TheVariants.{Chosen, Given}
 use Rattle.sqlite.specs.Rows.{Task, Written, Inserts, InsertsOr, TriesEach, Tries, Judged, Upserts, Clears, Meets, Updates, Puts, count_of, nothing, shown}
 use Rattle.sqlite_rules.specs.Action.{Writes, works}
-use Rattle.sqlite_rules.specs.Edit.{taken_by}
+use Rattle.sqlite_rules.specs.Edit.{taken_by, without_all, is_taken, id_in}
 use Rattle.sqlite_trees.specs.View.{IsShaped}
 use Rattle.sqlite_trees.specs.declared.store.Shape.TheVariants as shape
 use Rattle.sqlite_trees.proofs.TreeLemmas.{IsShaped-put_row, IsShaped-filter}
@@ -37,7 +36,6 @@ use Rattle.sqlite_schema.specs.declared.command.Conflict.TheVariants.{Abort}
 use Rattle.sqlite_schema.specs.declared.schema.Keys.{Keys}
 use Rattle.sqlite_rules.specs.declared.error.Refusal.{Refusal}
 use Rattle.sqlite_rules.specs.Lists.{Has}
-use Rattle.sqlite_rules.specs.Edit.{without_all, is_taken, id_in}
 use Rattle.sqlite_rules.specs.Keys.{AreConflicts}
 use Rattle.sqlite_rules.specs.Calls.{ids_of}
 use Rattle.sqlite_trees.specs.Tree.{put_row, rowid, has_rowid}
@@ -45,11 +43,8 @@ use Rattle.sqlite.proofs.Callers.{one_step}
 use Rattle.sqlite_rules.proofs.ListLemmas.{all_has, test_has, some_from}
 use Rattle.sqlite_rules.proofs.TableLemmas.{int_is, has_put}
 use Rattle.sqlite_rules.proofs.PlaceLemmas.{next_is_free}
-use Rattle.sql_tables.specs.TableDefs.{TableDef, table_of}
+use Rattle.sql_tables.specs.{TableDef, table_of, fits_columns, padded, columns_of, meets, put, IsDeclared, parameters_from, updating}
 use Rattle.sqlite_schema.specs.declared.schema.Column.{Column}
-use Rattle.sql_tables.specs.Rows.{fits_columns, padded, columns_of, meets, put}
-use Rattle.sql_tables.specs.StoredRows.{IsDeclared}
-use Rattle.sql_tables.specs.Texts.{parameters_from, updating}
 use Rattle.sql_tables.proofs.TextsCompile.{program_of, upserting}
 use Rattle.sql_tables.proofs.UpsertValues.{shown_is, updated_row, given_rowid}
 use Rattle.sql_tables.proofs.UpdateFinds.{AreShown, OnceOrTwice, found_shown, found_shows, rowid_test}

@@ -1,10 +1,10 @@
 -- Which rows a row of a definition's table meets, and that no foreign key acts.
-use Rattle.std.proofs.Common.{◌≡◌, inl, inr, ℕ, zero, suc, ℤ, List, [], ◌∷◌, filter, drop, Bool, true, false, not, ◌&&◌, Option, Some, None, refl, sym, ap, subst, subst₂, eq-eqb, ◌∙◌, Ordering, Less, Equal, Greater, is_eq, slice_get, get_or, ltb, eqb, arith}
+use Rattle.std.proofs.Common.{◌≡◌, inl, inr, ℕ, zero, suc, ℤ, List, [], ◌∷◌, filter, drop, Bool, true, false, not, ◌&&◌, Option, Some, None, refl, sym, ap, subst, subst₂, eq-eqb, ◌∙◌, Ordering, Less, Equal, Greater, is_eq, slice_get, get_or, ltb, eqb, arith, flat_map, filter_map}
 use Rattle.std.proofs.lemmas.Bool.{cases_Bool, false_from_ne_true, and_parts, and_from, or_cases}
 use Rattle.std.proofs.lemmas.Bool.Decides.{nat_tests}
 use Rattle.std.proofs.lemmas.Cmp.{tied_itself}
 use Rattle.sqlite_value.proofs.OrderLemmas.{value_cmp_total}
-use Rattle.std.specs.List.{list_any, list_all, flat_map, filter_map}
+use Rattle.std.specs.List.{list_any, list_all}
 use Rattle.std.specs.Ordering.{is_ne}
 use Rattle.sqlite.specs.declared.types.Value.{Value}
 use Rattle.sqlite.specs.declared.types.Value.TheVariants.{Null, Int}
@@ -33,9 +33,7 @@ use Rattle.sqlite_rules.proofs.ListLemmas.{all_has, test_has, some_has, some_fro
 use Rattle.sqlite_rules.proofs.PlaceLemmas.{tied_same, named_parent}
 use Rattle.sqlite_rules.proofs.TableLemmas.{int_is, has_put, put_all_keeps, without_all_has}
 use Rattle.sqlite_catalog.specs.Listing.{IsGuarded, automatic}
-use Rattle.sql_tables.specs.TableDefs.{TableDef, table_of, plains}
-use Rattle.sql_tables.specs.Rows.{padded}
-use Rattle.sql_tables.specs.StoredRows.{IsDeclared}
+use Rattle.sql_tables.specs.{TableDef, table_of, plains, padded, IsDeclared}
 use Rattle.sql_tables.proofs.RowLists.{same_bool, filter_on, without_is}
 
 -- ---- foreign keys

@@ -1,9 +1,8 @@
 -- Facts on lists of rows.
-use Rattle.std.proofs.Common.{◌≡◌, inl, inr, ℤ, List, [], ◌∷◌, filter, Bool, true, false, not, ◌&&◌, ◌||◌, cond, refl, sym, ◌∙◌, Ordering, Less, Equal, Greater, is_eq}
+use Rattle.std.proofs.Common.{◌≡◌, inl, inr, ℤ, List, [], ◌∷◌, filter, Bool, true, false, not, ◌&&◌, ◌||◌, cond, refl, sym, ◌∙◌, Ordering, Less, Equal, Greater, is_eq, IsPermutation}
 use Rattle.std.proofs.lemmas.Bool.{cases_Bool, or_parts, and_parts}
 use Rattle.std.specs.Ordering.{match_ordering}
 use Rattle.std.specs.List.{list_any}
-use Rattle.std.specs.List.Sorted.{IsPermutation}
 use Rattle.std.proofs.lemmas.List.Sorted.{IsPermutation-refl, IsPermutation-trans, IsPermutation-sym, IsPermutation-cons, IsPermutation-middle}
 use Rattle.sqlite.specs.declared.types.Value.{Value}
 use Rattle.sqlite.specs.declared.types.Value.TheVariants.{Null, Int, Text}
@@ -16,7 +15,7 @@ use Rattle.sqlite_sql.specs.Ops.{unary}
 use Rattle.sqlite_trees.specs.Tree.{rowid, has_rowid, put_row, without_rowid}
 use Rattle.sqlite_rules.specs.Lists.{Has}
 use Rattle.sqlite_rules.specs.Edit.{without_all, is_taken}
-use Rattle.sql_tables.specs.Rows.{fits_kind, fits_columns}
+use Rattle.sql_tables.specs.{fits_kind, fits_columns}
 use Rattle.sqlite_catalog.proofs.ListFacts.{filter_all}
 
 pub same_bool : (a b : Bool) → (a ≡ true → b ≡ true) → (b ≡ true → a ≡ true) → a ≡ b

@@ -1,5 +1,5 @@
 -- What a statement makes of the definition's table, of the schema and of the other tables.
-use Rattle.std.proofs.Common.{◌≡◌, ◌≢◌, ℕ, ◌+◌, List, [], ◌∷◌, length, true, false, cond, None, Ok, refl, sym, ap, subst, inl, inr, Err, slice_get, slice_range, ◌∙◌, map}
+use Rattle.std.proofs.Common.{◌≡◌, ◌≢◌, ℕ, ◌+◌, List, [], ◌∷◌, length, true, false, cond, None, Ok, refl, sym, ap, subst, inl, inr, Err, slice_get, slice_range, ◌∙◌, map, IsPermutation}
 use Rattle.sqlite.specs.Order.{Row}
 use Rattle.sqlite.specs.Tree.{Trees}
 use Rattle.sqlite.specs.Table.{Table}
@@ -27,15 +27,11 @@ use Rattle.sqlite_rules.specs.Lists.{Has}
 use Rattle.sqlite_rules.proofs.ListLemmas.{all_has, has_got}
 use Rattle.sqlite.proofs.Callers.{runs_as, command_of, IsPlain, statement_of}
 use Rattle.sqlite_trees.specs.declared.store.Shape.TheVariants as shape
-use Rattle.sql_tables.specs.TableDefs.{TableDef, table_of}
-use Rattle.sql_tables.specs.Rows.{fits_columns, put, columns_of}
-use Rattle.sql_tables.specs.StoredRows.{IsDeclared, HasStoredRows}
-use Rattle.sql_tables.specs.Texts.{IsInsertStatement, IsUpsertStatement, IsPutStatement, terms_of, updating}
+use Rattle.sql_tables.specs.{TableDef, table_of, fits_columns, put, columns_of, IsDeclared, HasStoredRows, IsInsertStatement, IsUpsertStatement, IsPutStatement, terms_of, updating}
 use Rattle.sql_tables.proofs.TextsCompile.{plain_command, compiles, adds, clears, clause_read, upserting}
 use Rattle.sql_tables.proofs.UpsertValues.{values_given}
 use Rattle.sql_tables.proofs.PutUpserts.{went, same_value, task_of, Trees_turn, row_inserted, row_upserted}
 use Rattle.sqlite_trees.specs.View.{IsShaped}
-use Rattle.std.specs.List.Sorted.{IsPermutation}
 
 -- a text that compiles is understood so
 pub understood_as : (schema : Schema) (text : List ℕ) (c : Compiled) → compiled schema text ≡ Ok c → understood schema text ≡ Ok c

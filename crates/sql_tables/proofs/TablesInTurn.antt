@@ -7,10 +7,7 @@ use Rattle.sqlite.specs.Does.{lacks_sequence}
 use Rattle.sqlite.specs.State.{State, Shows}
 use Rattle.sqlite_rules.specs.Lists.{Has}
 use Rattle.sqlite_rules.proofs.ActionLemmas.{got_still}
-use Rattle.sql_tables.specs.TableDefs.{TableDef}
-use Rattle.sql_tables.specs.StoredRows.{HasStoredRows, IsFree, AreFree}
-use Rattle.sql_tables.specs.Texts.{IsCreateStatement}
-use Rattle.sql_tables.specs.Moves.{AreApart, AreCreateStatements, RunsInside, Founds, KeepsFurtherNamesFree}
+use Rattle.sql_tables.specs.{TableDef, HasStoredRows, IsFree, AreFree, IsCreateStatement, AreApart, AreCreateStatements, RunsInside, Founds, KeepsFurtherNamesFree}
 use Rattle.sql_tables.proofs.DefsApart.{apart_at}
 use Rattle.sql_tables.proofs.CreateMakesTable.{create_makes, free_still, counted_kept}
 use Rattle.sql_tables.proofs.ListsAgree.{one_further, there_too, past_all}

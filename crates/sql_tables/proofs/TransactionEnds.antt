@@ -5,7 +5,7 @@ use Rattle.sqlite.specs.Effect.{Database}
 use Rattle.sqlite.specs.declared.error.Error.{Error}
 use Rattle.sqlite.specs.State.{State, Survives, HasCleanDisk, Shows, IsRolledBack, KeepsCommit}
 use Rattle.sqlite.specs.Steps.{FailsToCommit}
-use Rattle.sql_tables.specs.CrashStates.{IsSettled, IsUndone}
+use Rattle.sql_tables.specs.{IsSettled, IsUndone}
 
 -- the laws of a store, of one state
 pub record IsStore (s : State) : Type 0 where

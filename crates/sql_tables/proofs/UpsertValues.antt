@@ -1,23 +1,19 @@
 -- The one row that the terms of an upsert make of its parameters.
-use Rattle.std.proofs.Common.{◌≡◌, refl, ap, ap₂, ◌∙◌, ℕ, suc, ◌+◌, ◌/◌, ◌<◌, List, [], ◌∷◌, ◌++◌, length, take, true, arith, append_assoc, map, sym, length-append}
+use Rattle.std.proofs.Common.{◌≡◌, refl, ap, ap₂, ◌∙◌, ℕ, suc, ◌+◌, ◌/◌, ◌<◌, List, [], ◌∷◌, ◌++◌, length, take, true, arith, append_assoc, map, sym, length-append, take_all}
 use Rattle.std.specs.List.{range_with_len}
 use Rattle.sqlite_trees.specs.Tree.{rowid}
 use Rattle.sqlite.specs.Rows.{shown}
-use Rattle.sql_tables.specs.TableDefs.{table_of}
-use Rattle.std.proofs.lemmas.List.{take_all, length_push}
+use Rattle.sql_tables.specs.{table_of, TableDef, fits_columns, terms_of, parameters_from}
+use Rattle.std.proofs.lemmas.List.{length_push}
 use Rattle.std.proofs.Math.Nat.{div_self}
 use Rattle.std.proofs.lemmas.Bool.{and_parts}
 use Rattle.sqlite.specs.declared.types.Value.{Value}
 use Rattle.sqlite.specs.declared.types.Value.TheVariants.{Null}
 use Rattle.sqlite.specs.Order.{Row, column}
 use Rattle.sqlite.specs.Term.{Term, col}
-use Rattle.sqlite_sql.specs.Term.{Env}
+use Rattle.sqlite_sql.specs.Term.{Env, eval_all}
 use Rattle.sqlite.specs.Effect.{value_rows}
-use Rattle.sqlite_sql.specs.Term.{eval_all}
 use Rattle.sqlite_schema.specs.declared.schema.Column.{Column}
-use Rattle.sql_tables.specs.TableDefs.{TableDef}
-use Rattle.sql_tables.specs.Rows.{fits_columns}
-use Rattle.sql_tables.specs.Texts.{terms_of, parameters_from}
 
 parameters_length : (n : ℕ) (cs : List Column) → length (parameters_from n cs) ≡ length cs
 parameters_length n [] = refl

@@ -9,23 +9,19 @@ use Rattle.sqlite_schema.specs.declared.schema.Schema.{Schema}
 use Rattle.sqlite_schema.specs.declared.schema.Table.{Table}
 use Rattle.sqlite_schema.specs.declared.schema.Column.{Column}
 use Rattle.sqlite_schema.specs.declared.schema.Kind.TheVariants as kind
-use Rattle.sqlite_schema.specs.Names.{place_of}
+use Rattle.sqlite_schema.specs.Names.{place_of, column_named}
 use Rattle.sqlite_resolve.specs.declared.scope.Output.{Output}
 use Rattle.sqlite_resolve.specs.declared.state.Carried.{Carried}
-use Rattle.sqlite_resolve.specs.Lowering.{nothing, spend, begin, finish, chosen}
+use Rattle.sqlite_resolve.specs.Lowering.{nothing, spend, begin, finish, chosen, max_budget}
 use Rattle.sqlite_resolve.specs.Scope.{Name, declared}
 use Rattle.sqlite_schema.specs.declared.schema.Kind.{Kind}
 use Rattle.sqlite_resolve.specs.declared.compare.Affinity.TheVariants as affinity
 use Rattle.sqlite_resolve.specs.Compare.{is_filler, of_kind, compared, of_column, affinity_of, converted, may_be_text, spelled}
 use Rattle.sqlite_resolve.specs.Expr.{lower_to, node, opened, passes, operation, wanted_truth, both, tests_truth, tests_alias, combine}
 use Rattle.sqlite_resolve.specs.Body.{tests}
-use Rattle.sql_tables.specs.Written.{equals, equals_from, filter_of}
-use Rattle.sql_tables.specs.Texts.{taking}
-use Rattle.sql_tables.specs.Views.{ast_views}
+use Rattle.sql_tables.specs.{equals, equals_from, filter_of, taking, ast_views}
 use Rattle.sql_tables.proofs.ColumnIsRead.{context_of, state_at, lower_column}
 use Rattle.std.specs.Bool.{⊤}
-use Rattle.sqlite_schema.specs.Names.{column_named}
-use Rattle.sqlite_resolve.specs.Lowering.{max_budget}
 use Rattle.sqlite_resolve.specs.Write.{deleted, picked}
 use Rattle.sqlite_ast.specs.declared.Expr.{Expr}
 use Rattle.sqlite_ast.specs.declared.Expr.TheVariants as e

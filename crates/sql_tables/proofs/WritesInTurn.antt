@@ -12,10 +12,8 @@ use Rattle.sqlite_schema.specs.Names.{same_name}
 use Rattle.sqlite_rules.specs.Lists.{Has}
 use Rattle.sqlite_rules.proofs.ListLemmas.{has_got, some_from}
 use Rattle.sqlite_catalog.proofs.StepLemmas.{same_itself}
-use Rattle.sql_tables.specs.TableDefs.{TableDef, table_of}
-use Rattle.sql_tables.specs.Rows.{put, delete_by_key}
-use Rattle.sql_tables.specs.StoredRows.{Contents, IsDeclared, HasStoredRows, HaveStoredRows, KeepsOtherTables, is_among}
-use Rattle.sql_tables.specs.Moves.{AreApart, Moves, RunsInside, Upserts, DeletesRows}
+use Rattle.sql_tables.specs.{TableDef, table_of, put, delete_by_key, Contents, IsDeclared, HasStoredRows, HaveStoredRows, KeepsOtherTables, is_among, AreApart, RunsInside, Upserts, DeletesRows}
+use Rattle.sql_tables.specs.Moves.{Moves}
 use Rattle.sql_tables.proofs.DefsApart.{same_column_index}
 use Rattle.sql_tables.proofs.StatementTurns.{Turns, put_turns, represents_still}
 use Rattle.sql_tables.proofs.DeleteByKey.{take_turns}

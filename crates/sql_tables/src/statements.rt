@@ -2,7 +2,8 @@ ghost use Rattle.std.specs.Prelude.{◌≡◌, [], map, IfOk, OnOk, IsOkUnless, 
 ghost use Rattle.sqlite.specs.State.{HasCleanDisk, Survives, KeepsCommit};
 ghost use Rattle.sqlite.specs.Values.{bound};
 ghost use Rattle.sqlite.specs.Held.{state};
-ghost use Rattle.sql_tables.specs.Moves.{RunsInside, Upserts, DeletesRows, CreatesTables, KeepsNamesFree};
+ghost use Rattle.sql_tables.specs.Moves.{RunsInside, Upserts, DeletesRows, CreatesTables};
+ghost use Rattle.sql_tables.specs.Moves.{KeepsNamesFree};
 ghost use Rattle.sql_tables.specs.Indexes.{MakesIndexes};
 
 use crate::fault::{Fault, fault_of};

@@ -1,6 +1,6 @@
 //! Whether a schema declares a table as a table definition says.
-ghost use Rattle.std.specs.Prelude.{◌≡◌, ◌↔◌, ◌==◌, ◌<◌, ◌^◌, true, false, not, map, List, IsTrue, codes, []};
-ghost use Rattle.std.specs.Prelude.{None, length};
+ghost use Rattle.std.specs.Prelude.{◌≡◌, ◌↔◌, ◌==◌, ◌<◌, ◌^◌, true, false, not, map, List, IsTrue};
+ghost use Rattle.std.specs.Prelude.{codes, [], None, length};
 ghost use Rattle.std.specs.List.{list_all, list_any};
 ghost use Rattle.sqlite_schema.specs.Names.{same_name};
 ghost use Rattle.sqlite_schema.specs.Rules.{guards};

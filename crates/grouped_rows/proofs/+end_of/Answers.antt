@@ -1,8 +1,6 @@
-use Rattle.std.proofs.Common.{◌≤◌, ◌∙◌, arith, rules, sym, take}
-use Rattle.std.proofs.lemmas.List.{length-take}
+use Rattle.std.proofs.Common.{◌≤◌, ◌∙◌, arith, rules, sym, take, length-take, is_le}
 use Rattle.std.proofs.lemmas.List.Sorted.{IsPartitionPoint-from_clause}
-use Rattle.std.specs.Ordering.{is_le}
-use Rattle.grouped_rows.specs.Groups.{EndsAt}
+use Rattle.grouped_rows.specs.{EndsAt}
 use Rattle.grouped_rows.proofs.BinarySearch.{adjacent, upto_first}
 use Rattle.grouped_rows.proofs.RunEnds.{ends_among, upto_among}
 use Rattle.grouped_rows.proofs.+end_of.Goals as goal

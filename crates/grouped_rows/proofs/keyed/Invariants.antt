@@ -1,6 +1,4 @@
-use Rattle.std.proofs.Common.{◌≡◌, map, take}
-use Rattle.std.specs.Prelude.{filter}
-use Rattle.std.specs.Option.{is_some}
+use Rattle.std.proofs.Common.{◌≡◌, map, take, filter, is_some}
 use Rattle.grouped_rows.proofs.keyed.Given as goal
 
 abbrev pub invariant-loop-row : goal.invariant-loop-row

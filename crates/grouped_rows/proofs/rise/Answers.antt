@@ -1,7 +1,5 @@
-use Rattle.std.proofs.Common.{rules}
-use Rattle.std.specs.Prelude.{not}
+use Rattle.std.proofs.Common.{rules, not, is_lt}
 use Rattle.std.specs.Option.{option_cmp}
-use Rattle.std.specs.Ordering.{is_lt}
 use Rattle.std.proofs.lemmas.List.Sorted.{answers_always}
 use Rattle.grouped_rows.proofs.SortedCopy.{rises_from_answer}
 use Rattle.grouped_rows.proofs.rise.Goals as goal

@@ -1,6 +1,5 @@
-use Rattle.std.proofs.Common.{◌≡◌, ◌∙◌, ◌-◌, ap, arith, drop, length, sym, take}
-use Rattle.std.proofs.lemmas.List.{length-drop, take_all}
-use Rattle.grouped_rows.specs.Groups.{EndsAt}
+use Rattle.std.proofs.Common.{◌≡◌, ◌∙◌, ◌-◌, ap, arith, drop, length, sym, take, length-drop, take_all}
+use Rattle.grouped_rows.specs.{EndsAt}
 use Rattle.grouped_rows.proofs.RunEnds.{found_from}
 use Rattle.grouped_rows.proofs.run_of.Goals as goal
 

@@ -1,10 +1,9 @@
 ghost use Rattle.std.specs.Prelude.{◌≡◌, IfOk};
-ghost use Rattle.plant_base.specs.State.{State, recall_at};
+ghost use Rattle.plant_base.specs.{State, recall_at};
 ghost use Rattle.plant_trace.specs.ReadOnly.{ReadOnly};
 ghost use Rattle.plant_rules.specs.Recalling.{wrong_lift, lift, lifted};
-ghost use Rattle.plant_view.specs.OneBatch.{PutsOneBatch};
+ghost use Rattle.plant_view.specs.{PutsOneBatch, Decides};
 ghost use Rattle.plant_view.specs.DecisionInvariant.{DecisionInvariant};
-ghost use Rattle.plant_view.specs.Tables.{Decides};
 
 use plant_base::{GREATEST_SEQ, LiftRecall, Lifting, Recall, Refusal, Stamp};
 use plant_view::{Decision, RowChange, View, ViewFault, changes, lookup, meta_after};

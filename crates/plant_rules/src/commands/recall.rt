@@ -1,15 +1,10 @@
 ghost use Rattle.std.specs.Prelude.{◌≡◌, ◌<◌, true, IfOk};
-ghost use Rattle.plant_base.specs.Values.{greatest_seq};
-ghost use Rattle.plant_base.specs.State.{State, lot_at, recall_at};
-ghost use Rattle.plant_trace.specs.Reach.{Lists};
-ghost use Rattle.plant_trace.specs.Recalls.{IsRecalled};
+ghost use Rattle.plant_base.specs.{greatest_seq, State, lot_at, recall_at};
+ghost use Rattle.plant_trace.specs.{Lists, IsRecalled};
 ghost use Rattle.plant_trace.specs.ReadOnly.{ReadOnly};
 ghost use Rattle.plant_rules.specs.Recalling.{may_open, wrong_recall, recall, recall_rows, opened};
-ghost use Rattle.plant_view.specs.Genealogy.{edges_of};
-ghost use Rattle.plant_view.specs.Recalls.{mark_on};
-ghost use Rattle.plant_view.specs.OneBatch.{PutsOneBatch};
+ghost use Rattle.plant_view.specs.{edges_of, mark_on, PutsOneBatch, Decides};
 ghost use Rattle.plant_view.specs.DecisionInvariant.{DecisionInvariant};
-ghost use Rattle.plant_view.specs.Tables.{Decides};
 
 use plant_base::{GREATEST_SEQ, Id, Items, Lot, Recall, RecallLot, Refusal, Stamp};
 use plant_trace::{Node, reached};

@@ -1,6 +1,6 @@
 use Rattle.std.proofs.Common.{◌≡◌, ◌*◌, ◌≤◌, take}
-use Rattle.plant_base.specs.Values.{greatest_amount}
-use Rattle.plant_stock.specs.Stock.{left_of}
+use Rattle.plant_base.specs.{greatest_amount}
+use Rattle.plant_stock.specs.{left_of}
 use Rattle.plant_stock.proofs.left.Given as goal
 
 abbrev pub invariant-loop-movement : goal.invariant-loop-movement

@@ -1,6 +1,6 @@
 use Rattle.std.proofs.Common.{◌≡◌, ◌*◌, ◌≤◌, take}
-use Rattle.plant_base.specs.Values.{greatest_amount}
-use Rattle.plant_stock.specs.Stock.{total_of}
+use Rattle.plant_base.specs.{greatest_amount}
+use Rattle.plant_stock.specs.{total_of}
 use Rattle.plant_stock.proofs.merged_total.Given as goal
 
 abbrev pub invariant-loop-part : goal.invariant-loop-part

@@ -1,6 +1,6 @@
 use Rattle.std.proofs.Common.{◌≡◌, ◌*◌, ◌≤◌, take}
-use Rattle.plant_base.specs.Values.{greatest_amount}
-use Rattle.plant_stock.specs.Stock.{entered, left}
+use Rattle.plant_base.specs.{greatest_amount}
+use Rattle.plant_stock.specs.{entered, left}
 use Rattle.plant_stock.proofs.stock_of.Given as goal
 
 abbrev pub invariant-loop-movement : goal.invariant-loop-movement

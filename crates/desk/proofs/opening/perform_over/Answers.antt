@@ -1,5 +1,5 @@
 use Rattle.std.proofs.Common.{ap, inl, inr, ◌∙◌}
-use Rattle.desk.specs.Worked.{exit_status}
+use Rattle.desk.specs.{exit_status}
 use Rattle.desk.proofs.ExitStatus.{told_with}
 use Rattle.desk.proofs.opening.perform_over.Goals as goal
 

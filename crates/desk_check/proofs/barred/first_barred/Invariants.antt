@@ -1,5 +1,5 @@
 use Rattle.std.proofs.Common.{◌≡◌, drop}
-use Rattle.desk_check.specs.Barred.{first_barred}
+use Rattle.desk_check.specs.{first_barred}
 use Rattle.desk_check.proofs.barred.first_barred.Given as goal
 
 -- none so far is barred: the first is one of those that are left

@@ -1,5 +1,5 @@
 use Rattle.std.proofs.Common.{◌≡◌, drop}
-use Rattle.desk_check.specs.Bound.{first_binder}
+use Rattle.desk_check.specs.{first_binder}
 use Rattle.desk_check.proofs.bound.first_binder.Given as goal
 
 -- none so far is on a table of the desk: the first is one of those that are left

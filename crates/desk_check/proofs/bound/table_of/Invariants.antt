@@ -1,5 +1,5 @@
 use Rattle.std.proofs.Common.{◌≡◌, drop}
-use Rattle.desk_check.specs.Bound.{table_of}
+use Rattle.desk_check.specs.{table_of}
 use Rattle.desk_check.proofs.bound.table_of.Given as goal
 
 -- the object is on none so far: the first is one of those that are left

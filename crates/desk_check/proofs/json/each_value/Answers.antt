@@ -1,6 +1,5 @@
-use Rattle.std.proofs.Common.{◌∙◌, ap}
-use Rattle.std.proofs.lemmas.List.{take_all}
-use Rattle.desk_check.specs.Objects.{each_data}
+use Rattle.std.proofs.Common.{◌∙◌, ap, take_all}
+use Rattle.desk_check.specs.{each_data}
 use Rattle.desk_check.proofs.EachDataReported.{each_data_reported}
 use Rattle.desk_check.proofs.json.each_value.Goals as goal
 

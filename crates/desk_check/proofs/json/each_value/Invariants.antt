@@ -1,6 +1,6 @@
 use Rattle.std.proofs.Common.{◌≡◌, take, map}
 use Rattle.serde_json.specs.View.{view}
-use Rattle.desk_check.specs.Objects.{each_data}
+use Rattle.desk_check.specs.{each_data}
 use Rattle.desk_check.proofs.json.each_value.Given as goal
 
 -- what is reported of the rules so far

@@ -1,4 +1,4 @@
-use Rattle.desk_check.specs.Outcomes.{held_text}
+use Rattle.desk_check.specs.{held_text}
 use Rattle.desk_check.proofs.SentencesInSequence.{held_behind}
 use Rattle.desk_check.proofs.outcome.write_sentences.Goals as goal
 

@@ -1,6 +1,6 @@
-use Rattle.plant_check_rows.specs.Texts.{fault_text}
-use Rattle.desk_check.specs.Reports.{rule_line}
-use Rattle.plant_text.specs.Writes.{with_lf}
+use Rattle.plant_check_rows.specs.{fault_text}
+use Rattle.desk_check.specs.{rule_line}
+use Rattle.plant_text.specs.{with_lf}
 use Rattle.desk_check.proofs.SentencesInSequence.{reported_behind}
 use Rattle.desk_check.proofs.report.write_broken.Goals as goal
 

@@ -1,6 +1,6 @@
 use Rattle.std.proofs.Common.{take}
 use Rattle.std.specs.Io.KnownBytes.{Appends}
-use Rattle.desk_check.specs.Reports.{each_text}
+use Rattle.desk_check.specs.{each_text}
 use Rattle.desk_check.proofs.report.write_each_rule.Given as goal
 
 -- the rules so far are written

@@ -1,6 +1,5 @@
-use Rattle.std.proofs.Common.{subst, sym}
-use Rattle.std.specs.String.{string_bytes}
-use Rattle.desk_check.specs.OpenErrors.{IsErrorText, error_of}
+use Rattle.std.proofs.Common.{subst, sym, string_bytes}
+use Rattle.desk_check.specs.{IsErrorText, error_of}
 use Rattle.desk_check.proofs.SentencesInSequence.{some_text}
 use Rattle.desk_check.proofs.report.write_error.Goals as goal
 

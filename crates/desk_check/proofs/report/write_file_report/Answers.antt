@@ -1,5 +1,5 @@
-use Rattle.std.specs.Prelude.{◌++◌}
-use Rattle.desk_check.specs.Reports.{desk_text, findings_text, barred_text}
+use Rattle.std.proofs.Common.{◌++◌}
+use Rattle.desk_check.specs.{desk_text, findings_text, barred_text}
 use Rattle.desk_check.proofs.SentencesInSequence.{reported_behind}
 use Rattle.desk_check.proofs.report.write_file_report.Goals as goal
 

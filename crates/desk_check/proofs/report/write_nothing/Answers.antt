@@ -1,6 +1,6 @@
-use Rattle.std.specs.Prelude.{codes}
-use Rattle.desk_check.specs.Reports.{index_text}
-use Rattle.plant_text.specs.Writes.{with_lf}
+use Rattle.std.proofs.Common.{codes}
+use Rattle.desk_check.specs.{index_text}
+use Rattle.plant_text.specs.{with_lf}
 use Rattle.desk_check.proofs.SentencesInSequence.{reported_behind}
 use Rattle.desk_check.proofs.report.write_nothing.Goals as goal
 

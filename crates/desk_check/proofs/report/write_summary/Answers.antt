@@ -1,5 +1,5 @@
-use Rattle.desk_check.specs.Reports.{summary_text, counts_text}
-use Rattle.plant_text.specs.Writes.{with_lf}
+use Rattle.desk_check.specs.{summary_text, counts_text}
+use Rattle.plant_text.specs.{with_lf}
 use Rattle.desk_check.proofs.SentencesInSequence.{reported_behind}
 use Rattle.desk_check.proofs.report.write_summary.Goals as goal
 

@@ -1,4 +1,4 @@
-use Rattle.desk_check.specs.Reports.{findings_text, barred_text}
+use Rattle.desk_check.specs.{findings_text, barred_text}
 use Rattle.desk_check.proofs.SentencesInSequence.{reported_behind}
 use Rattle.desk_check.proofs.report.write_wrong.Goals as goal
 

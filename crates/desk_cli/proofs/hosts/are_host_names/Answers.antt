@@ -1,6 +1,6 @@
 use Rattle.std.proofs.Common.{◌∙◌, sym}
 use Rattle.std.proofs.lemmas.List.Folds.{list_all-map}
-use Rattle.desk_cli.specs.Hosts.{is_host_name}
+use Rattle.desk_cli.specs.{is_host_name}
 use Rattle.desk_cli.proofs.hosts.are_host_names.Goals as goal
 
 pub returns : goal.returns

@@ -1,9 +1,7 @@
-use Rattle.std.proofs.Common.{◌≡◌, ◌∙◌, List, [], true, map, subst, ap, refl}
+use Rattle.std.proofs.Common.{◌≡◌, ◌∙◌, List, [], true, map, subst, ap, refl, codes}
 use Rattle.clap.specs.Kinds.{HasKind}
 use Rattle.clap.specs.Words.{App, HasMatchesOf, Text, fault_of, first_of, found_of, is_simple_and_free, matches_of, rows_of}
-use Rattle.std.specs.Prelude.{codes}
-use Rattle.desk_cli.specs.Checking.{line_check_app}
-use Rattle.desk_cli.specs.Meaning.{is_set}
+use Rattle.desk_cli.specs.{line_check_app, is_set}
 use Rattle.desk_cli.proofs.RefusalKinds.{refusal_by}
 use Rattle.desk_cli.proofs.line_checking.read_line_check.Goals as goal
 

@@ -1,8 +1,7 @@
 use Rattle.std.proofs.Common.{◌≡◌, ◌∙◌, List, [], true, Ok, Err, map, subst, sym, ap, refl}
 use Rattle.clap.specs.Kinds.{HasKind}
 use Rattle.clap.specs.Words.{App, HasMatchesOf, Text, app_of, fault_of, is_simple_and_free, subcommand_of, subcommand_rows_of}
-use Rattle.desk_cli.specs.CommandLine.{the_program}
-use Rattle.desk_cli.specs.Meaning.{all_meant, meant_in, words_meant}
+use Rattle.desk_cli.specs.{the_program, all_meant, meant_in, words_meant}
 use Rattle.desk_cli.proofs.RefusalKinds.{broken, refusal_by, refused_by}
 use Rattle.desk_cli.proofs.read.read_words.Goals as goal
 

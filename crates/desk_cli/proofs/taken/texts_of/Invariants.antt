@@ -1,4 +1,4 @@
-use Rattle.std.specs.Prelude.{◌≡◌, map, string_bytes, take}
+use Rattle.std.proofs.Common.{◌≡◌, map, string_bytes, take}
 use Rattle.desk_cli.proofs.taken.texts_of.Given as goal
 
 abbrev pub invariant-loop-word : goal.invariant-loop-word

@@ -1,5 +1,4 @@
-use Rattle.std.proofs.Common.{subst, sym, ◌∙◌}
-use Rattle.std.specs.Prelude.{IfSome, ◌≤◌}
+use Rattle.std.proofs.Common.{subst, sym, ◌∙◌, IfSome, ◌≤◌}
 use Rattle.desk_cli.proofs.NumeralsAreRead.{number_bounded}
 use Rattle.desk_cli.proofs.values.number_at.Goals as goal
 

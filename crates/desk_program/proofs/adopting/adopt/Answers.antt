@@ -1,7 +1,6 @@
 use Rattle.std.proofs.Common.{false, refl}
 use Rattle.sqlite.specs.Held.{state}
-use Rattle.plant_desk_store.specs.Adopting.{Adopts}
-use Rattle.plant_desk_store.specs.DeskStates.{IsDurablyAt}
+use Rattle.plant_desk_store.specs.{Adopts, IsDurablyAt}
 use Rattle.desk_program.proofs.AdoptedState.{adopted_so, as_represented, as_open, honest_before}
 use Rattle.desk_program.proofs.FaultOrigins.{reported_write_error}
 use Rattle.desk_program.proofs.adopting.adopt.Goals as goal

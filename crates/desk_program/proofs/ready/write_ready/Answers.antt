@@ -1,7 +1,6 @@
 use Rattle.std.proofs.Common.{◌∙◌, ap}
 use Rattle.desk_program.proofs.OneLinePrinted.{line_is, line_stopped, one_printed, printing_failed}
-use Rattle.desk_program.specs.Texts.{ready_text}
-use Rattle.desk_program.specs.Performs.{IsReady}
+use Rattle.desk_program.specs.{ready_text, IsReady}
 use Rattle.desk_program.proofs.ready.write_ready.Goals as goal
 
 pub returns-clause-reported : goal.returns-clause-reported

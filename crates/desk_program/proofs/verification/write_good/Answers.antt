@@ -1,7 +1,6 @@
 use Rattle.std.proofs.Common.{ℕ, ◌∙◌, ap}
 use Rattle.desk_program.proofs.OneLinePrinted.{line_is, line_stopped, one_printed, printing_failed}
-use Rattle.desk_program.specs.Texts.{good_text}
-use Rattle.desk_program.specs.Performs.{IsGoodLine}
+use Rattle.desk_program.specs.{good_text, IsGoodLine}
 use Rattle.desk_program.proofs.verification.write_good.Goals as goal
 
 pub returns-clause-reported : goal.returns-clause-reported

@@ -1,5 +1,5 @@
 use Rattle.std.proofs.Common.{◌≡◌, ◌≤◌, ◌-◌, false}
-use Rattle.desk_server.specs.Serving.{IsSameStore, ServesAtMost}
+use Rattle.desk_server.specs.{IsSameStore, ServesAtMost}
 use Rattle.desk_server.proofs.listening.serve_each.Given as goal
 
 abbrev pub invariant-connections : goal.invariant-connections

@@ -1,5 +1,5 @@
 use Rattle.std.proofs.Common.{◌≡◌, [], drop}
-use Rattle.genealogy_graph.specs.United.{edges_from}
+use Rattle.genealogy_graph.specs.{edges_from}
 use Rattle.genealogy_graph.proofs.uniting.amounts_of.Given as goal
 
 abbrev pub invariant-loop-edge : goal.invariant-loop-edge

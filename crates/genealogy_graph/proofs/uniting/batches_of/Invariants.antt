@@ -1,5 +1,5 @@
 use Rattle.std.proofs.Common.{◌≡◌, [], drop}
-use Rattle.genealogy_graph.specs.United.{batches_from}
+use Rattle.genealogy_graph.specs.{batches_from}
 use Rattle.genealogy_graph.proofs.uniting.batches_of.Given as goal
 
 abbrev pub invariant-loop-batch : goal.invariant-loop-batch

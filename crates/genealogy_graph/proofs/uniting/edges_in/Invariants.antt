@@ -1,5 +1,5 @@
 use Rattle.std.proofs.Common.{◌≡◌, []}
-use Rattle.genealogy_graph.specs.United.{edges_in}
+use Rattle.genealogy_graph.specs.{edges_in}
 use Rattle.genealogy_graph.proofs.uniting.edges_in.Given as goal
 
 abbrev pub invariant-loop-ends : goal.invariant-loop-ends

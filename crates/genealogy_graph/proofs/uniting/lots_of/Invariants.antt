@@ -1,5 +1,5 @@
 use Rattle.std.proofs.Common.{◌≡◌, [], drop}
-use Rattle.genealogy_graph.specs.United.{lots_from}
+use Rattle.genealogy_graph.specs.{lots_from}
 use Rattle.genealogy_graph.proofs.uniting.lots_of.Given as goal
 
 abbrev pub invariant-loop-lot : goal.invariant-loop-lot

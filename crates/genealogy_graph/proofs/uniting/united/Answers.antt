@@ -1,5 +1,5 @@
 use Rattle.std.proofs.Common.{rules}
-use Rattle.genealogy_graph.specs.United.{picture_of, ReportsAs}
+use Rattle.genealogy_graph.specs.{picture_of, ReportsAs}
 use Rattle.genealogy_graph.proofs.EndsFound.{ends_if_united}
 use Rattle.genealogy_graph.proofs.uniting.united.Goals as goal
 

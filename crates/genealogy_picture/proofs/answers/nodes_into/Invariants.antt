@@ -1,6 +1,6 @@
 use Rattle.std.proofs.Common.{◌≡◌, ◌+◌, drop}
 use Rattle.serde_json.specs.View.{items_view}
-use Rattle.genealogy_picture.specs.Answers.{nodes_into}
+use Rattle.genealogy_picture.specs.{nodes_into}
 use Rattle.genealogy_picture.proofs.answers.nodes_into.Given as goal
 
 abbrev pub invariant-loop-index : goal.invariant-loop-index

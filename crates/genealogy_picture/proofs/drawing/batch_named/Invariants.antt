@@ -1,6 +1,5 @@
-use Rattle.std.proofs.Common.{◌≡◌, ℕ, List, false, take}
+use Rattle.std.proofs.Common.{◌≡◌, ℕ, List, false, take, bytes_eq}
 use Rattle.std.specs.List.{list_any}
-use Rattle.std.specs.Str.{bytes_eq}
 use Rattle.genealogy_picture.proofs.drawing.batch_named.Given as goal
 
 abbrev pub invariant-loop-batch : goal.invariant-loop-batch

@@ -1,6 +1,5 @@
 use Rattle.std.proofs.Common.{◌≡◌, ◌∙◌, List, ℕ, Ok, sym, rules}
-use Rattle.genealogy_picture.specs.Drawing.{Draws, read_count}
-use Rattle.genealogy_picture.specs.Words.{names}
+use Rattle.genealogy_picture.specs.{Draws, read_count, names}
 use Rattle.genealogy_picture.proofs.DrawnInput.{holds_of_input, of_unread, read_into_nothing, was_read}
 use Rattle.genealogy_picture.proofs.drawing.draw.Goals as goal
 

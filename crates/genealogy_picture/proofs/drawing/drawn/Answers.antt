@@ -1,5 +1,5 @@
 use Rattle.genealogy_picture.proofs.Causes.{drawn_text}
-use Rattle.genealogy_picture.specs.Words.{names}
+use Rattle.genealogy_picture.specs.{names}
 use Rattle.genealogy_picture.proofs.drawing.drawn.Goals as goal
 
 pub returns : goal.returns

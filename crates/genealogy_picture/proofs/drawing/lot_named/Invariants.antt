@@ -1,6 +1,5 @@
-use Rattle.std.proofs.Common.{◌≡◌, false, take}
+use Rattle.std.proofs.Common.{◌≡◌, false, take, bytes_eq}
 use Rattle.std.specs.List.{list_any}
-use Rattle.std.specs.Str.{bytes_eq}
 use Rattle.genealogy_graph.specs.{PictureLot}
 use Rattle.genealogy_picture.proofs.drawing.lot_named.Given as goal
 

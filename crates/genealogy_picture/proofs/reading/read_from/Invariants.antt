@@ -1,5 +1,5 @@
 use Rattle.std.proofs.Common.{◌≡◌, drop}
-use Rattle.genealogy_picture.specs.Reading.{start, read_from}
+use Rattle.genealogy_picture.specs.{start, read_from}
 use Rattle.genealogy_picture.proofs.reading.read_from.Given as goal
 
 abbrev pub invariant-loop-b : goal.invariant-loop-b

@@ -1,9 +1,8 @@
-use Rattle.std.proofs.Common.{◌≡◌, ◌∙◌, List, [], true, map, subst, ap, refl}
-use Rattle.std.specs.Prelude.{codes}
+use Rattle.std.proofs.Common.{◌≡◌, ◌∙◌, List, [], true, map, subst, ap, refl, codes}
 use Rattle.clap.specs.Kinds.{HasKind}
 use Rattle.clap.specs.Words.{App, HasMatchesOf, Text, fault_of, first_of, found_of, is_simple, is_simple_and_free, matches_of, rows_of}
 use Rattle.genealogy_picture.proofs.RefusalKinds.{refusal_by}
-use Rattle.genealogy_picture.specs.Words.{asked_of, picture_app, format_of}
+use Rattle.genealogy_picture.specs.{asked_of, picture_app, format_of}
 use Rattle.genealogy_picture.proofs.words.read_words.Goals as goal
 
 simple_and_free : is_simple_and_free picture_app ≡ true

@@ -1,4 +1,4 @@
-use Rattle.std.proofs.lemmas.List.{take_all}
+use Rattle.std.proofs.Common.{take_all}
 use Rattle.genealogy_svg.proofs.layers.height_of.Goals as goal
 
 pub returns-clause-all : goal.returns-clause-all

@@ -1,7 +1,6 @@
-use Rattle.std.proofs.Common.{◌≡◌, take}
-use Rattle.std.specs.List.{All}
-use Rattle.plant_trace.specs.Ranks.{rank_of}
-use Rattle.genealogy_svg.specs.Layers.{height, IsLayered}
+use Rattle.std.proofs.Common.{◌≡◌, take, All}
+use Rattle.plant_trace.specs.{rank_of}
+use Rattle.genealogy_svg.specs.{height, IsLayered}
 use Rattle.genealogy_svg.proofs.layers.height_of.Given as goal
 
 abbrev pub invariant-loop-edge : goal.invariant-loop-edge

@@ -1,7 +1,7 @@
 use Rattle.std.proofs.Common.{◌∙◌, ap}
 use Rattle.std.proofs.lemmas.Bool.{both_ways}
-use Rattle.plant_trace.specs.Ranks.{rank_of}
-use Rattle.genealogy_svg.specs.Layers.{height}
+use Rattle.plant_trace.specs.{rank_of}
+use Rattle.genealogy_svg.specs.{height}
 use Rattle.genealogy_svg.proofs.LayersInTurn.{settled_more}
 use Rattle.genealogy_svg.proofs.layers.settle.Goals as goal
 

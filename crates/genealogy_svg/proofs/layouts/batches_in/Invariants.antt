@@ -1,5 +1,5 @@
 use Rattle.std.proofs.Common.{◌≡◌, [], drop}
-use Rattle.genealogy_svg.specs.Layouts.{batches_in}
+use Rattle.genealogy_svg.specs.{batches_in}
 use Rattle.genealogy_svg.proofs.layouts.batches_in.Given as goal
 
 abbrev pub invariant-loop-batch : goal.invariant-loop-batch

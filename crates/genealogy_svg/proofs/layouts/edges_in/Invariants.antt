@@ -1,5 +1,5 @@
 use Rattle.std.proofs.Common.{◌≡◌, [], drop}
-use Rattle.genealogy_svg.specs.Layouts.{edges_in}
+use Rattle.genealogy_svg.specs.{edges_in}
 use Rattle.genealogy_svg.proofs.layouts.edges_in.Given as goal
 
 abbrev pub invariant-loop-edge : goal.invariant-loop-edge

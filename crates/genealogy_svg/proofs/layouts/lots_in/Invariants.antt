@@ -1,5 +1,5 @@
 use Rattle.std.proofs.Common.{◌≡◌, [], drop}
-use Rattle.genealogy_svg.specs.Layouts.{lots_in}
+use Rattle.genealogy_svg.specs.{lots_in}
 use Rattle.genealogy_svg.proofs.layouts.lots_in.Given as goal
 
 abbrev pub invariant-loop-lot : goal.invariant-loop-lot

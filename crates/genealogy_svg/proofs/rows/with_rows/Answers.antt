@@ -1,7 +1,7 @@
-use Rattle.std.proofs.Common.{◌≡◌, ◌∙◌, ◌+◌, List, [], ◌∷◌, ◌++◌, take, sym, ap, subst, arith}
-use Rattle.std.proofs.lemmas.List.{take_all, take_more}
+use Rattle.std.proofs.Common.{◌≡◌, ◌∙◌, ◌+◌, List, [], ◌∷◌, ◌++◌, take, sym, ap, subst, arith, take_all}
+use Rattle.std.proofs.lemmas.List.{take_more}
 use Rattle.genealogy_svg.specs.declared.drawing.DrawnEdge.{DrawnEdge}
-use Rattle.genealogy_svg.specs.Rows.{HaveRows, in_row}
+use Rattle.genealogy_svg.specs.{HaveRows, in_row}
 use Rattle.genealogy_svg.proofs.RowsInTurn.{Rowing, have_rows, rowing_more}
 use Rattle.genealogy_svg.proofs.rows.with_rows.Goals as goal
 

@@ -1,7 +1,7 @@
 use Rattle.std.proofs.Common.{◌≡◌, take}
 use Rattle.genealogy_svg.specs.declared.drawing.DrawnBatch.{DrawnBatch}
 use Rattle.genealogy_svg.specs.declared.drawing.DrawnLot.{DrawnLot}
-use Rattle.genealogy_svg.specs.Svg.{greatest, right_end}
+use Rattle.genealogy_svg.specs.{greatest, right_end}
 use Rattle.genealogy_svg.proofs.scalable.width_of.Given as goal
 
 abbrev pub invariant-loop-lot : goal.invariant-loop-lot

@@ -1,5 +1,5 @@
 use Rattle.plant_trace.specs.{Node}
-use Rattle.genealogy_svg.specs.Layers.{AreSettled, IsLayered}
+use Rattle.genealogy_svg.specs.{AreSettled, IsLayered}
 use Rattle.genealogy_svg.proofs.search.layer_node.Given as goal
 
 abbrev pub invariant-steps : goal.invariant-steps

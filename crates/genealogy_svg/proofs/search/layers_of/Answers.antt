@@ -1,6 +1,6 @@
 use Rattle.std.proofs.Common.{take, subst}
 use Rattle.std.proofs.lemmas.List.Elements.{All-more, All-weaker}
-use Rattle.genealogy_svg.specs.Layers.{IsLayered}
+use Rattle.genealogy_svg.specs.{IsLayered}
 use Rattle.genealogy_svg.proofs.search.layers_of.Goals as goal
 
 pub loop-node-preserved : goal.loop-node-preserved

@@ -1,6 +1,5 @@
-use Rattle.std.proofs.Common.{take}
-use Rattle.std.specs.List.{All}
-use Rattle.genealogy_svg.specs.Layers.{AreSettled, IsLayered}
+use Rattle.std.proofs.Common.{take, All}
+use Rattle.genealogy_svg.specs.{AreSettled, IsLayered}
 use Rattle.genealogy_svg.proofs.search.layers_of.Given as goal
 
 abbrev pub invariant-loop-node : goal.invariant-loop-node

@@ -1,5 +1,5 @@
 use Rattle.std.proofs.Common.{◌∙◌}
-use Rattle.grouped_rows.specs.Groups.{is_keyed}
+use Rattle.grouped_rows.specs.{is_keyed}
 use Rattle.grouped_rows.proofs.FirstPassing.{found_alike}
 use Rattle.grouped_rows.proofs.Grouped.first.Goals as goal
 

@@ -1,7 +1,7 @@
 use Rattle.std.proofs.Common.{◌≡◌, ℕ, List, []}
 use Rattle.std.specs.Io.KnownBytes.{Consumes}
-use Rattle.plant_text.specs.HeldLines.{held_after}
-use Rattle.line_check.specs.Report.{no_lines, verdicts_after, AreWrittenAndCounted}
+use Rattle.plant_text.specs.{held_after}
+use Rattle.line_check.specs.{no_lines, verdicts_after, AreWrittenAndCounted}
 use Rattle.line_check.proofs.lines.check_pieces.Given as goal
 
 abbrev pub invariant-reads : goal.invariant-reads

@@ -1,4 +1,4 @@
-use Rattle.line_check.specs.Verdicts.{verdict_of}
+use Rattle.line_check.specs.{verdict_of}
 use Rattle.line_check.proofs.ReportEndsEarly.{early_behind_line}
 use Rattle.line_check.proofs.lines.end_input.Goals as goal
 

@@ -1,7 +1,7 @@
-use Rattle.std.proofs.Common.{◌≡◌, ◌+◌, ◌<◌, [], ◌∷◌, ◌++◌, get_or, take, drop, length, refl, sym, ap, ◌∙◌, arith}
-use Rattle.std.proofs.lemmas.List.{take-append-drop, take_more}
+use Rattle.std.proofs.Common.{◌≡◌, ◌+◌, ◌<◌, [], ◌∷◌, ◌++◌, get_or, take, drop, length, refl, sym, ap, ◌∙◌, arith, take-append-drop}
+use Rattle.std.proofs.lemmas.List.{take_more}
 use Rattle.plant_text.proofs.HeldLine.{held_more, held_after_none, each_none}
-use Rattle.line_check.specs.Verdicts.{verdict_of}
+use Rattle.line_check.specs.{verdict_of}
 use Rattle.line_check.proofs.ReportedLines.{reported_same, piece_reported}
 use Rattle.line_check.proofs.ReportEndsEarly.{early_at_byte}
 use Rattle.line_check.proofs.lines.take_piece.Goals as goal

@@ -1,6 +1,6 @@
 use Rattle.std.proofs.Common.{◌≡◌, take}
-use Rattle.plant_text.specs.HeldLines.{held_after}
-use Rattle.line_check.specs.Report.{verdicts_after, AreWrittenAndCounted}
+use Rattle.plant_text.specs.{held_after}
+use Rattle.line_check.specs.{verdicts_after, AreWrittenAndCounted}
 use Rattle.line_check.proofs.lines.take_piece.Given as goal
 
 abbrev pub invariant-loop-b : goal.invariant-loop-b

@@ -1,6 +1,5 @@
-use Rattle.std.proofs.Common.{◌∙◌, ◌++◌, ap}
-use Rattle.std.proofs.lemmas.List.{take_all}
-use Rattle.order_check.specs.Verdicts.{conflict_in, conflicts_among}
+use Rattle.std.proofs.Common.{◌∙◌, ◌++◌, ap, take_all}
+use Rattle.order_check.specs.{conflict_in, conflicts_among}
 use Rattle.order_check.proofs.ConflictsInSequence.{conflicts_added}
 use Rattle.order_check.proofs.conflicts.conflicts_among.Goals as goal
 

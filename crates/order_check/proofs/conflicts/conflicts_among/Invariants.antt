@@ -1,5 +1,5 @@
 use Rattle.std.proofs.Common.{◌≡◌, take}
-use Rattle.order_check.specs.Verdicts.{conflicts_among}
+use Rattle.order_check.specs.{conflicts_among}
 use Rattle.order_check.proofs.conflicts.conflicts_among.Given as goal
 
 -- the conflicts of the orders so far

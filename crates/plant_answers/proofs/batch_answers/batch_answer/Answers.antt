@@ -1,5 +1,5 @@
 use Rattle.std.proofs.Common.{◌∙◌, sym}
-use Rattle.plant_base.specs.State.{batch_at}
+use Rattle.plant_base.specs.{batch_at}
 use Rattle.plant_trace.proofs.HoldsIfHonest.{HoldsIfHonest-then}
 use Rattle.plant_answers.proofs.FoundBatchRow.{row_found}
 use Rattle.plant_answers.proofs.batch_answers.batch_answer.Goals as goal

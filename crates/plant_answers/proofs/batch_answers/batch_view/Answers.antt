@@ -1,5 +1,5 @@
 use Rattle.plant_trace.proofs.HoldsIfHonest.{HoldsIfHonest-weaker}
-use Rattle.plant_answers.specs.Answering.{IsFoundOf}
+use Rattle.plant_answers.specs.{IsFoundOf}
 use Rattle.plant_answers.proofs.batch_answers.batch_view.Goals as goal
 
 pub returns : goal.returns

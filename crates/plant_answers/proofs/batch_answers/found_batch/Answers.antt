@@ -1,9 +1,9 @@
 use Rattle.std.proofs.Common.{◌≡◌, map}
 use Rattle.std.proofs.lemmas.Result.{IfOk-from_err}
-use Rattle.plant_base.specs.State.{control_lines_of}
+use Rattle.plant_base.specs.{control_lines_of}
 use Rattle.plant_trace.proofs.HoldsIfHonest.{HoldsIfHonest-then}
-use Rattle.plant_view.specs.Views.{events_of}
-use Rattle.plant_answers.specs.BatchViews.{measured_line}
+use Rattle.plant_view.specs.{events_of}
+use Rattle.plant_answers.specs.{measured_line}
 use Rattle.plant_answers.proofs.batch_answers.found_batch.Goals as goal
 
 pub returns : goal.returns

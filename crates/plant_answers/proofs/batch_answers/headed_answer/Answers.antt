@@ -1,5 +1,5 @@
 use Rattle.std.proofs.Common.{◌≡◌, ◌∙◌, Some, sym, ap}
-use Rattle.plant_base.specs.State.{recipe_at}
+use Rattle.plant_base.specs.{recipe_at}
 use Rattle.plant_trace.proofs.HoldsIfHonest.{HoldsIfHonest-then}
 use Rattle.plant_messages.specs.declared.question.Answer.TheVariants as A
 use Rattle.plant_answers.proofs.batch_answers.headed_answer.Goals as goal

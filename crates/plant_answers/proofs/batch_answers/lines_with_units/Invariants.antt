@@ -1,6 +1,6 @@
 use Rattle.std.proofs.Common.{◌≡◌, take, map}
 use Rattle.plant_trace.specs.HoldsIfHonest.{HoldsIfHonest}
-use Rattle.plant_answers.specs.BatchViews.{measured_line}
+use Rattle.plant_answers.specs.{measured_line}
 use Rattle.plant_answers.proofs.batch_answers.lines_with_units.Given as goal
 
 -- the lines so far, each with its unit

@@ -1,5 +1,5 @@
 use Rattle.std.proofs.Common.{◌≡◌, ◌∙◌, Some, sym}
-use Rattle.plant_base.specs.State.{job_at}
+use Rattle.plant_base.specs.{job_at}
 use Rattle.plant_trace.proofs.HoldsIfHonest.{HoldsIfHonest-then}
 use Rattle.plant_answers.proofs.batch_answers.planned_answer.Goals as goal
 

@@ -1,8 +1,7 @@
-use Rattle.std.proofs.Common.{rules, ◌≡◌, ◌++◌, ◌∙◌, ap}
-use Rattle.std.specs.List.{filter_map}
+use Rattle.std.proofs.Common.{rules, ◌≡◌, ◌++◌, ◌∙◌, ap, filter_map}
 use Rattle.std.proofs.lemmas.Result.{IfOk-from_err}
 use Rattle.plant_trace.proofs.HoldsIfHonest.{HoldsIfHonest-then}
-use Rattle.plant_answers.specs.Booked.{booked_at}
+use Rattle.plant_answers.specs.{booked_at}
 use Rattle.plant_answers.proofs.BookingsBetweenNodes.{all_booked}
 use Rattle.plant_answers.proofs.GatheredBookings.{joined_more}
 use Rattle.plant_answers.proofs.booked.bookings_around.Goals as goal

@@ -1,7 +1,6 @@
-use Rattle.std.proofs.Common.{◌≡◌, take}
-use Rattle.std.specs.List.{filter_map, flat_map}
+use Rattle.std.proofs.Common.{◌≡◌, take, filter_map, flat_map}
 use Rattle.plant_trace.specs.HoldsIfHonest.{HoldsIfHonest}
-use Rattle.plant_answers.specs.Booked.{booked_at}
+use Rattle.plant_answers.specs.{booked_at}
 use Rattle.plant_answers.proofs.booked.bookings_around.Given as goal
 
 -- what is booked along the edges from the nodes so far

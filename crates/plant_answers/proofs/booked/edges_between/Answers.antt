@@ -1,6 +1,6 @@
 use Rattle.std.proofs.Common.{◌≡◌, ◌∙◌}
 use Rattle.plant_trace.proofs.HoldsIfHonest.{HoldsIfHonest-weaker}
-use Rattle.plant_answers.specs.Booked.{bookings_around}
+use Rattle.plant_answers.specs.{bookings_around}
 use Rattle.plant_answers.proofs.BookingsBetweenNodes.{summed_between, between_fits}
 use Rattle.plant_answers.proofs.BookedSumsFit.{amount_fits}
 use Rattle.plant_answers.proofs.booked.edges_between.Goals as goal

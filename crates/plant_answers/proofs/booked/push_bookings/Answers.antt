@@ -1,5 +1,5 @@
 use Rattle.std.proofs.Common.{rules, ◌≡◌, ◌++◌, ◌∙◌, option_to_list}
-use Rattle.plant_answers.specs.Booked.{booked_at}
+use Rattle.plant_answers.specs.{booked_at}
 use Rattle.plant_answers.proofs.GatheredBookings.{pushed_more}
 use Rattle.plant_answers.proofs.booked.push_bookings.Goals as goal
 

@@ -1,7 +1,6 @@
-use Rattle.std.proofs.Common.{◌≡◌, ◌++◌, List, take}
-use Rattle.std.specs.List.{filter_map}
+use Rattle.std.proofs.Common.{◌≡◌, ◌++◌, List, take, filter_map}
 use Rattle.plant_trace.specs.{Node}
-use Rattle.plant_answers.specs.Booked.{IsSetOf, booked_at}
+use Rattle.plant_answers.specs.{IsSetOf, booked_at}
 use Rattle.plant_answers.proofs.booked.push_bookings.Given as goal
 
 abbrev pub invariant-loop-movement : goal.invariant-loop-movement

@@ -1,5 +1,5 @@
 use Rattle.std.proofs.Common.{take}
-use Rattle.plant_answers.specs.Booked.{IsSetOf}
+use Rattle.plant_answers.specs.{IsSetOf}
 use Rattle.plant_answers.proofs.booked.set_of.Given as goal
 
 abbrev pub invariant-loop-node : goal.invariant-loop-node

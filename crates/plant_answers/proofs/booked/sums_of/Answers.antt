@@ -1,10 +1,8 @@
-use Rattle.std.proofs.Common.{◌≡◌, ◌∙◌, ap}
-use Rattle.std.proofs.lemmas.List.{take_all}
+use Rattle.std.proofs.Common.{◌≡◌, ◌∙◌, ap, take_all}
 use Rattle.std.proofs.lemmas.Result.{IfOk-weaker}
 use Rattle.std.specs.BTreeMap.{get}
-use Rattle.plant_base.specs.Edges.{edge_order}
-use Rattle.plant_base.specs.{EdgeRow}
-use Rattle.plant_answers.specs.Booked.{sum_at}
+use Rattle.plant_base.specs.{edge_order, EdgeRow}
+use Rattle.plant_answers.specs.{sum_at}
 use Rattle.plant_answers.proofs.SumsByEdge.{sums_more, entries_summed}
 use Rattle.plant_answers.proofs.booked.sums_of.Goals as goal
 

@@ -1,8 +1,7 @@
 use Rattle.std.proofs.Common.{◌≡◌, take}
 use Rattle.std.specs.BTreeMap.{get}
-use Rattle.plant_base.specs.Edges.{edge_order}
-use Rattle.plant_base.specs.{EdgeRow}
-use Rattle.plant_answers.specs.Booked.{Fits, sum_at}
+use Rattle.plant_base.specs.{edge_order, EdgeRow}
+use Rattle.plant_answers.specs.{Fits, sum_at}
 use Rattle.plant_answers.proofs.booked.sums_of.Given as goal
 
 abbrev pub invariant-loop-booking : goal.invariant-loop-booking

@@ -1,7 +1,6 @@
-use Rattle.std.proofs.Common.{◌≡◌, take}
-use Rattle.std.specs.List.{filter_map}
+use Rattle.std.proofs.Common.{◌≡◌, take, filter_map}
 use Rattle.plant_trace.specs.HoldsIfHonest.{HoldsIfHonest}
-use Rattle.plant_answers.specs.BatchViews.{booked_on}
+use Rattle.plant_answers.specs.{booked_on}
 use Rattle.plant_answers.proofs.bookings.booked_by.Given as goal
 
 -- what the movements so far book

@@ -1,8 +1,7 @@
-use Rattle.std.proofs.Common.{◌≡◌, ◌∙◌}
-use Rattle.std.specs.List.{filter_map}
+use Rattle.std.proofs.Common.{◌≡◌, ◌∙◌, filter_map}
 use Rattle.plant_trace.proofs.HoldsIfHonest.{HoldsIfHonest-then}
-use Rattle.plant_view.specs.Views.{movements_of}
-use Rattle.plant_answers.specs.BatchViews.{consumption}
+use Rattle.plant_view.specs.{movements_of}
+use Rattle.plant_answers.specs.{consumption}
 use Rattle.plant_answers.proofs.NarrowedMovements.{consumed_all, produced_all}
 use Rattle.plant_answers.proofs.bookings.bookings_of.Goals as goal
 

@@ -1,6 +1,6 @@
 use Rattle.std.proofs.Common.{◌≡◌, ◌∙◌}
 use Rattle.plant_trace.proofs.HoldsIfHonest.{HoldsIfHonest-weaker}
-use Rattle.plant_view.specs.Views.{scraps_of}
+use Rattle.plant_view.specs.{scraps_of}
 use Rattle.plant_answers.proofs.NarrowedMovements.{scrapped_all}
 use Rattle.plant_answers.proofs.bookings.scrapped_of.Goals as goal
 

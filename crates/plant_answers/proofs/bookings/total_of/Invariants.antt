@@ -1,5 +1,5 @@
 use Rattle.std.proofs.Common.{◌≡◌, ◌*◌, ◌≤◌, take, sum_by}
-use Rattle.plant_base.specs.Values.{greatest_amount}
+use Rattle.plant_base.specs.{greatest_amount}
 use Rattle.plant_answers.proofs.bookings.total_of.Given as goal
 
 abbrev pub invariant-loop-movement : goal.invariant-loop-movement

@@ -1,8 +1,7 @@
-use Rattle.std.proofs.Common.{◌≡◌, fold, take}
-use Rattle.std.specs.List.{filter_map}
+use Rattle.std.proofs.Common.{◌≡◌, fold, take, filter_map}
 use Rattle.plant_trace.specs.HoldsIfHonest.{HoldsIfHonest}
 use Rattle.plant_view.specs.DecisionInvariant.{DecisionInvariant}
-use Rattle.plant_answers.specs.KnownLots.{AreKnown}
+use Rattle.plant_answers.specs.{AreKnown}
 use Rattle.plant_answers.proofs.each_told.rows_of_each.Given as goal
 
 -- what is reported of the items so far, and what is known after them

@@ -1,7 +1,6 @@
 use Rattle.std.proofs.Common.{◌≡◌, ◌∙◌, None, sym, ap}
 use Rattle.plant_trace.proofs.HoldsIfHonest.{HoldsIfHonest-then, HoldsIfHonest-weaker}
-use Rattle.plant_answers.specs.Genealogy.{answer_edges}
-use Rattle.plant_answers.specs.Traces.{missing}
+use Rattle.plant_answers.specs.{answer_edges, missing}
 use Rattle.plant_answers.proofs.edge_answers.edges_answer.Goals as goal
 
 pub returns-in-Some : goal.returns-in-Some

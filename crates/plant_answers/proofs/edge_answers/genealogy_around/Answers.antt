@@ -1,10 +1,8 @@
-use Rattle.std.proofs.Common.{◌≡◌, ◌∙◌}
-use Rattle.std.specs.List.{filter_map}
+use Rattle.std.proofs.Common.{◌≡◌, ◌∙◌, filter_map}
 use Rattle.std.proofs.lemmas.Result.{IfOk-from_err}
 use Rattle.plant_trace.proofs.HoldsIfHonest.{HoldsIfHonest-then}
 use Rattle.plant_view.specs.DecisionInvariant.{DecisionInvariant}
-use Rattle.plant_answers.specs.Surroundings.{nodes_around}
-use Rattle.plant_answers.specs.Genealogy.{node_answer, genealogy_around}
+use Rattle.plant_answers.specs.{nodes_around, node_answer, genealogy_around}
 use Rattle.plant_answers.proofs.GoodsAreReached.{around_lists}
 use Rattle.plant_answers.proofs.edge_answers.genealogy_around.Goals as goal
 

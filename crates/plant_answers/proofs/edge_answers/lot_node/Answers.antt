@@ -1,11 +1,9 @@
 use Rattle.std.proofs.Common.{◌≡◌, ◌∙◌, Option, option_map, ap}
 use Rattle.std.proofs.lemmas.Result.{IfOk-from_err}
-use Rattle.plant_base.specs.State.{definition_at}
-use Rattle.plant_base.specs.{Definition}
+use Rattle.plant_base.specs.{definition_at, Definition}
 use Rattle.plant_trace.proofs.HoldsIfHonest.{HoldsIfHonest-then, HoldsIfHonest-weaker}
-use Rattle.plant_view.specs.Recalls.{is_blocked}
-use Rattle.plant_answers.specs.Genealogy.{lot_node}
-use Rattle.plant_answers.specs.KnownLots.{AreKnown, after_definition, after_lot}
+use Rattle.plant_view.specs.{is_blocked}
+use Rattle.plant_answers.specs.{lot_node, AreKnown, after_definition, after_lot}
 use Rattle.plant_messages.specs.declared.genealogy.NodeAnswer.TheVariants as node
 use Rattle.plant_answers.proofs.edge_answers.lot_node.Goals as goal
 

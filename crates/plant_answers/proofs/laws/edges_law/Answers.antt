@@ -1,8 +1,6 @@
 use Rattle.std.proofs.Common.{ap, sym, subst}
-use Rattle.plant_trace.specs.Reach.{Lists}
-use Rattle.plant_answers.specs.Genealogy.{genealogy_around, answer_edges}
-use Rattle.plant_answers.specs.Answers.{answer}
-use Rattle.plant_answers.specs.AnswerLaws.{IsAround}
+use Rattle.plant_trace.specs.{Lists}
+use Rattle.plant_answers.specs.{genealogy_around, answer_edges, answer, IsAround}
 use Rattle.plant_answers.proofs.EdgesAreBooked.{edges_sorted, edges_only, edges_all}
 use Rattle.plant_answers.proofs.GoodsAreReached.{around_lists}
 use Rattle.plant_answers.proofs.NodesExist.{nodes_named}

@@ -1,4 +1,4 @@
-use Rattle.plant_view.specs.Genealogy.{edges_of}
+use Rattle.plant_view.specs.{edges_of}
 use Rattle.plant_view.proofs.MarkChanges.{are_the_pairs}
 use Rattle.plant_answers.proofs.laws.marks_law.Goals as goal
 

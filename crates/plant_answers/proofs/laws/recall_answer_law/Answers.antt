@@ -1,10 +1,7 @@
 use Rattle.std.proofs.Common.{Bool, List, [], cond, refl, sym, ap, subst}
-use Rattle.plant_trace.specs.Reach.{Lists}
-use Rattle.plant_trace.specs.Recalls.{IsRecalled}
-use Rattle.plant_trace.specs.{Node}
-use Rattle.plant_view.specs.Genealogy.{edges_of}
-use Rattle.plant_answers.specs.Answers.{answer}
-use Rattle.plant_answers.specs.RecallAnswers.{reached_list, recall_answer, answer_recall}
+use Rattle.plant_trace.specs.{Lists, IsRecalled, Node}
+use Rattle.plant_view.specs.{edges_of}
+use Rattle.plant_answers.specs.{answer, reached_list, recall_answer, answer_recall}
 use Rattle.plant_answers.proofs.RecalledNodesAreListed.{reached_lists}
 use Rattle.plant_answers.proofs.laws.recall_answer_law.Goals as goal
 

@@ -1,6 +1,6 @@
 use Rattle.std.proofs.Common.{◌≡◌, ◌∙◌, ℕ, ◌+◌, ◌-◌, ◌≤◌, pos, ◌-ℤ◌, sym, ap, arith}
 use Rattle.std.proofs.Math.IntN.{+ℤ-neg_ℤ_cancel}
-use Rattle.plant_stock.specs.Stock.{entered, left}
+use Rattle.plant_stock.specs.{entered, left}
 use Rattle.plant_answers.proofs.laws.stock_law.Goals as goal
 
 -- a difference of numbers that isn't cut off is one of whole numbers

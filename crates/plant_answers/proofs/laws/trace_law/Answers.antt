@@ -1,7 +1,6 @@
 use Rattle.std.proofs.Common.{ap}
-use Rattle.plant_view.specs.Genealogy.{edges_of}
-use Rattle.plant_answers.specs.Answers.{answer}
-use Rattle.plant_answers.specs.Traces.{trace_of, answer_trace}
+use Rattle.plant_view.specs.{edges_of}
+use Rattle.plant_answers.specs.{answer, trace_of, answer_trace}
 use Rattle.plant_answers.proofs.ReachedIsTrace.{trace_lists}
 use Rattle.plant_answers.proofs.laws.trace_law.Goals as goal
 

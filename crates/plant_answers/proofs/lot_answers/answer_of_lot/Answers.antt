@@ -1,6 +1,6 @@
 use Rattle.std.proofs.Common.{◌≡◌, ◌∙◌}
-use Rattle.plant_view.specs.Tables.{sublots_of}
-use Rattle.plant_answers.specs.LotAnswers.{lot_answer}
+use Rattle.plant_view.specs.{sublots_of}
+use Rattle.plant_answers.specs.{lot_answer}
 use Rattle.plant_answers.proofs.TotalStockFits.{total_fits}
 use Rattle.plant_answers.proofs.lot_answers.answer_of_lot.Goals as goal
 

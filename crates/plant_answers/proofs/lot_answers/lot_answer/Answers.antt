@@ -1,7 +1,7 @@
 use Rattle.std.proofs.Common.{◌≡◌, ◌∙◌, Some, sym, ap}
-use Rattle.plant_base.specs.State.{lot_at}
+use Rattle.plant_base.specs.{lot_at}
 use Rattle.plant_trace.proofs.HoldsIfHonest.{HoldsIfHonest-then}
-use Rattle.plant_answers.specs.LotAnswers.{answer_lot}
+use Rattle.plant_answers.specs.{answer_lot}
 use Rattle.plant_messages.specs.declared.question.Answer.TheVariants as A
 use Rattle.plant_answers.proofs.lot_answers.lot_answer.Goals as goal
 

@@ -1,6 +1,6 @@
 use Rattle.std.proofs.Common.{◌≡◌, take, map}
 use Rattle.plant_trace.specs.HoldsIfHonest.{HoldsIfHonest}
-use Rattle.plant_answers.specs.Worklists.{open_batch}
+use Rattle.plant_answers.specs.{open_batch}
 use Rattle.plant_answers.proofs.open_batches.with_phases.Given as goal
 
 -- the batches so far, each with its phases

@@ -1,9 +1,7 @@
 use Rattle.std.proofs.Common.{List, subst}
-use Rattle.plant_trace.specs.Reach.{Lists}
-use Rattle.plant_trace.specs.Recalls.{IsRecalled}
-use Rattle.plant_trace.specs.{Node}
+use Rattle.plant_trace.specs.{Lists, IsRecalled, Node}
 use Rattle.plant_trace.proofs.HoldsIfHonest.{HoldsIfHonest-weaker}
-use Rattle.plant_view.specs.Genealogy.{edges_of}
+use Rattle.plant_view.specs.{edges_of}
 use Rattle.plant_answers.proofs.RecalledNodesAreListed.{reached_is}
 use Rattle.plant_answers.proofs.recalls.nodes_reached.Goals as goal
 

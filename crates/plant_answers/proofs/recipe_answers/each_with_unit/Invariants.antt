@@ -1,6 +1,6 @@
 use Rattle.std.proofs.Common.{◌≡◌, take, map}
 use Rattle.plant_trace.specs.HoldsIfHonest.{HoldsIfHonest}
-use Rattle.plant_answers.specs.RecipeAnswers.{recipe_line}
+use Rattle.plant_answers.specs.{recipe_line}
 use Rattle.plant_answers.proofs.recipe_answers.each_with_unit.Given as goal
 
 -- the lines so far, each with its unit

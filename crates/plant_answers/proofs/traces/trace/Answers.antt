@@ -1,8 +1,7 @@
 use Rattle.std.proofs.Common.{List, subst}
-use Rattle.plant_trace.specs.Reach.{IsReached, Lists}
-use Rattle.plant_trace.specs.{Node}
+use Rattle.plant_trace.specs.{IsReached, Lists, Node}
 use Rattle.plant_trace.proofs.HoldsIfHonest.{HoldsIfHonest-weaker}
-use Rattle.plant_view.specs.Genealogy.{edges_of}
+use Rattle.plant_view.specs.{edges_of}
 use Rattle.plant_answers.proofs.ReachedIsTrace.{trace_is}
 use Rattle.plant_answers.proofs.traces.trace.Goals as goal
 

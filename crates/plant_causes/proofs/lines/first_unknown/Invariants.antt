@@ -1,9 +1,8 @@
-use Rattle.std.proofs.Common.{◌≡◌, ◌+◌, drop}
-use Rattle.std.specs.Prelude.{not}
+use Rattle.std.proofs.Common.{◌≡◌, ◌+◌, drop, not}
 use Rattle.std.specs.List.{position_from}
 use Rattle.plant_base.specs.{RecipeLine}
 use Rattle.plant_trace.specs.HoldsIfHonest.{HoldsIfHonest}
-use Rattle.plant_view.specs.Production.{is_known}
+use Rattle.plant_view.specs.{is_known}
 use Rattle.plant_causes.proofs.lines.first_unknown.Given as goal
 
 -- the first line of an unknown definition isn't among those so far

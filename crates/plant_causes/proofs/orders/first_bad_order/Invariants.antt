@@ -1,7 +1,7 @@
 use Rattle.std.proofs.Common.{◌≡◌, ◌+◌, drop}
 use Rattle.std.specs.List.{position_from}
 use Rattle.plant_trace.specs.HoldsIfHonest.{HoldsIfHonest}
-use Rattle.plant_causes.specs.Causes.{is_bad_order}
+use Rattle.plant_causes.specs.{is_bad_order}
 use Rattle.plant_causes.proofs.orders.first_bad_order.Given as goal
 
 -- the first bad order isn't among those so far

@@ -2,7 +2,7 @@ use Rattle.std.proofs.Common.{◌≡◌, ◌+◌, drop}
 use Rattle.std.specs.List.{position_from}
 use Rattle.plant_trace.specs.HoldsIfHonest.{HoldsIfHonest}
 use Rattle.plant_view.specs.DecisionInvariant.{DecisionInvariant}
-use Rattle.plant_causes.specs.Causes.{is_bad_part}
+use Rattle.plant_causes.specs.{is_bad_part}
 use Rattle.plant_causes.proofs.parts.bad_part.Given as goal
 
 -- the first bad part isn't among those so far

@@ -1,7 +1,6 @@
 use Rattle.std.proofs.Common.{◌≡◌, None, Option, Some, false, is_some, refl, arith}
 use Rattle.std.proofs.lemmas.Bool.{false≢true}
-use Rattle.plant_base.specs.State.{place_at}
-use Rattle.plant_base.specs.{Place}
+use Rattle.plant_base.specs.{place_at, Place}
 use Rattle.plant_view.proofs.StockColumn.{nothing_entered}
 use Rattle.plant_causes.proofs.parts.stock_in.Goals as goal
 

@@ -1,7 +1,6 @@
-use Rattle.std.proofs.Common.{◌∙◌}
-use Rattle.std.specs.Prelude.{filter}
+use Rattle.std.proofs.Common.{◌∙◌, filter}
 use Rattle.plant_check_stock.proofs.SublotTests.{placed}
-use Rattle.plant_check.specs.Ends.{entered_by}
+use Rattle.plant_check.specs.{entered_by}
 use Rattle.plant_check.proofs.ends.entries.Goals as goal
 
 pub returns : goal.returns

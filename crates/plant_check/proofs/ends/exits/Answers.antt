@@ -1,7 +1,6 @@
-use Rattle.std.proofs.Common.{◌∙◌}
-use Rattle.std.specs.Prelude.{filter}
+use Rattle.std.proofs.Common.{◌∙◌, filter}
 use Rattle.plant_check_stock.proofs.SublotTests.{placed}
-use Rattle.plant_check.specs.Ends.{left_by}
+use Rattle.plant_check.specs.{left_by}
 use Rattle.plant_check.proofs.ends.exits.Goals as goal
 
 pub returns : goal.returns

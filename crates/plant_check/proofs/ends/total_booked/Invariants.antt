@@ -1,6 +1,6 @@
 use Rattle.std.proofs.Common.{◌≡◌, ◌*◌, ◌≤◌, take}
-use Rattle.plant_base.specs.Values.{greatest_amount}
-use Rattle.plant_check.specs.Ends.{total_booked}
+use Rattle.plant_base.specs.{greatest_amount}
+use Rattle.plant_check.specs.{total_booked}
 use Rattle.plant_check.proofs.ends.total_booked.Given as goal
 
 abbrev pub invariant-loop-row : goal.invariant-loop-row

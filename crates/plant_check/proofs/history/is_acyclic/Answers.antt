@@ -1,8 +1,7 @@
-use Rattle.std.proofs.Common.{◌≡◌, Bool}
-use Rattle.std.specs.Prelude.{◌↔◌, IsTrue}
+use Rattle.std.proofs.Common.{◌≡◌, Bool, ◌↔◌, IsTrue}
 use Rattle.std.proofs.lemmas.Result.{IfOk-weaker}
-use Rattle.plant_trace.specs.Reach.{IsAcyclic}
-use Rattle.plant_check.specs.Broken.{are_acyclic}
+use Rattle.plant_trace.specs.{IsAcyclic}
+use Rattle.plant_check.specs.{are_acyclic}
 use Rattle.plant_check.proofs.CycleTestIsExact.{acyclic_tested}
 use Rattle.plant_check.proofs.history.is_acyclic.Goals as goal
 

@@ -1,7 +1,7 @@
 use Rattle.std.proofs.Common.{◌≡◌, ◌∙◌, ap, sym, subst, refl, cond, List, Option, None, IfOk}
 use Rattle.plant_base.specs.{RecipeLine}
-use Rattle.plant_recipe.specs.WellFormed.{WholeRecipe}
-use Rattle.plant_check_plans.specs.Batches.{control_sized, control_if_well_formed}
+use Rattle.plant_recipe.specs.{WholeRecipe}
+use Rattle.plant_check_plans.specs.{control_sized, control_if_well_formed}
 use Rattle.plant_check_plans.proofs.batches.control_if_well_formed.Goals as goal
 
 pub returns-in-Ok : goal.returns-in-Ok

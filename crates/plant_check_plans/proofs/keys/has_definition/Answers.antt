@@ -1,6 +1,6 @@
 use Rattle.std.proofs.Common.{◌∙◌, sym}
 use Rattle.std.specs.List.{list_any}
-use Rattle.plant_base.specs.State.{same}
+use Rattle.plant_base.specs.{same}
 use Rattle.plant_check_plans.proofs.KeyTests.{ids_tie, found_any}
 use Rattle.plant_check_plans.proofs.keys.has_definition.Goals as goal
 

@@ -1,5 +1,4 @@
-use Rattle.std.proofs.Common.{◌∙◌, ap, length}
-use Rattle.std.specs.Prelude.{◌==◌, filter}
+use Rattle.std.proofs.Common.{◌∙◌, ap, length, ◌==◌, filter}
 use Rattle.plant_check_plans.proofs.KeyTests.{ids_tie}
 use Rattle.plant_check_plans.proofs.keys.has_one_batch.Goals as goal
 

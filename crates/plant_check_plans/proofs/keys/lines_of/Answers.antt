@@ -1,5 +1,4 @@
-use Rattle.std.proofs.Common.{◌∙◌}
-use Rattle.std.specs.Prelude.{filter}
+use Rattle.std.proofs.Common.{◌∙◌, filter}
 use Rattle.plant_check_plans.proofs.KeyTests.{pairs_tie}
 use Rattle.plant_check_plans.proofs.keys.lines_of.Goals as goal
 

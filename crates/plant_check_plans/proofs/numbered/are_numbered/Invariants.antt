@@ -1,6 +1,5 @@
-use Rattle.std.proofs.Common.{◌≡◌, ◌+◌, drop}
-use Rattle.std.specs.Prelude.{map}
-use Rattle.plant_check_plans.specs.Recipes.{are_numbered}
+use Rattle.std.proofs.Common.{◌≡◌, ◌+◌, drop, map}
+use Rattle.plant_check_plans.specs.{are_numbered}
 use Rattle.plant_check_plans.proofs.numbered.are_numbered.Given as goal
 
 -- the rows so far are numbered: all are where those that are left go on from the next number

@@ -1,7 +1,6 @@
-use Rattle.std.proofs.Common.{◌≡◌, ◌++◌, drop}
-use Rattle.std.specs.Prelude.{filter, not}
-use Rattle.plant_tables_read.specs.Collecting.{rows_listed}
-use Rattle.plant_check.specs.Broken.{obeys}
+use Rattle.std.proofs.Common.{◌≡◌, ◌++◌, drop, filter, not}
+use Rattle.plant_tables_read.specs.{rows_listed}
+use Rattle.plant_check.specs.{obeys}
 use Rattle.plant_check_rows.proofs.finding.broken_among.Given as goal
 
 -- the broken ones so far, and then those of the rules that are left, are all of them

@@ -1,7 +1,6 @@
-use Rattle.std.proofs.Common.{◌≡◌, drop}
-use Rattle.std.specs.Prelude.{find, not}
-use Rattle.plant_tables_read.specs.Collecting.{rows_listed}
-use Rattle.plant_check.specs.Broken.{obeys}
+use Rattle.std.proofs.Common.{◌≡◌, drop, find, not}
+use Rattle.plant_tables_read.specs.{rows_listed}
+use Rattle.plant_check.specs.{obeys}
 use Rattle.plant_check_rows.proofs.finding.first_broken_among.Given as goal
 
 -- none of the rules so far is broken: the first is one of those that are left

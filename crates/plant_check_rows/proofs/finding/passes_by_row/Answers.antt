@@ -1,6 +1,5 @@
-use Rattle.std.proofs.Common.{◌∙◌, sym, ap}
-use Rattle.std.specs.Prelude.{is_none}
-use Rattle.plant_tables_read.specs.Collecting.{rows_listed}
+use Rattle.std.proofs.Common.{◌∙◌, sym, ap, is_none}
+use Rattle.plant_tables_read.specs.{rows_listed}
 use Rattle.plant_check_rows.proofs.FoundIfDisobeyed.{none_where_obeyed}
 use Rattle.plant_check_rows.proofs.finding.passes_by_row.Goals as goal
 

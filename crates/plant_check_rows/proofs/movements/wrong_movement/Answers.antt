@@ -1,7 +1,5 @@
-use Rattle.std.proofs.Common.{◌≡◌}
-use Rattle.std.specs.Prelude.{IfOk}
-use Rattle.plant_check_rows.specs.First.{first_reported}
-use Rattle.plant_check_rows.specs.Movements.{movement_fault}
+use Rattle.std.proofs.Common.{◌≡◌, IfOk}
+use Rattle.plant_check_rows.specs.{first_reported, movement_fault}
 use Rattle.plant_check_rows.proofs.movements.wrong_movement.Goals as goal
 
 pub returns : goal.returns

@@ -1,5 +1,5 @@
 use Rattle.std.proofs.Common.{◌≡◌, drop}
-use Rattle.plant_check_rows.specs.Numbers.{fall_fault_in}
+use Rattle.plant_check_rows.specs.{fall_fault_in}
 use Rattle.plant_check_rows.proofs.numbers.first_falling_movement.Given as goal
 
 -- no moment fell so far: the first that does is one of those that are left

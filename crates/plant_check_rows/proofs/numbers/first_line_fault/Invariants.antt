@@ -1,5 +1,5 @@
 use Rattle.std.proofs.Common.{◌≡◌, drop, None}
-use Rattle.plant_check_rows.specs.Numbers.{line_fault_in}
+use Rattle.plant_check_rows.specs.{line_fault_in}
 use Rattle.plant_check_rows.proofs.numbers.first_line_fault.Given as goal
 
 -- the lines so far follow one another: the first that doesn't is one of those that are left

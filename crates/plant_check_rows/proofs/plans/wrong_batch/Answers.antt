@@ -1,7 +1,5 @@
-use Rattle.std.proofs.Common.{◌≡◌}
-use Rattle.std.specs.Prelude.{IfOk}
-use Rattle.plant_check_rows.specs.First.{first_reported}
-use Rattle.plant_check_rows.specs.Plans.{batch_fault}
+use Rattle.std.proofs.Common.{◌≡◌, IfOk}
+use Rattle.plant_check_rows.specs.{first_reported, batch_fault}
 use Rattle.plant_check_rows.proofs.plans.wrong_batch.Goals as goal
 
 pub returns : goal.returns

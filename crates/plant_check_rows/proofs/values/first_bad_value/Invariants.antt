@@ -1,5 +1,5 @@
 use Rattle.std.proofs.Common.{◌≡◌, drop}
-use Rattle.plant_check_rows.specs.Values.{first_bad_value}
+use Rattle.plant_check_rows.specs.{first_bad_value}
 use Rattle.plant_check_rows.proofs.values.first_bad_value.Given as goal
 
 -- the values so far obey their rules: the first that doesn't is one of those that are left

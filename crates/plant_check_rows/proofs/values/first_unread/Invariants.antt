@@ -1,5 +1,5 @@
 use Rattle.std.proofs.Common.{◌≡◌, ◌+◌, drop}
-use Rattle.plant_check_rows.specs.Values.{first_unread}
+use Rattle.plant_check_rows.specs.{first_unread}
 use Rattle.plant_check_rows.proofs.values.first_unread.Given as goal
 
 -- the rows so far can be decoded: the first that can't is one of those that are left

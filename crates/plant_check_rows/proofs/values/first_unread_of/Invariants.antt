@@ -1,5 +1,5 @@
 use Rattle.std.proofs.Common.{◌≡◌, ◌+◌, drop}
-use Rattle.plant_check_rows.specs.Values.{first_unread_of}
+use Rattle.plant_check_rows.specs.{first_unread_of}
 use Rattle.plant_check_rows.proofs.values.first_unread_of.Given as goal
 
 -- the rows of the tables so far can be decoded: the first that can't is of one of those that are left

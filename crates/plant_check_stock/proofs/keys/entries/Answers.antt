@@ -1,6 +1,5 @@
-use Rattle.std.proofs.Common.{◌∙◌}
-use Rattle.std.specs.Prelude.{filter}
-use Rattle.plant_stock.specs.Stock.{goes_to}
+use Rattle.std.proofs.Common.{◌∙◌, filter}
+use Rattle.plant_stock.specs.{goes_to}
 use Rattle.plant_check_stock.proofs.SublotTests.{placed}
 use Rattle.plant_check_stock.proofs.keys.entries.Goals as goal
 

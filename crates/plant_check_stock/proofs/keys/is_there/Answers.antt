@@ -1,7 +1,7 @@
 use Rattle.std.proofs.Common.{◌∙◌, ap, sym}
 use Rattle.std.specs.List.{list_any}
 use Rattle.plant_check_plans.proofs.KeyTests.{pairs_tie}
-use Rattle.plant_check_stock.specs.Movements.{is_there}
+use Rattle.plant_check_stock.specs.{is_there}
 use Rattle.plant_check_stock.proofs.keys.is_there.Goals as goal
 
 pub returns-in-Some : goal.returns-in-Some

@@ -1,6 +1,6 @@
 use Rattle.std.proofs.Common.{◌∙◌, sym, ap}
-use Rattle.plant_view.specs.Genealogy.{edges_among}
-use Rattle.plant_check_stock.specs.Marks.{are_same_marks}
+use Rattle.plant_view.specs.{edges_among}
+use Rattle.plant_check_stock.specs.{are_same_marks}
 use Rattle.plant_check_stock.proofs.MarksByRecall.{none_marked}
 use Rattle.plant_check_stock.proofs.marks.are_marks.Goals as goal
 

@@ -1,10 +1,7 @@
 use Rattle.std.proofs.Common.{◌∙◌, List, subst, sym, ap, map}
-use Rattle.plant_base.specs.Recalls.{mark_order}
-use Rattle.plant_base.specs.{Mark}
-use Rattle.plant_trace.specs.Reach.{Lists}
-use Rattle.plant_trace.specs.Recalls.{IsRecalled}
-use Rattle.plant_view.specs.Recalls.{mark_on}
-use Rattle.plant_view.specs.Rows.{put_all}
+use Rattle.plant_base.specs.{mark_order, Mark}
+use Rattle.plant_trace.specs.{Lists, IsRecalled}
+use Rattle.plant_view.specs.{mark_on, put_all}
 use Rattle.plant_check_stock.proofs.MarksByRecall.{marks_next, marks_lifted}
 use Rattle.plant_check_stock.proofs.marks.mark_reached.Goals as goal
 

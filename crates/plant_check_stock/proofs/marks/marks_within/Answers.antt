@@ -1,8 +1,8 @@
-use Rattle.std.proofs.Common.{◌≡◌, ◌∙◌, ◌+◌, ◌∷◌, [], ◌++◌, List, take, drop, length, ap, sym, rules, arith}
-use Rattle.std.proofs.lemmas.List.{take_more, take-append-drop}
+use Rattle.std.proofs.Common.{◌≡◌, ◌∙◌, ◌+◌, ◌∷◌, [], ◌++◌, List, take, drop, length, ap, sym, rules, arith, take-append-drop}
+use Rattle.std.proofs.lemmas.List.{take_more}
 use Rattle.plant_base.specs.{Mark, Recall}
 use Rattle.plant_trace.specs.{Node}
-use Rattle.plant_view.specs.Recalls.{marks}
+use Rattle.plant_view.specs.{marks}
 use Rattle.plant_check_stock.proofs.MarksByRecall.{marks_longer}
 use Rattle.plant_check_stock.proofs.marks.marks_within.Goals as goal
 

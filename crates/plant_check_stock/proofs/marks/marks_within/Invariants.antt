@@ -1,5 +1,5 @@
 use Rattle.std.proofs.Common.{◌≡◌, take}
-use Rattle.plant_view.specs.Recalls.{marks}
+use Rattle.plant_view.specs.{marks}
 use Rattle.plant_check_stock.proofs.marks.marks_within.Given as goal
 
 -- the set has the marks of the first recalls

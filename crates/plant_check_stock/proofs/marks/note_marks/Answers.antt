@@ -1,10 +1,8 @@
 use Rattle.std.proofs.Common.{◌≡◌, ◌∙◌, ◌+◌, ◌∷◌, [], ◌++◌, List, map, take, ap, sym, rules}
 use Rattle.std.proofs.lemmas.List.{take_more, map-append}
 use Rattle.std.specs.BTreeSet.{insert_key}
-use Rattle.plant_base.specs.Recalls.{mark_order}
-use Rattle.plant_base.specs.{Mark}
-use Rattle.plant_view.specs.Recalls.{mark_on}
-use Rattle.plant_view.specs.Rows.{put_all}
+use Rattle.plant_base.specs.{mark_order, Mark}
+use Rattle.plant_view.specs.{mark_on, put_all}
 use Rattle.plant_view.proofs.MarkChanges.{mark_exact}
 use Rattle.plant_check_stock.proofs.SetsOfKeys.{put_last}
 use Rattle.plant_check_stock.proofs.marks.note_marks.Goals as goal

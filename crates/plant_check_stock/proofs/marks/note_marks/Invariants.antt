@@ -1,7 +1,6 @@
 use Rattle.std.proofs.Common.{◌≡◌, map, take}
-use Rattle.plant_base.specs.Recalls.{mark_order}
-use Rattle.plant_view.specs.Recalls.{mark_on}
-use Rattle.plant_view.specs.Rows.{put_all}
+use Rattle.plant_base.specs.{mark_order}
+use Rattle.plant_view.specs.{mark_on, put_all}
 use Rattle.plant_check_stock.proofs.marks.note_marks.Given as goal
 
 -- the marks on the first nodes were put

@@ -1,5 +1,5 @@
 use Rattle.std.proofs.Common.{◌≡◌, None, drop}
-use Rattle.plant_check_stock.specs.Numbering.{are_lines}
+use Rattle.plant_check_stock.specs.{are_lines}
 use Rattle.plant_check_stock.proofs.numbering.are_lines.Given as goal
 
 -- the movements so far are lines: all are where those that are left go on from the one before

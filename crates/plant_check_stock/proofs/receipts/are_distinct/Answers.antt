@@ -2,7 +2,7 @@ use Rattle.std.proofs.Common.{◌==◌, sym, ap, length}
 use Rattle.std.proofs.lemmas.Cmp.{nat_cmp_total}
 use Rattle.std.proofs.lemmas.List.{length-map}
 use Rattle.std.proofs.lemmas.Map.Views.{btree_set_len-from_list}
-use Rattle.plant_check_stock.specs.Receipts.{seqs_of}
+use Rattle.plant_check_stock.specs.{seqs_of}
 use Rattle.plant_check_stock.proofs.CountedOnce.{counted}
 use Rattle.plant_check_stock.proofs.receipts.are_distinct.Goals as goal
 

@@ -1,6 +1,5 @@
-use Rattle.std.proofs.Common.{◌≡◌, ◌++◌, take}
-use Rattle.std.specs.Prelude.{map}
-use Rattle.plant_check_stock.specs.Times.{row_mark_of, row_mark_of_event}
+use Rattle.std.proofs.Common.{◌≡◌, ◌++◌, take, map}
+use Rattle.plant_check_stock.specs.{row_mark_of, row_mark_of_event}
 use Rattle.plant_check_stock.proofs.times.marks_of.Given as goal
 
 abbrev pub invariant-loop-movement : goal.invariant-loop-movement

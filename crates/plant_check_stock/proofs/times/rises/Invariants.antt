@@ -1,5 +1,5 @@
 use Rattle.std.proofs.Common.{◌≡◌, drop}
-use Rattle.plant_check_stock.specs.Times.{rises}
+use Rattle.plant_check_stock.specs.{rises}
 use Rattle.plant_check_stock.proofs.times.rises.Given as goal
 
 -- the moments so far don't fall: all don't where those that are left go on from the latest

@@ -1,5 +1,5 @@
 use Rattle.std.proofs.Common.{◌≡◌, drop}
-use Rattle.plant_command_errors.specs.CommandErrors.{index_of}
+use Rattle.plant_command_errors.specs.{index_of}
 use Rattle.plant_command_errors.proofs.IndexesInLists.{place_on}
 use Rattle.plant_command_errors.proofs.command_errors.index_of.Given as goal
 

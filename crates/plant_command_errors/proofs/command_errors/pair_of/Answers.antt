@@ -1,5 +1,5 @@
 use Rattle.std.proofs.Common.{◌∙◌, ◌+◌, ap, sym, arith}
-use Rattle.plant_command_errors.specs.CommandErrors.{index_of}
+use Rattle.plant_command_errors.specs.{index_of}
 use Rattle.plant_command_errors.proofs.IndexesInLists.{pair_first, pair_met, pair_passed, pair_none_left, rest_all}
 use Rattle.plant_command_errors.proofs.command_errors.pair_of.Goals as goal
 

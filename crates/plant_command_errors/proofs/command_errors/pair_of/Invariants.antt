@@ -1,5 +1,5 @@
 use Rattle.std.proofs.Common.{◌≡◌, drop}
-use Rattle.plant_command_errors.specs.CommandErrors.{pair_of}
+use Rattle.plant_command_errors.specs.{pair_of}
 use Rattle.plant_command_errors.proofs.IndexesInLists.{pair_on}
 use Rattle.plant_command_errors.proofs.command_errors.pair_of.Given as goal
 

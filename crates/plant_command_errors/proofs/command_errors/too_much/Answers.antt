@@ -1,5 +1,4 @@
-use Rattle.std.proofs.Common.{◌∙◌, ap, sym, arith}
-use Rattle.std.specs.Prelude.{not}
+use Rattle.std.proofs.Common.{◌∙◌, ap, sym, arith, not}
 use Rattle.plant_command_errors.proofs.IndexesInLists.{index_first, index_met, index_passed, index_none_left}
 use Rattle.plant_command_errors.proofs.command_errors.too_much.Goals as goal
 

@@ -1,7 +1,6 @@
-use Rattle.std.proofs.Common.{◌≡◌, drop}
-use Rattle.std.specs.Prelude.{not}
-use Rattle.plant_recipe.specs.WellFormed.{fits}
-use Rattle.plant_command_errors.specs.CommandErrors.{index_of}
+use Rattle.std.proofs.Common.{◌≡◌, drop, not}
+use Rattle.plant_recipe.specs.{fits}
+use Rattle.plant_command_errors.specs.{index_of}
 use Rattle.plant_command_errors.proofs.IndexesInLists.{place_on}
 use Rattle.plant_command_errors.proofs.command_errors.too_much.Given as goal
 

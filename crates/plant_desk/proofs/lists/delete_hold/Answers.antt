@@ -1,5 +1,5 @@
 use Rattle.std.proofs.Common.{rules, not, ◌&&◌}
-use Rattle.plant_base.specs.State.{same}
+use Rattle.plant_base.specs.{same}
 use Rattle.plant_desk.proofs.RetainKeeps.{filtered_same}
 use Rattle.plant_desk.proofs.lists.delete_hold.Goals as goal
 

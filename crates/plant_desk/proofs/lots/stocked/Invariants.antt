@@ -1,6 +1,6 @@
 use Rattle.std.proofs.Common.{◌≡◌, take, map}
-use Rattle.plant_view.specs.Tables.{sublot_row, place_of_row}
-use Rattle.plant_desk.specs.Lists.{IsStocked}
+use Rattle.plant_view.specs.{sublot_row, place_of_row}
+use Rattle.plant_desk.specs.{IsStocked}
 use Rattle.plant_desk.proofs.lots.stocked.Given as goal
 
 abbrev pub invariant-loop-p : goal.invariant-loop-p

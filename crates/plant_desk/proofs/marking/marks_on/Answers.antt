@@ -1,6 +1,6 @@
 use Rattle.std.proofs.Common.{◌∙◌, ap, sym, map, List}
 use Rattle.plant_trace.proofs.HoldsIfHonest.{HoldsIfHonest-weaker}
-use Rattle.plant_view.specs.Recalls.{mark_on}
+use Rattle.plant_view.specs.{mark_on}
 use Rattle.plant_base.specs.{Recall}
 use Rattle.plant_desk.proofs.RecallsOfNode.{on_by_back, none_on}
 use Rattle.plant_desk.proofs.marking.marks_on.Goals as goal

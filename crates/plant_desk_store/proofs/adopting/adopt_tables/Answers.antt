@@ -3,10 +3,10 @@ use Rattle.sqlite.specs.Held.{state}
 use Rattle.sqlite.specs.State.{IsUnchanged}
 use Rattle.sqlite.proofs.StateLemmas.{survives_weaker}
 use Rattle.sql_tables.proofs.TransactionEnds.{IsStore}
-use Rattle.plant_base.specs.State.{newest_schema}
-use Rattle.plant_view.specs.Tables.{tables_of}
-use Rattle.plant_tables.specs.Keyed.{HoldsTablesOf}
-use Rattle.plant_desk_store.specs.Parts.{HasTaken}
+use Rattle.plant_base.specs.{newest_schema}
+use Rattle.plant_view.specs.{tables_of}
+use Rattle.plant_tables.specs.{HoldsTablesOf}
+use Rattle.plant_desk_store.specs.{HasTaken}
 use Rattle.plant_desk_store.proofs.CheckedStore.{still_new, opens_new, others_unchanged}
 use Rattle.plant_desk_store.proofs.TablesTested.{raised_or_not, unread}
 use Rattle.plant_desk_store.proofs.adopting.adopt_tables.Goals as goal

@@ -2,11 +2,10 @@ use Rattle.std.proofs.Common.{refl, inl, inr}
 use Rattle.std.proofs.lemmas.Result.{IfOk-weaker, IfErr-weaker}
 use Rattle.sqlite.specs.Held.{state}
 use Rattle.sqlite.specs.State.{HasCleanDisk, IsUnchanged}
-use Rattle.sql_tables.specs.StoredRows.{HaveStoredRows}
-use Rattle.plant_tables.specs.DeskTableDefs.{table_defs_of}
-use Rattle.plant_tables_read.specs.Loading.{AreLoaded, AreRising, contents_loaded}
-use Rattle.plant_tables_read.specs.Version.{HasTablesOf}
-use Rattle.plant_desk_store.specs.Adopting.{NamesFirst}
+use Rattle.sql_tables.specs.{HaveStoredRows}
+use Rattle.plant_tables.specs.{table_defs_of}
+use Rattle.plant_tables_read.specs.{AreLoaded, AreRising, contents_loaded, HasTablesOf}
+use Rattle.plant_desk_store.specs.{NamesFirst}
 use Rattle.plant_desk_store.proofs.CheckedRows.{numbered}
 use Rattle.plant_desk_store.proofs.CheckedStore.{valid_rows, rows_of_valid, broken_tables}
 use Rattle.plant_desk_store.proofs.FaultsOfCalls.{adopted_rows, unread_rows}

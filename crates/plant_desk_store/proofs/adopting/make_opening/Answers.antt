@@ -1,9 +1,9 @@
 use Rattle.std.proofs.Common.{refl, rules}
 use Rattle.sqlite.specs.Held.{state}
-use Rattle.plant_base.specs.State.{opening}
+use Rattle.plant_base.specs.{opening}
 use Rattle.plant_invariant.proofs.StepPreservesInvariant.{opening_is_valid}
 use Rattle.sql_tables.proofs.TransactionEnds.{IsStore}
-use Rattle.plant_tables.specs.DeskCrashStates.{opening_tables}
+use Rattle.plant_tables.specs.{opening_tables}
 use Rattle.plant_desk_store.proofs.CheckedStore.{unopened_keeps}
 use Rattle.plant_desk_store.proofs.ForeignTablesKept.{others_at}
 use Rattle.plant_desk_store.proofs.ReadingKeepsState.{open_at}

@@ -1,8 +1,8 @@
 use Rattle.std.proofs.Common.{ap, rules}
 use Rattle.sqlite.specs.Held.{state}
 use Rattle.sql_tables.proofs.TransactionEnds.{IsStore}
-use Rattle.plant_base.specs.State.{newest_schema}
-use Rattle.plant_view.specs.Tables.{tables_of}
+use Rattle.plant_base.specs.{newest_schema}
+use Rattle.plant_view.specs.{tables_of}
 use Rattle.plant_invariant_tables.proofs.RowsInKeyOrder.{keyed}
 use Rattle.plant_desk_store.proofs.CheckedStore.{rises, reported_shows, reported_known, reported_unmade}
 use Rattle.plant_desk_store.proofs.ForeignTablesKept.{others_at}

@@ -1,18 +1,14 @@
 use Rattle.std.proofs.Common.{◌≡◌, ◌+◌, List, MatchResult, true, subst, rules}
 use Rattle.std.proofs.lemmas.Result.{MatchResult-weaker}
 use Rattle.sqlite.specs.Held.{state}
-use Rattle.plant_base.specs.State.{State, newest_schema}
-use Rattle.plant_view.specs.OneBatch.{puts_one_batch}
-use Rattle.plant_view.specs.Tables.{tables_of, changed_all}
-use Rattle.plant_view.specs.{RowChange}
-use Rattle.plant_rules.specs.Step.{step}
+use Rattle.plant_base.specs.{State, newest_schema}
+use Rattle.plant_view.specs.{puts_one_batch, tables_of, changed_all, RowChange}
+use Rattle.plant_rules.specs.{step}
 use Rattle.plant_messages.specs.declared.reply.DeskFault.TheVariants.{Store}
 use Rattle.plant_messages.specs.declared.reply.Reply.TheVariants.{Accepted}
 use Rattle.plant_invariant.proofs.StepPreservesInvariant.{step_preserves_validity}
 use Rattle.plant_invariant_tables.proofs.AddedRowsAreFresh.{fresh}
-use Rattle.plant_desk_store.specs.Lookups.{IsDecidedAt}
-use Rattle.plant_desk_store.specs.Parts.{PossibleOutcomes}
-use Rattle.plant_desk_store.specs.DeskStates.{IsDurablyAt}
+use Rattle.plant_desk_store.specs.{IsDecidedAt, PossibleOutcomes, IsDurablyAt}
 use Rattle.plant_desk_store.proofs.ExecutedCommand.{refused, repeats, committed}
 use Rattle.plant_desk_store.proofs.executing.execute_decided.Goals as goal
 

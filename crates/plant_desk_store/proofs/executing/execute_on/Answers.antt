@@ -2,12 +2,11 @@ use Rattle.std.proofs.Common.{◌≡◌, ◌≢◌, Err, sym, subst, rules, arit
 use Rattle.std.proofs.lemmas.Result.{IfErr-weaker}
 use Rattle.sqlite.specs.Held.{state}
 use Rattle.sqlite.specs.State.{HasCleanDisk, Survives}
-use Rattle.plant_base.specs.State.{State}
+use Rattle.plant_base.specs.{State}
 use Rattle.sql_tables.proofs.TransactionEnds.{IsStore}
 use Rattle.sql_tables.specs.declared.fault.Fault.TheVariants as fault
 use Rattle.plant_messages.specs.declared.reply.DeskFault.TheVariants.{Shut}
-use Rattle.plant_desk_store.specs.Parts.{HasStepped}
-use Rattle.plant_desk_store.specs.DeskStates.{IsDurablyAt}
+use Rattle.plant_desk_store.specs.{HasStepped, IsDurablyAt}
 use Rattle.plant_desk_store.proofs.ForeignTablesKept.{others_kept}
 use Rattle.plant_desk_store.proofs.ReadingKeepsState.{still_open}
 use Rattle.plant_desk_store.proofs.ExecutedCommand.{decided_repeat, undecided}

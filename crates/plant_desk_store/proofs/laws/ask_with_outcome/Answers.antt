@@ -1,8 +1,8 @@
 use Rattle.std.proofs.Common.{Bool, sym, subst, ◌∙◌}
 use Rattle.sqlite.specs.Held.{state}
-use Rattle.plant_base.specs.State.{newest_schema}
-use Rattle.plant_desk.specs.Keepers.{Asks}
-use Rattle.plant_desk_store.specs.DeskStates.{Represents}
+use Rattle.plant_base.specs.{newest_schema}
+use Rattle.plant_desk.specs.{Asks}
+use Rattle.plant_desk_store.specs.{Represents}
 use Rattle.plant_desk_store.proofs.laws.ask_with_outcome.Goals as goal
 
 pub returns-clause-reported : goal.returns-clause-reported

@@ -1,7 +1,7 @@
 use Rattle.std.proofs.Common.{Bool, sym, subst, ◌∙◌}
 use Rattle.sqlite.specs.Held.{state}
-use Rattle.plant_desk.specs.Keepers.{Checks}
-use Rattle.plant_desk_store.specs.DeskStates.{Represents}
+use Rattle.plant_desk.specs.{Checks}
+use Rattle.plant_desk_store.specs.{Represents}
 use Rattle.plant_desk_store.proofs.laws.check_with_outcome.Goals as goal
 
 pub returns-clause-reported : goal.returns-clause-reported

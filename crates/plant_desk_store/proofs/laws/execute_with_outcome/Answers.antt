@@ -1,6 +1,6 @@
 use Rattle.std.proofs.Common.{Bool, sym, subst}
 use Rattle.sqlite.specs.Held.{state}
-use Rattle.plant_desk_store.specs.DeskStates.{Represents}
+use Rattle.plant_desk_store.specs.{Represents}
 use Rattle.plant_desk_store.proofs.laws.execute_with_outcome.Goals as goal
 
 pub returns : goal.returns

@@ -1,6 +1,6 @@
 use Rattle.std.proofs.Common.{◌≡◌, IfOk, rules}
-use Rattle.plant_base.specs.State.{newest_schema}
-use Rattle.plant_answers.specs.Answers.{answer}
+use Rattle.plant_base.specs.{newest_schema}
+use Rattle.plant_answers.specs.{answer}
 use Rattle.plant_desk_store.proofs.FaultsOfCalls.{looked_up_if, looked_up_open}
 use Rattle.plant_desk_store.proofs.lookups.answer_on.Goals as goal
 

@@ -1,8 +1,8 @@
 use Rattle.std.proofs.Common.{◌≤◌, IfOk, OnOk, IsTrue, rules}
 use Rattle.sqlite.specs.Held.{state}
-use Rattle.plant_base.specs.Values.{greatest_seq}
-use Rattle.plant_view.specs.OneBatch.{PutsOneBatch}
-use Rattle.plant_desk_store.specs.Lookups.{IsDecidedAt}
+use Rattle.plant_base.specs.{greatest_seq}
+use Rattle.plant_view.specs.{PutsOneBatch}
+use Rattle.plant_desk_store.specs.{IsDecidedAt}
 use Rattle.plant_desk_store.specs.declared.lookups.Decided.{Decided}
 use Rattle.plant_desk_store.proofs.FaultsOfCalls.{looked_up_if, looked_up_open}
 use Rattle.plant_desk_store.proofs.lookups.decide_on.Goals as goal

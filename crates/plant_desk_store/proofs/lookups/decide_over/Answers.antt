@@ -1,10 +1,8 @@
 use Rattle.std.proofs.Common.{◌∙◌, ap, subst}
 use Rattle.sqlite.specs.Held.{state}
-use Rattle.plant_base.specs.State.{State}
-use Rattle.plant_rules.specs.Step.{IsDecision}
-use Rattle.plant_keyed.specs.LookupOutcomes.{IsHonest}
-use Rattle.plant_keyed.specs.Caching.{IsCacheOf}
-use Rattle.plant_keyed.specs.Abstraction.{abstraction}
+use Rattle.plant_base.specs.{State}
+use Rattle.plant_rules.specs.{IsDecision}
+use Rattle.plant_keyed.specs.{IsHonest, IsCacheOf, abstraction}
 use Rattle.plant_desk_store.proofs.LookupsAreHonest.{honest_at}
 use Rattle.plant_desk_store.proofs.lookups.decide_over.Goals as goal
 

@@ -2,9 +2,9 @@ use Rattle.std.proofs.Common.{◌≢◌, ◌∙◌, sym, subst}
 use Rattle.std.proofs.lemmas.Result.{IfOk-weaker, IfErr-weaker}
 use Rattle.sqlite.specs.Held.{state}
 use Rattle.sqlite.specs.State.{HasCleanDisk, IsUnchanged}
-use Rattle.plant_base.specs.State.{newest_schema}
+use Rattle.plant_base.specs.{newest_schema}
 use Rattle.sql_tables.specs.declared.fault.Fault.TheVariants as fault
-use Rattle.plant_tables_read.specs.Loading.{AreLoaded}
+use Rattle.plant_tables_read.specs.{AreLoaded}
 use Rattle.plant_messages.specs.declared.reply.DeskFault.TheVariants.{Shut}
 use Rattle.plant_check_laws.proofs.InvariantImpliesChecksPass.{read_valid}
 use Rattle.plant_invariant_tables.proofs.TablesHaveValidValues.{newest_known}

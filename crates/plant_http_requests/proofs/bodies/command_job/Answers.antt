@@ -1,4 +1,4 @@
-use Rattle.plant_text.specs.Lines.{line_of}
+use Rattle.plant_text.specs.{line_of}
 use Rattle.plant_http_requests.proofs.OneJob.{command_reads}
 use Rattle.plant_http_requests.proofs.bodies.command_job.Goals as goal
 

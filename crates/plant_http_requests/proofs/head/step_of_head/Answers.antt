@@ -1,5 +1,5 @@
 use Rattle.std.proofs.Common.{◌≡◌, false, Some, nat_lt, rules, refl, ◌∙◌}
-use Rattle.plant_http_requests.specs.Heads.{field_lines}
+use Rattle.plant_http_requests.specs.{field_lines}
 use Rattle.plant_http_requests.proofs.head.step_of_head.Goals as goal
 
 pub returns : goal.returns

@@ -1,6 +1,5 @@
-use Rattle.std.proofs.Common.{◌≡◌, ◌+◌, drop}
-use Rattle.std.specs.Prelude.{option_map}
-use Rattle.plant_http_requests.specs.HeadEnd.{head_length}
+use Rattle.std.proofs.Common.{◌≡◌, ◌+◌, drop, option_map}
+use Rattle.plant_http_requests.specs.{head_length}
 use Rattle.plant_http_requests.proofs.head_end.head_length.Given as goal
 
 abbrev pub invariant-loop-at : goal.invariant-loop-at

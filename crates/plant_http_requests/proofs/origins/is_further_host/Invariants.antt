@@ -1,5 +1,5 @@
 use Rattle.std.proofs.Common.{◌≡◌, drop}
-use Rattle.plant_http_requests.specs.Origins.{is_further_host}
+use Rattle.plant_http_requests.specs.{is_further_host}
 use Rattle.plant_http_requests.proofs.origins.is_further_host.Given as goal
 
 abbrev pub invariant-loop-name : goal.invariant-loop-name

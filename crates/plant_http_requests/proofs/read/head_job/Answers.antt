@@ -1,5 +1,4 @@
-use Rattle.std.proofs.Common.{refl, arith}
-use Rattle.std.proofs.lemmas.List.{length-drop}
+use Rattle.std.proofs.Common.{refl, arith, length-drop}
 use Rattle.plant_http_requests.proofs.WholeInput.{whole_body, cut_body, by_head}
 use Rattle.plant_http_requests.specs.declared.job.Job.TheVariants as J
 use Rattle.plant_http_requests.proofs.read.head_job.Goals as goal

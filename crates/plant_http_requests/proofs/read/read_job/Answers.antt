@@ -1,8 +1,7 @@
 use Rattle.std.proofs.Common.{◌≡◌, Some, Err, false, refl, ap}
 use Rattle.plant_http_requests.specs.declared.reading.HeadEnd.TheVariants as end
 use Rattle.plant_http_requests.specs.declared.reading.InputFault.TheVariants as fault
-use Rattle.plant_http_requests.specs.Jobs.{most_reads}
-use Rattle.plant_http_requests.specs.Steps.{refusal_of}
+use Rattle.plant_http_requests.specs.{most_reads, refusal_of}
 use Rattle.plant_http_requests.specs.declared.status.Status.TheVariants as status
 use Rattle.plant_http_requests.proofs.WholeInput.{from_end, from_head, spent_more}
 use Rattle.plant_http_requests.proofs.read.read_job.Goals as goal

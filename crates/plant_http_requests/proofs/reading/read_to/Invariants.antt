@@ -1,5 +1,5 @@
 use Rattle.std.proofs.Common.{◌≤◌, ◌+◌, ◌-◌, length}
-use Rattle.plant_http_requests.specs.PieceReading.{GoesOn}
+use Rattle.plant_http_requests.specs.{GoesOn}
 use Rattle.plant_http_requests.proofs.reading.read_to.Given as goal
 
 abbrev pub invariant-loop-bytes : goal.invariant-loop-bytes

@@ -1,5 +1,5 @@
 use Rattle.std.proofs.Common.{Some, sym, ap, ◌∙◌}
-use Rattle.plant_http_routes.specs.Routes.{first_part}
+use Rattle.plant_http_routes.specs.{first_part}
 use Rattle.plant_http_routes.proofs.PathParts.{texts_of}
 use Rattle.plant_http_routes.proofs.path.first_in.Goals as goal
 

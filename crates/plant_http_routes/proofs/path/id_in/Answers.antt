@@ -1,7 +1,6 @@
-use Rattle.std.proofs.Common.{sym, ap, ◌∙◌}
-use Rattle.std.specs.Prelude.{option_and_then}
-use Rattle.plant_base.specs.Values.{is_id, only}
-use Rattle.plant_http_routes.specs.Routes.{first_part}
+use Rattle.std.proofs.Common.{sym, ap, ◌∙◌, option_and_then}
+use Rattle.plant_base.specs.{is_id, only}
+use Rattle.plant_http_routes.specs.{first_part}
 use Rattle.plant_http_routes.proofs.PathParts.{texts_of}
 use Rattle.plant_http_routes.proofs.path.id_in.Goals as goal
 

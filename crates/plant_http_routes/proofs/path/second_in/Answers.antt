@@ -1,5 +1,5 @@
 use Rattle.std.proofs.Common.{Some, ◌∷◌, sym, ap, ◌∙◌}
-use Rattle.plant_http_routes.specs.Routes.{second_part}
+use Rattle.plant_http_routes.specs.{second_part}
 use Rattle.plant_http_routes.proofs.PathParts.{texts_of}
 use Rattle.plant_http_routes.proofs.path.second_in.Goals as goal
 

@@ -1,5 +1,5 @@
 use Rattle.std.proofs.Common.{rules, ◌≡◌, Some, arith}
-use Rattle.plant_base.specs.Digits.{digits_of}
+use Rattle.plant_base.specs.{digits_of}
 use Rattle.plant_http_routes.proofs.SmallVersions.{small}
 use Rattle.plant_http_routes.proofs.recipes.read_version.Goals as goal
 

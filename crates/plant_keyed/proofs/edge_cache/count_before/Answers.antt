@@ -1,7 +1,6 @@
-use Rattle.std.proofs.Common.{rules}
-use Rattle.std.specs.Ordering.{is_lt}
+use Rattle.std.proofs.Common.{rules, is_lt}
 use Rattle.std.proofs.lemmas.List.Sorted.{IsPartitionPoint-from_clause}
-use Rattle.plant_trace.specs.Nodes.{node_cmp}
+use Rattle.plant_trace.specs.{node_cmp}
 use Rattle.plant_keyed.proofs.CachedEdges.{parted_before}
 use Rattle.plant_keyed.proofs.edge_cache.count_before.Goals as goal
 

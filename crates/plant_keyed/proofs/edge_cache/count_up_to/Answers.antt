@@ -1,7 +1,6 @@
-use Rattle.std.proofs.Common.{rules}
-use Rattle.std.specs.Ordering.{is_le}
+use Rattle.std.proofs.Common.{rules, is_le}
 use Rattle.std.proofs.lemmas.List.Sorted.{IsPartitionPoint-from_clause}
-use Rattle.plant_trace.specs.Nodes.{node_cmp}
+use Rattle.plant_trace.specs.{node_cmp}
 use Rattle.plant_keyed.proofs.CachedEdges.{parted_up_to}
 use Rattle.plant_keyed.proofs.edge_cache.count_up_to.Goals as goal
 

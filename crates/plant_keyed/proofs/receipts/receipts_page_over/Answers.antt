@@ -1,6 +1,6 @@
 use Rattle.sqlite.specs.Held.{state}
 use Rattle.sqlite.specs.Values.{bound}
-use Rattle.plant_tables_columns.specs.TableColumns.{receipt_from}
+use Rattle.plant_tables_columns.specs.{receipt_from}
 use Rattle.plant_keyed.proofs.DecodedPages.{paged_by}
 use Rattle.plant_keyed.proofs.receipts.receipts_page_over.Goals as goal
 

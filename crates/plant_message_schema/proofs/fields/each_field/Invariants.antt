@@ -1,6 +1,6 @@
 use Rattle.std.proofs.Common.{◌≡◌, drop, length}
 use Rattle.serde_json.specs.View.{view}
-use Rattle.plant_message_schema.specs.Fields.{fields_of}
+use Rattle.plant_message_schema.specs.{fields_of}
 use Rattle.plant_message_schema.proofs.EachMember.{so_far}
 use Rattle.plant_message_schema.proofs.fields.each_field.Given as goal
 

@@ -1,6 +1,6 @@
 use Rattle.std.proofs.Common.{◌≡◌}
 use Rattle.serde_json.specs.View.{members_view}
-use Rattle.plant_message_schema.specs.Fields.{first_other}
+use Rattle.plant_message_schema.specs.{first_other}
 use Rattle.plant_message_schema.proofs.fields.first_other.Given as goal
 
 abbrev pub invariant-loop-name : goal.invariant-loop-name

@@ -1,6 +1,6 @@
 use Rattle.std.proofs.Common.{◌≡◌, ◌*◌, ◌≤◌, take}
-use Rattle.plant_base.specs.Values.{greatest_amount}
-use Rattle.plant_messages.specs.Booked.{booked_of}
+use Rattle.plant_base.specs.{greatest_amount}
+use Rattle.plant_messages.specs.{booked_of}
 use Rattle.plant_messages.proofs.booked.booked_of.Given as goal
 
 abbrev pub invariant-loop-booking : goal.invariant-loop-booking

@@ -1,15 +1,14 @@
-use Rattle.std.proofs.Common.{◌≡◌, ◌≤◌, ◌<◌, pos, subst, rules, w64}
+use Rattle.std.proofs.Common.{◌≡◌, ◌≤◌, ◌<◌, pos, subst, rules, w64, ◌≤ℤ◌}
 use mir.Val.{SFits}
-use Rattle.std.specs.Int.Signed.{◌≤ℤ◌}
 use Rattle.sqlite.specs.Held.{Held, state}
 use Rattle.sqlite.specs.State.{HasCleanDisk, IsUnchanged, Survives}
 use Rattle.sqlite.proofs.StateLemmas.{survives_then, survives_weaker}
-use Rattle.plant_base.specs.State.{newest_schema}
-use Rattle.plant_view.specs.Tables.{tables_of}
+use Rattle.plant_base.specs.{newest_schema}
+use Rattle.plant_view.specs.{tables_of}
 use Rattle.sql_tables.proofs.TransactionEnds.{IsStore}
-use Rattle.plant_tables_read.specs.Version.{IsVersion}
+use Rattle.plant_tables_read.specs.{IsVersion}
 use Rattle.plant_tables_read.proofs.OneVersion.{one_version}
-use Rattle.plant_migrate.specs.FailureLeaves.{IsRaisedTo}
+use Rattle.plant_migrate.specs.{IsRaisedTo}
 use Rattle.plant_migrate.proofs.NothingWritten.{settled_still, not_raised}
 use Rattle.plant_migrate.proofs.KnownVersion.{version_is, not_below, below, has_known_version, stays_at, handed_on, rises_to, cut_from, raised_reported}
 use Rattle.plant_migrate.proofs.RaisingFaults.{memory_alone}

@@ -2,11 +2,11 @@ use Rattle.std.proofs.Common.{◌≡◌, ◌∙◌, ◌-◌, [], Some, sym, ap, 
 use Rattle.sqlite.specs.Held.{Held, state}
 use Rattle.sqlite.specs.State.{HasCleanDisk, IsUnchanged}
 use Rattle.sqlite.proofs.StateLemmas.{survives_then}
-use Rattle.plant_view.specs.Tables.{tables_of, position_of}
+use Rattle.plant_view.specs.{tables_of, position_of}
 use Rattle.sql_tables.proofs.TransactionEnds.{IsStore}
-use Rattle.plant_tables.specs.DeskCrashStates.{IsAtOf}
-use Rattle.plant_tables_columns.specs.TableColumns.{only_meta}
-use Rattle.plant_migrate.specs.Steps.{IsRaisedBy}
+use Rattle.plant_tables.specs.{IsAtOf}
+use Rattle.plant_tables_columns.specs.{only_meta}
+use Rattle.plant_migrate.specs.{IsRaisedBy}
 use Rattle.plant_migrate.proofs.RaisedBySteps.{none_from}
 use Rattle.plant_migrate.proofs.RaisingEnds.{state_risable, state_ends, state_cut}
 use Rattle.plant_migrate.proofs.NothingWritten.{at_still, settled_still, not_raised}

@@ -2,8 +2,8 @@ use Rattle.std.proofs.Common.{◌≡◌, ◌∙◌, sym, ap, subst}
 use Rattle.sqlite.specs.Held.{state}
 use Rattle.sql_tables.proofs.TransactionEnds.{IsStore}
 use Rattle.sql_tables.proofs.WritesInTurn.{survives_none}
-use Rattle.plant_view.specs.Tables.{tables_of}
-use Rattle.plant_migrate.specs.Raised.{edges_from, AreEdges}
+use Rattle.plant_view.specs.{tables_of}
+use Rattle.plant_migrate.specs.{edges_from, AreEdges}
 use Rattle.plant_migrate.proofs.RaisedBySteps.{edges_from_are, listed_from}
 use Rattle.plant_migrate.proofs.RaisingEnds.{state_risable, position_reported, bookings_reported, state_ends, state_cut}
 use Rattle.plant_migrate.proofs.NothingWritten.{keeps_itself, not_raised}

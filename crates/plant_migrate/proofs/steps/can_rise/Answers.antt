@@ -1,8 +1,6 @@
-use Rattle.std.proofs.Common.{rules, ◌≡◌, ◌∙◌, ◌≤◌, List, ap, sym, subst, length, drop, true, All}
-use Rattle.std.specs.Prelude.{◌↔◌}
-use Rattle.sql_tables.specs.TableDefs.{TableDef}
-use Rattle.sql_tables.specs.StoredRows.{IsFree}
-use Rattle.plant_tables.specs.DeskTableDefs.{later_table_defs}
+use Rattle.std.proofs.Common.{rules, ◌≡◌, ◌∙◌, ◌≤◌, List, ap, sym, subst, length, drop, true, All, ◌↔◌}
+use Rattle.sql_tables.specs.{TableDef, IsFree}
+use Rattle.plant_tables.specs.{later_table_defs}
 use Rattle.plant_migrate.proofs.LaterNamesFree.{names_taken, names_free}
 use Rattle.plant_migrate.proofs.steps.can_rise.Goals as goal
 

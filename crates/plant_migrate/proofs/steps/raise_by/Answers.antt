@@ -3,9 +3,9 @@ use Rattle.sqlite.specs.Held.{state}
 use Rattle.sqlite.specs.State.{HasCleanDisk}
 use Rattle.sqlite.proofs.StateLemmas.{survives_weaker}
 use Rattle.sql_tables.proofs.TransactionEnds.{err_always}
-use Rattle.plant_base.specs.State.{newest_schema}
-use Rattle.plant_tables.specs.DeskCrashStates.{IsAtOf}
-use Rattle.plant_migrate.specs.Raised.{raised_by}
+use Rattle.plant_base.specs.{newest_schema}
+use Rattle.plant_tables.specs.{IsAtOf}
+use Rattle.plant_migrate.specs.{raised_by}
 use Rattle.plant_migrate.proofs.OneStep.{goes_on, cut_within, could_first, weaker, survives_step}
 use Rattle.plant_migrate.proofs.steps.raise_by.Goals as goal
 

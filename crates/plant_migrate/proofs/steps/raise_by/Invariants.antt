@@ -2,10 +2,9 @@ use Rattle.std.proofs.Common.{◌≡◌, ◌<◌, false}
 use Rattle.sqlite.specs.Held.{state}
 use Rattle.sqlite.specs.State.{HasCleanDisk, Survives}
 use Rattle.plant_view.specs.Tables.{Tables}
-use Rattle.sql_tables.specs.StoredRows.{AreFree}
-use Rattle.sql_tables.specs.CrashStates.{IsSettled}
-use Rattle.plant_tables.specs.DeskTableDefs.{later_table_defs}
-use Rattle.plant_migrate.specs.Steps.{IsRisable, IsRaisedBy}
+use Rattle.sql_tables.specs.{AreFree, IsSettled}
+use Rattle.plant_tables.specs.{later_table_defs}
+use Rattle.plant_migrate.specs.{IsRisable, IsRaisedBy}
 use Rattle.plant_migrate.proofs.OneStep.{IsReached}
 use Rattle.plant_migrate.proofs.steps.raise_by.Given as goal
 

@@ -5,11 +5,9 @@ use Rattle.sqlite.specs.State.{Survives}
 use Rattle.sqlite.proofs.StateLemmas.{survives_weaker}
 use Rattle.sql_tables.proofs.TransactionEnds.{IsStore}
 use Rattle.sql_tables.proofs.WritesInTurn.{survives_none}
-use Rattle.sql_tables.specs.StoredRows.{AreFree, KeepsOtherTables}
-use Rattle.plant_tables.specs.DeskTableDefs.{desk_table_defs, later_table_defs}
-use Rattle.plant_tables.specs.DeskCrashStates.{IsAtOf, FailureLeavesOf}
-use Rattle.plant_tables.specs.Schemas.{RaisesTables}
-use Rattle.plant_migrate.specs.Raised.{raised_once}
+use Rattle.sql_tables.specs.{AreFree, KeepsOtherTables}
+use Rattle.plant_tables.specs.{desk_table_defs, later_table_defs, IsAtOf, FailureLeavesOf, RaisesTables}
+use Rattle.plant_migrate.specs.{raised_once}
 use Rattle.plant_migrate.proofs.NothingWritten.{keeps_itself, not_begun}
 use Rattle.plant_migrate.proofs.RaisedBySteps.{once_led}
 use Rattle.plant_migrate.proofs.steps.raise_one.Goals as goal

@@ -1,9 +1,7 @@
-use Rattle.std.proofs.Common.{◌≡◌, ◌++◌, suc, ◌+◌, true, false, Ok, Err, IfOk, refl, sym, subst, ap, ◌∙◌, arith, rules, [], ◌∷◌}
-use Rattle.std.proofs.lemmas.List.{append-nil}
+use Rattle.std.proofs.Common.{◌≡◌, ◌++◌, suc, ◌+◌, true, false, Ok, Err, IfOk, refl, sym, subst, ap, ◌∙◌, arith, rules, [], ◌∷◌, append-nil}
 use Rattle.csv.specs.Records.{fields_of}
 use Rattle.csv.specs.Reading.{default_config, records_from}
-use Rattle.plant_orders.specs.EveryFault.{whole_fault, faults_from, orders_from, faults_in, orders_in, faults_of, numbered_orders_of}
-use Rattle.plant_orders.specs.Orders.{is_header}
+use Rattle.plant_orders.specs.{whole_fault, faults_from, orders_from, faults_in, orders_in, faults_of, numbered_orders_of, is_header}
 use Rattle.plant_orders.specs.declared.fault.CsvKind.TheVariants as kind
 use Rattle.plant_orders.proofs.RowsFollowRecords.{next_found, next_gone, records-none, records-some, one_less}
 use Rattle.plant_orders.proofs.RowsExamined.{short_faults, short_orders, good_header_faults, good_header_orders, bad_header_faults, bad_header_orders, over_faults, over_orders, faults_added, orders_added}

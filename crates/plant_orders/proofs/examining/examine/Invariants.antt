@@ -1,8 +1,7 @@
 use Rattle.std.proofs.Common.{◌≡◌, ℕ, suc, ◌+◌, ◌++◌, List}
 use Rattle.csv.specs.Reading.{default_config, records_from}
 use Rattle.csv.specs.declared.parser.State.{State}
-use Rattle.plant_orders.specs.EveryFault.{faults_of, numbered_orders_of, faults_from, orders_from}
-use Rattle.plant_orders.specs.ReaderPosition.{ReaderIsAt}
+use Rattle.plant_orders.specs.{faults_of, numbered_orders_of, faults_from, orders_from, ReaderIsAt}
 use Rattle.plant_orders.proofs.examining.examine.Given as goal
 
 abbrev pub invariant-loop-n : goal.invariant-loop-n

@@ -1,7 +1,6 @@
-use Rattle.std.proofs.Common.{◌∙◌, ap}
-use Rattle.std.proofs.lemmas.List.{take_all}
+use Rattle.std.proofs.Common.{◌∙◌, ap, take_all}
 use Rattle.csv.specs.Records.{fields_of}
-use Rattle.plant_orders.specs.EveryFault.{field_faults}
+use Rattle.plant_orders.specs.{field_faults}
 use Rattle.plant_orders.proofs.FaultsOfFields.{field_faults_added}
 use Rattle.plant_orders.proofs.examining.field_faults.Goals as goal
 

@@ -1,6 +1,6 @@
 use Rattle.std.proofs.Common.{◌≡◌, take}
 use Rattle.csv.specs.Records.{fields_of}
-use Rattle.plant_orders.specs.EveryFault.{field_faults}
+use Rattle.plant_orders.specs.{field_faults}
 use Rattle.plant_orders.proofs.examining.field_faults.Given as goal
 
 -- the faults of the fields so far

@@ -1,8 +1,7 @@
-use Rattle.std.proofs.Common.{◌≡◌, suc, ◌+◌, [], ◌∷◌, ◌++◌, true, false, Ok, Err, refl, sym, ap, ◌∙◌, arith, rules}
-use Rattle.std.specs.Result.{is_ok}
+use Rattle.std.proofs.Common.{◌≡◌, suc, ◌+◌, [], ◌∷◌, ◌++◌, true, false, Ok, Err, refl, sym, ap, ◌∙◌, arith, rules, is_ok}
 use Rattle.csv.specs.Records.{fields_of}
 use Rattle.csv.specs.Reading.{default_config, records_from}
-use Rattle.plant_orders.specs.Orders.{fault, rows_of, file_of, is_header, order_of}
+use Rattle.plant_orders.specs.{fault, rows_of, file_of, is_header, order_of}
 use Rattle.plant_orders.proofs.RowsFollowRecords.{with_prefix, next_found, next_gone, records-none, records-some, prefix-nil, prefix-more, rows-ok, rows-err, rows-over, one_less, fails_as, not_memory, short_text, past_header, bad_header, no_prefix, gives_memory}
 use Rattle.plant_orders.proofs.read.read_orders.Goals as goal
 

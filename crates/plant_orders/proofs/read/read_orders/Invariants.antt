@@ -1,8 +1,7 @@
 use Rattle.std.proofs.Common.{◌≡◌, ℕ, suc, ◌+◌, List}
 use Rattle.csv.specs.Reading.{default_config, records_from}
 use Rattle.csv.specs.declared.parser.State.{State}
-use Rattle.plant_orders.specs.Orders.{orders_of, rows_of}
-use Rattle.plant_orders.specs.ReaderPosition.{ReaderIsAt}
+use Rattle.plant_orders.specs.{orders_of, rows_of, ReaderIsAt}
 use Rattle.plant_orders.proofs.RowsFollowRecords.{with_prefix}
 use Rattle.plant_orders.proofs.read.read_orders.Given as goal
 

@@ -1,5 +1,5 @@
 use Rattle.std.proofs.Common.{sym, ◌∙◌, ◌≡◌, Ok, Err}
-use Rattle.plant_orders.specs.FaultsOfFiles.{read_count}
+use Rattle.plant_orders.specs.{read_count}
 use Rattle.plant_orders.proofs.PrefixesDecide.{read_into_nothing, was_read}
 use Rattle.plant_orders.proofs.RowsExamined.{examined_of_prefix, told_of_reading}
 use Rattle.plant_orders.proofs.source.examine_from.Goals as goal

@@ -1,6 +1,6 @@
 use Rattle.std.proofs.Common.{◌≡◌, false, take, map}
 use Rattle.std.specs.List.{list_any}
-use Rattle.plant_recipe.specs.Control.{line_scaled, scales_to_nothing}
+use Rattle.plant_recipe.specs.{line_scaled, scales_to_nothing}
 use Rattle.plant_recipe.proofs.control_recipe.scale_lines.Given as goal
 
 abbrev pub invariant-loop-line : goal.invariant-loop-line

@@ -1,5 +1,5 @@
 use Rattle.std.proofs.Common.{◌≡◌, drop}
-use Rattle.plant_recipe.specs.WellFormed.{has_no_repeats}
+use Rattle.plant_recipe.specs.{has_no_repeats}
 use Rattle.plant_recipe.proofs.well_formed.repeats_nothing.Given as goal
 
 -- the lines so far repeat nothing

@@ -1,6 +1,6 @@
 use Rattle.sqlite.specs.Held.{state}
-use Rattle.plant_base.specs.State.{newest_schema}
-use Rattle.plant_tables.specs.DeskCrashStates.{opening_tables, MakesDesk}
+use Rattle.plant_base.specs.{newest_schema}
+use Rattle.plant_tables.specs.{opening_tables, MakesDesk}
 use Rattle.plant_tables.proofs.WritingEnds.{ended_at}
 use Rattle.plant_tables.proofs.OpeningTables.{unopened_at}
 use Rattle.plant_tables.proofs.commit.commit_opening.Goals as goal

@@ -1,8 +1,7 @@
 use Rattle.std.proofs.Common.{rules, refl, sym, subst, OnOk, ◌≡◌}
 use Rattle.sqlite.specs.Held.{state}
-use Rattle.plant_tables.specs.DeskTableDefs.{table_defs_of}
-use Rattle.plant_tables.specs.DeskIndexes.{added_indexes}
-use Rattle.sql_tables.specs.Indexes.{AddsIndexes}
+use Rattle.plant_tables.specs.{table_defs_of, added_indexes}
+use Rattle.sql_tables.specs.{AddsIndexes}
 use Rattle.plant_tables.proofs.StatementsOnDesk.{indexed_so, indexed_later}
 use Rattle.plant_tables.proofs.raising.index_added.Goals as goal
 

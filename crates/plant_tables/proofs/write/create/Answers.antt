@@ -2,11 +2,10 @@ use Rattle.std.proofs.Common.{arith, refl, []}
 use Rattle.std.proofs.lemmas.Result.{on_ok_weaker}
 use Rattle.sqlite.specs.Held.{state}
 use Rattle.sqlite.specs.State.{HasCleanDisk}
-use Rattle.sql_tables.specs.Moves.{Founds}
+use Rattle.sql_tables.specs.{Founds}
 use Rattle.sql_tables.proofs.IndexesInTurn.{founds_then}
 use Rattle.sql_tables.proofs.WritesInTurn.{kept_then}
-use Rattle.plant_tables.specs.DeskTableDefs.{table_defs_of}
-use Rattle.plant_tables.specs.DeskIndexes.{indexes_of}
+use Rattle.plant_tables.specs.{table_defs_of, indexes_of}
 use Rattle.plant_tables.proofs.StatementsOnDesk.{founded_so}
 use Rattle.plant_tables.proofs.write.create.Given.{Over}
 use Rattle.plant_tables.proofs.write.create.Goals.{After-create_indexes}

@@ -1,6 +1,5 @@
 use Rattle.std.proofs.Common.{refl}
-use Rattle.plant_tables.specs.DeskTableDefs.{sublot_table}
-use Rattle.plant_tables.specs.DeskTables.{rows_changed}
+use Rattle.plant_tables.specs.{sublot_table, rows_changed}
 use Rattle.plant_tables.proofs.StatementsOnDesk.{put_moved}
 use Rattle.plant_tables.proofs.DeskStatements.{puts_either}
 use Rattle.plant_tables.proofs.write.write_among.Goals as goal

@@ -1,14 +1,12 @@
-use Rattle.std.proofs.lemmas.List.{take_more, take_all}
-use Rattle.std.proofs.Common.{◌+◌, ◌≡◌, ◌∷◌, [], ◌++◌, take, sym, ap, subst, ◌∙◌, arith, rules}
+use Rattle.std.proofs.Common.{take_all, ◌+◌, ◌≡◌, ◌∷◌, [], ◌++◌, take, sym, ap, subst, ◌∙◌, arith, rules}
+use Rattle.std.proofs.lemmas.List.{take_more}
 use Rattle.sqlite.specs.Held.{state}
 use Rattle.sqlite.specs.State.{HasCleanDisk}
 use Rattle.sql_tables.specs.Moves.{Moves}
-use Rattle.sql_tables.specs.StoredRows.{Contents}
+use Rattle.sql_tables.specs.{Contents}
 use Rattle.sql_tables.proofs.WritesInTurn.{survives_on, kept_then, moves_then, moves_as}
 use Rattle.std.proofs.lemmas.List.Elements.{All-from_recursion}
-use Rattle.plant_tables.specs.DeskTableDefs.{table_defs_of}
-use Rattle.plant_tables.specs.DeskTables.{rows_changed, all_rows_changed}
-use Rattle.plant_tables.specs.Keyed.{IsOfSchema, MovesTablesOf}
+use Rattle.plant_tables.specs.{table_defs_of, rows_changed, all_rows_changed, IsOfSchema, MovesTablesOf}
 use Rattle.plant_tables.proofs.WritingEnds.{tables_moved}
 use Rattle.plant_tables.proofs.StatementsOnDesk.{one_more_change}
 use Rattle.plant_tables.proofs.write.write_changes.Goals as goal

@@ -2,9 +2,7 @@ use Rattle.std.proofs.Common.{◌≡◌, ℕ, take}
 use Rattle.sqlite.specs.State.{HasCleanDisk, Survives, KeepsCommit}
 use Rattle.sqlite.specs.Held.{state}
 use Rattle.sql_tables.specs.Moves.{Moves}
-use Rattle.plant_tables.specs.DeskTableDefs.{table_defs_of}
-use Rattle.plant_tables.specs.DeskTables.{all_rows_changed}
-use Rattle.plant_tables.specs.Keyed.{AreOfSchema}
+use Rattle.plant_tables.specs.{table_defs_of, all_rows_changed, AreOfSchema}
 use Rattle.plant_tables.proofs.write.write_changes.Given as goal
 
 abbrev pub invariant-loop-change : goal.invariant-loop-change

@@ -1,5 +1,5 @@
 use Rattle.std.proofs.Common.{◌≡◌, drop}
-use Rattle.plant_tables_columns.specs.DecodedRows.{all_from}
+use Rattle.plant_tables_columns.specs.{all_from}
 use Rattle.plant_tables_columns.proofs.DecodedLists.{reads_on}
 use Rattle.plant_tables_columns.proofs.decoded.decode_all.Given as goal
 

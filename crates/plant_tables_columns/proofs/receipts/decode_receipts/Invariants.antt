@@ -1,6 +1,5 @@
 use Rattle.std.proofs.Common.{◌≡◌, drop}
-use Rattle.plant_tables_columns.specs.DecodedRows.{all_from}
-use Rattle.plant_tables_columns.specs.TableColumns.{receipt_from}
+use Rattle.plant_tables_columns.specs.{all_from, receipt_from}
 use Rattle.plant_tables_columns.proofs.DecodedLists.{reads_on}
 use Rattle.plant_tables_columns.proofs.receipts.decode_receipts.Given as goal
 

@@ -1,8 +1,7 @@
 use Rattle.std.proofs.Common.{◌≡◌, ◌∙◌, Some, rules}
 use Rattle.std.proofs.lemmas.Result.{IfOk-weaker}
-use Rattle.plant_tables_columns.specs.DecodedRows.{all_from}
-use Rattle.plant_tables_columns.specs.TableColumns.{booked_from}
-use Rattle.plant_tables_read.specs.Loading.{contents_loaded}
+use Rattle.plant_tables_columns.specs.{all_from, booked_from}
+use Rattle.plant_tables_read.specs.{contents_loaded}
 use Rattle.plant_tables_read.proofs.MovementsFirst.{beside_others, with_movements}
 use Rattle.plant_tables_read.proofs.desk_rows.take_rows.Goals as goal
 

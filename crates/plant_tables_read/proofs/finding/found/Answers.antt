@@ -3,9 +3,9 @@ use Rattle.std.proofs.lemmas.Int.{to_z-of_z}
 use mir.Val.{SFits}
 use Rattle.sqlite.specs.Does.{lacks_sequence}
 use Rattle.sqlite.specs.Held.{state}
-use Rattle.sql_tables.specs.StoredRows.{IsFree}
-use Rattle.plant_tables.specs.DeskTableDefs.{desk_table_defs}
-use Rattle.plant_tables_read.specs.Version.{IsVersion}
+use Rattle.sql_tables.specs.{IsFree}
+use Rattle.plant_tables.specs.{desk_table_defs}
+use Rattle.plant_tables_read.specs.{IsVersion}
 use Rattle.plant_tables_read.specs.declared.finding.FoundTables.TheVariants as answer
 use Rattle.plant_tables_read.proofs.OneVersion.{are_free, each_free, not_free, one_version, free_reports_nothing}
 use Rattle.plant_tables_read.proofs.finding.found.Goals as goal

@@ -1,8 +1,8 @@
 use Rattle.std.proofs.Common.{◌∙◌, subst, sym}
 use Rattle.std.proofs.lemmas.Option.{IfSome_then}
 use Rattle.sqlite.specs.Held.{state}
-use Rattle.sql_queries.specs.Reading.{Lists}
-use Rattle.plant_tables.specs.DeskTableDefs.{meta_table}
+use Rattle.sql_queries.specs.{Lists}
+use Rattle.plant_tables.specs.{meta_table}
 use Rattle.plant_tables_read.proofs.TextsSelectAll.{meta_selected}
 use Rattle.plant_tables_read.proofs.OneVersion.{no_version}
 use Rattle.plant_tables_read.proofs.finding.version.Goals as goal

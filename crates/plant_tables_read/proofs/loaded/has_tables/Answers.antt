@@ -1,5 +1,5 @@
 use Rattle.std.proofs.Common.{rules, ◌≡◌, ◌≤◌, List, sym, subst, length, true, false}
-use Rattle.sql_tables.specs.TableDefs.{TableDef}
+use Rattle.sql_tables.specs.{TableDef}
 use Rattle.plant_tables_read.proofs.SchemaParts.{had_rows, lacked}
 use Rattle.plant_tables_read.proofs.loaded.has_tables.Goals as goal
 

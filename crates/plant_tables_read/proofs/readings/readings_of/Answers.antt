@@ -2,9 +2,9 @@ use Rattle.std.proofs.Common.{◌≡◌, ◌∙◌, ◌≤◌, List, ap, sym, le
 use Rattle.std.specs.List.{AllByRecursion}
 use Rattle.std.proofs.ByRecursion.{All-take}
 use Rattle.std.proofs.lemmas.List.{length-map, take-map}
-use Rattle.sql_tables.specs.TableDefs.{TableDef}
+use Rattle.sql_tables.specs.{TableDef}
 use Rattle.plant_tables_read.specs.declared.readings.Reading.{Reading}
-use Rattle.plant_tables_read.specs.Readings.{SelectsAll}
+use Rattle.plant_tables_read.specs.{SelectsAll}
 use Rattle.plant_tables_read.proofs.readings.readings_of.Goals as goal
 
 pub split_at-requires : goal.split_at-requires

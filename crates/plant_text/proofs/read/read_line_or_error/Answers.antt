@@ -1,5 +1,5 @@
 use Rattle.std.proofs.Common.{◌≤◌, length, arith}
-use Rattle.plant_text.specs.Lines.{longest_line}
+use Rattle.plant_text.specs.{longest_line}
 use Rattle.plant_text.proofs.LineSays.{at_value, at_refusal, says_long}
 use Rattle.plant_text.proofs.read.read_line_or_error.Goals as goal
 

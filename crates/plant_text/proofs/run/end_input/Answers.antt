@@ -1,5 +1,5 @@
 use Rattle.std.proofs.Common.{[]}
-use Rattle.plant_text.specs.Session.{entry_of}
+use Rattle.plant_text.specs.{entry_of}
 use Rattle.plant_text.proofs.TurnsInSequence.{turn_stops}
 use Rattle.plant_text.proofs.RunEnds.{last_stopped}
 use Rattle.plant_text.proofs.run.end_input.Goals as goal

@@ -1,8 +1,7 @@
-use Rattle.std.proofs.Common.{◌≡◌, ◌<◌, [], ◌++◌, length, length-append, false, sym, ap, ◌∙◌, refl, arith}
-use Rattle.std.proofs.lemmas.List.{append-nil}
+use Rattle.std.proofs.Common.{◌≡◌, ◌<◌, [], ◌++◌, length, length-append, false, sym, ap, ◌∙◌, refl, arith, append-nil}
 use Rattle.std.proofs.lemmas.Bool.Decides.{nat_tests}
 use Rattle.plant_text.proofs.KnownBytes.{Consumes-nil, Consumes-append, Consumes-keeps, Consumes-none}
-use Rattle.plant_text.specs.Session.{entry_of}
+use Rattle.plant_text.specs.{entry_of}
 use Rattle.plant_text.proofs.HeldLine.{held_more, held_after_none, each_none}
 use Rattle.plant_desk.proofs.SameDesk.{same_itself, same_after}
 use Rattle.plant_text.proofs.TurnsInSequence.{reported_same, piece_reported, piece_stops}

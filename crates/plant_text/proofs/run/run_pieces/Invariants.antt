@@ -1,9 +1,8 @@
 use Rattle.std.proofs.Common.{◌≡◌, ℕ, ◌≤◌, List, [], length, false}
 use Rattle.std.specs.Io.KnownBytes.{Consumes}
-use Rattle.plant_base.specs.State.{State}
-use Rattle.plant_desk.specs.Keepers.{IsSameDesk}
-use Rattle.plant_text.specs.Session.{AreAnswered}
-use Rattle.plant_text.specs.HeldLines.{held_after, entries_after}
+use Rattle.plant_base.specs.{State}
+use Rattle.plant_desk.specs.{IsSameDesk}
+use Rattle.plant_text.specs.{AreAnswered, held_after, entries_after}
 use Rattle.plant_text.proofs.run.run_pieces.Given as goal
 
 abbrev pub invariant-reads : goal.invariant-reads

@@ -1,7 +1,7 @@
 use Rattle.std.proofs.Common.{◌≡◌, true, false, nat_eq, sym, ◌∙◌, arith}
 use Rattle.std.proofs.lemmas.Bool.Decides.{nat_tests}
 use Rattle.std.proofs.lemmas.Result.{on_ok_weaker}
-use Rattle.plant_text.specs.Session.{entry_of}
+use Rattle.plant_text.specs.{entry_of}
 use Rattle.plant_text.proofs.HeldLine.{held_after_lf, held_after_byte, each_lf, each_byte}
 use Rattle.plant_text.proofs.TurnsInSequence.{reported_same, memory_stops_at}
 use Rattle.plant_text.proofs.run.take_byte.Goals as goal

@@ -1,8 +1,7 @@
 use Rattle.std.proofs.Common.{◌≡◌, false, take}
-use Rattle.plant_base.specs.State.{State}
-use Rattle.plant_desk.specs.Keepers.{IsSameDesk}
-use Rattle.plant_text.specs.Session.{AreAnswered}
-use Rattle.plant_text.specs.HeldLines.{held_after, entries_after}
+use Rattle.plant_base.specs.{State}
+use Rattle.plant_desk.specs.{IsSameDesk}
+use Rattle.plant_text.specs.{AreAnswered, held_after, entries_after}
 use Rattle.plant_text.proofs.run.take_piece.Given as goal
 
 abbrev pub invariant-loop-b : goal.invariant-loop-b

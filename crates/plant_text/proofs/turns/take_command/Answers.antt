@@ -1,7 +1,6 @@
 use Rattle.std.proofs.Common.{ap, ◌∙◌}
-use Rattle.plant_text.specs.Session.{command}
-use Rattle.plant_text.specs.Writes.{with_lf}
-use Rattle.plant_text_answers.specs.Replies.{reply_text}
+use Rattle.plant_text.specs.{command, with_lf}
+use Rattle.plant_text_answers.specs.{reply_text}
 use Rattle.plant_text.proofs.TurnEnds.{stops_by_fault, stops_by_write_error, command_faults}
 use Rattle.plant_text.proofs.turns.take_command.Goals as goal
 

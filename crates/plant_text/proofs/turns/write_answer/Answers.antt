@@ -1,4 +1,4 @@
-use Rattle.plant_text_answers.specs.Answers.{text_of_answer}
+use Rattle.plant_text_answers.specs.{text_of_answer}
 use Rattle.plant_text.proofs.turns.write_answer.Goals as goal
 
 pub returns-in-Ok-clause-answered : goal.returns-in-Ok-clause-answered

@@ -1,4 +1,4 @@
-use Rattle.plant_text_checks.specs.Answers.{check_text}
+use Rattle.plant_text_checks.specs.{check_text}
 use Rattle.plant_text.proofs.turns.write_check.Goals as goal
 
 pub returns-in-Ok-clause-answered : goal.returns-in-Ok-clause-answered

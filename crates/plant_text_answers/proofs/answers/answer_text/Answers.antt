@@ -1,7 +1,5 @@
 use Rattle.std.proofs.Common.{string_bytes, ◌∙◌, ap}
-use Rattle.plant_text_answers.specs.Answers.{text_of_answer}
-use Rattle.plant_text_answers.specs.LotAnswers.{stands_data}
-use Rattle.plant_text_answers.specs.TraceAnswers.{trace_data}
+use Rattle.plant_text_answers.specs.{text_of_answer, stands_data, trace_data}
 use Rattle.plant_text_answers.proofs.AnswersHaveNoFloats.{text_is, no_float_in_lot, no_float_in_batch, no_float_in_trace, no_float_in_stands, no_float_in_genealogy, no_float_in_recall, no_float_in_listed, no_float_in_recipe, no_float_in_batch_lines}
 use Rattle.plant_text_answers.proofs.answers.answer_text.Goals as goal
 

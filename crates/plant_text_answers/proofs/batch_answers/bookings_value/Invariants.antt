@@ -1,6 +1,6 @@
 use Rattle.std.proofs.Common.{◌≡◌, map, take}
 use Rattle.serde_json.specs.View.{view}
-use Rattle.plant_text_answers.specs.BatchAnswers.{booking_data}
+use Rattle.plant_text_answers.specs.{booking_data}
 use Rattle.plant_text_answers.proofs.batch_answers.bookings_value.Given as goal
 
 abbrev pub invariant-loop-booking : goal.invariant-loop-booking

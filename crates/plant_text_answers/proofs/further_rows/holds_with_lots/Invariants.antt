@@ -1,6 +1,6 @@
 use Rattle.std.proofs.Common.{◌≡◌, map, take}
 use Rattle.serde_json.specs.View.{view}
-use Rattle.plant_text_answers.specs.ListAnswers.{all_holds_item}
+use Rattle.plant_text_answers.specs.{all_holds_item}
 use Rattle.plant_text_answers.proofs.further_rows.holds_with_lots.Given as goal
 
 abbrev pub invariant-loop-hold : goal.invariant-loop-hold

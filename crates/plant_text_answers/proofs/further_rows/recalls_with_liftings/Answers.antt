@@ -1,9 +1,8 @@
-use Rattle.std.proofs.Common.{map, ap, ◌∙◌}
-use Rattle.std.proofs.lemmas.List.{take_all}
+use Rattle.std.proofs.Common.{map, ap, ◌∙◌, take_all}
 use Rattle.serde_json.specs.Data.{array}
 use Rattle.serde_json.specs.View.{items_of}
 use Rattle.serde_json.proofs.Views.{view-Array}
-use Rattle.plant_text_answers.specs.ListAnswers.{lifted_item}
+use Rattle.plant_text_answers.specs.{lifted_item}
 use Rattle.plant_text_answers.proofs.further_rows.recalls_with_liftings.Goals as goal
 
 pub returns : goal.returns

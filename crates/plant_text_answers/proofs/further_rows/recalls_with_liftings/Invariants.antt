@@ -1,6 +1,6 @@
 use Rattle.std.proofs.Common.{◌≡◌, map, take}
 use Rattle.serde_json.specs.View.{view}
-use Rattle.plant_text_answers.specs.ListAnswers.{lifted_item}
+use Rattle.plant_text_answers.specs.{lifted_item}
 use Rattle.plant_text_answers.proofs.further_rows.recalls_with_liftings.Given as goal
 
 abbrev pub invariant-loop-recall : goal.invariant-loop-recall

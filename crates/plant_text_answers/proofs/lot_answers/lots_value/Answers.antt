@@ -1,9 +1,8 @@
-use Rattle.std.proofs.Common.{map, ap, ◌∙◌}
-use Rattle.std.proofs.lemmas.List.{take_all}
+use Rattle.std.proofs.Common.{map, ap, ◌∙◌, take_all}
 use Rattle.serde_json.specs.Data.{array}
 use Rattle.serde_json.specs.View.{items_of}
 use Rattle.serde_json.proofs.Views.{view-Array}
-use Rattle.plant_text_answers.specs.LotAnswers.{standing_data}
+use Rattle.plant_text_answers.specs.{standing_data}
 use Rattle.plant_text_answers.proofs.lot_answers.lots_value.Goals as goal
 
 pub returns : goal.returns

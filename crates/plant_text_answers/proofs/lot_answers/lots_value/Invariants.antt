@@ -1,6 +1,6 @@
 use Rattle.std.proofs.Common.{◌≡◌, map, take}
 use Rattle.serde_json.specs.View.{view}
-use Rattle.plant_text_answers.specs.LotAnswers.{standing_data}
+use Rattle.plant_text_answers.specs.{standing_data}
 use Rattle.plant_text_answers.proofs.lot_answers.lots_value.Given as goal
 
 abbrev pub invariant-loop-lot : goal.invariant-loop-lot

@@ -1,7 +1,7 @@
 use Rattle.std.proofs.Common.{◌≡◌, ◌+◌, drop}
 use Rattle.serde_json.specs.View.{items_view}
 use Rattle.plant_message_schema.proofs.EachMember.{so_far}
-use Rattle.plant_text_commands.specs.Lists.{items_from}
+use Rattle.plant_text_commands.specs.{items_from}
 use Rattle.plant_text_commands.proofs.lists.items_of.Given as goal
 
 abbrev pub invariant-loop-value : goal.invariant-loop-value

@@ -1,4 +1,4 @@
-use Rattle.plant_trace.specs.Ranks.{rank_of}
+use Rattle.plant_trace.specs.{rank_of}
 use Rattle.plant_trace.proofs.RankedIsAcyclic.{ranked_acyclic}
 use Rattle.plant_trace.proofs.cycles.acyclic.Goals as goal
 

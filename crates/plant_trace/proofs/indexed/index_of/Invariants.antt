@@ -1,5 +1,5 @@
 use Rattle.std.proofs.Common.{take}
-use Rattle.plant_trace.specs.Index.{Indexes}
+use Rattle.plant_trace.specs.{Indexes}
 use Rattle.plant_trace.proofs.indexed.index_of.Given as goal
 
 abbrev pub invariant-loop-pair : goal.invariant-loop-pair

@@ -1,6 +1,4 @@
-use Rattle.std.proofs.Common.{◌∙◌, ap, Option}
-use Rattle.std.specs.Prelude.{unwrap_or}
-use Rattle.std.specs.BTreeSet.{BTreeSet}
+use Rattle.std.proofs.Common.{◌∙◌, ap, Option, unwrap_or, BTreeSet}
 use Rattle.plant_trace.specs.declared.node.Node.{Node}
 use Rattle.plant_trace.proofs.IndexOfPairs.{linked}
 use Rattle.plant_trace.proofs.indexed.link.Goals as goal

@@ -1,8 +1,6 @@
-use Rattle.std.proofs.Common.{sym, subst}
-use Rattle.std.specs.Prelude.{IsTrue}
+use Rattle.std.proofs.Common.{sym, subst, IsTrue}
 use Rattle.std.proofs.lemmas.Result.{IfOk-weaker}
-use Rattle.plant_trace.specs.Index.{index_has}
-use Rattle.plant_trace.specs.Reach.{Lists}
+use Rattle.plant_trace.specs.{index_has, Lists}
 use Rattle.plant_trace.proofs.IndexOfPairs.{listed_some, listed_none}
 use Rattle.plant_trace.proofs.indexed.list_at.Goals as goal
 

@@ -1,5 +1,5 @@
 use Rattle.std.proofs.Common.{take}
-use Rattle.plant_trace.specs.Reach.{IsNext}
+use Rattle.plant_trace.specs.{IsNext}
 use Rattle.plant_trace.proofs.NodeSets.{HasExactly}
 use Rattle.plant_trace.proofs.listed.neighbours.Given as goal
 

@@ -1,6 +1,5 @@
 use Rattle.std.proofs.Common.{take}
-use Rattle.plant_trace.specs.Mentions.{mention_rank}
-use Rattle.plant_trace.specs.Ranks.{Rises}
+use Rattle.plant_trace.specs.{mention_rank, Rises}
 use Rattle.plant_trace.proofs.mention_order.rises.Given as goal
 
 abbrev pub invariant-loop-pair : goal.invariant-loop-pair

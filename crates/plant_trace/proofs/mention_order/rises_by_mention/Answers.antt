@@ -1,4 +1,4 @@
-use Rattle.plant_trace.specs.Mentions.{mention_rank}
+use Rattle.plant_trace.specs.{mention_rank}
 use Rattle.plant_trace.proofs.RankedIsAcyclic.{ranked_acyclic}
 use Rattle.plant_trace.proofs.mention_order.rises_by_mention.Goals as goal
 

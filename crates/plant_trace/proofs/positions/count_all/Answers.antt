@@ -1,6 +1,6 @@
-use Rattle.std.proofs.Common.{◌≡◌, ◌∙◌, ◌+◌, [], ◌∷◌, ◌++◌, List, Contains, take, ap, refl, subst, sym}
-use Rattle.std.proofs.lemmas.List.{take_all, take_more}
-use Rattle.plant_trace.specs.Waiting.{AreSoMany, AreWaiting, Awaits}
+use Rattle.std.proofs.Common.{◌≡◌, ◌∙◌, ◌+◌, [], ◌∷◌, ◌++◌, List, Contains, take, ap, refl, subst, sym, take_all}
+use Rattle.std.proofs.lemmas.List.{take_more}
+use Rattle.plant_trace.specs.{AreSoMany, AreWaiting, Awaits}
 use Rattle.plant_trace.specs.declared.node.Node.{Node}
 use Rattle.plant_trace.proofs.DistinctNodes.{not_before}
 use Rattle.plant_trace.proofs.NodesWaiting.{counted_node, waiting_none}

@@ -1,6 +1,6 @@
 use Rattle.std.proofs.Common.{◌≡◌, [], take, Contains}
 use Rattle.std.specs.BTreeMap.{IsEmpty}
-use Rattle.plant_trace.specs.Waiting.{AreDistinct, AreWaiting, Awaits}
+use Rattle.plant_trace.specs.{AreDistinct, AreWaiting, Awaits}
 use Rattle.plant_trace.proofs.positions.count_all.Given as goal
 
 abbrev pub invariant-loop-node : goal.invariant-loop-node

@@ -1,6 +1,5 @@
 use Rattle.std.proofs.Common.{[], arith}
-use Rattle.plant_trace.specs.Reach.{IsNext}
-use Rattle.plant_trace.specs.Waiting.{Awaits}
+use Rattle.plant_trace.specs.{IsNext, Awaits}
 use Rattle.plant_trace.specs.declared.direction.Direction.TheVariants.{Back}
 use Rattle.plant_trace.proofs.DistinctNodes.{so_many_listed, so_many_same}
 use Rattle.plant_trace.proofs.NodeSets.{none_in}

@@ -1,8 +1,7 @@
-use Rattle.std.proofs.Common.{◌≡◌, ◌∙◌, ◌-◌, arith, subst}
-use Rattle.std.specs.Prelude.{None, Some}
+use Rattle.std.proofs.Common.{◌≡◌, ◌∙◌, ◌-◌, arith, subst, None, Some}
 use Rattle.std.proofs.lemmas.Option.{same_Some}
 use Rattle.std.proofs.lemmas.Result.{on_ok_weaker}
-use Rattle.plant_trace.specs.Waiting.{HasCount}
+use Rattle.plant_trace.specs.{HasCount}
 use Rattle.plant_trace.proofs.NodesWaiting.{count_kept, count_put, count_then}
 use Rattle.plant_trace.proofs.positions.count_down.Goals as goal
 

@@ -1,7 +1,5 @@
-use Rattle.std.proofs.Common.{sym, subst}
-use Rattle.std.proofs.lemmas.List.{take_all}
-use Rattle.plant_trace.specs.Reach.{Lists}
-use Rattle.plant_trace.specs.Waiting.{IsMentioned}
+use Rattle.std.proofs.Common.{sym, subst, take_all}
+use Rattle.plant_trace.specs.{Lists, IsMentioned}
 use Rattle.plant_trace.proofs.EndsOfPairs.{ends_more, ends_none}
 use Rattle.plant_trace.proofs.positions.nodes_of.Goals as goal
 

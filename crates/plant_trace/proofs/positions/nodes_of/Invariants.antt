@@ -1,5 +1,5 @@
 use Rattle.std.proofs.Common.{take}
-use Rattle.plant_trace.specs.Waiting.{IsMentioned}
+use Rattle.plant_trace.specs.{IsMentioned}
 use Rattle.plant_trace.proofs.NodeSets.{HasExactly}
 use Rattle.plant_trace.proofs.positions.nodes_of.Given as goal
 

@@ -1,10 +1,6 @@
-use Rattle.std.proofs.Common.{◌≡◌, ◌<◌, ◌≤◌, ◌∙◌, ◌+◌, [], ◌∷◌, ◌++◌, List, Contains, length, take, ap, arith, get_or, subst, sym}
-use Rattle.std.specs.BTreeMap.{btree_map_len, get}
-use Rattle.std.specs.Prelude.{None}
-use Rattle.std.proofs.lemmas.List.{take_all}
-use Rattle.plant_trace.specs.NodeIndexes.{AreIndexes}
-use Rattle.plant_trace.specs.Nodes.{node_cmp}
-use Rattle.plant_trace.specs.Waiting.{AreWaiting, Awaits, IsMentioned}
+use Rattle.std.proofs.Common.{◌≡◌, ◌<◌, ◌≤◌, ◌∙◌, ◌+◌, [], ◌∷◌, ◌++◌, List, Contains, length, take, ap, arith, get_or, subst, sym, btree_map_len, None, take_all}
+use Rattle.std.specs.BTreeMap.{get}
+use Rattle.plant_trace.specs.{AreIndexes, node_cmp, AreWaiting, Awaits, IsMentioned}
 use Rattle.plant_trace.specs.declared.node.Node.{Node}
 use Rattle.plant_trace.proofs.DistinctNodes.{not_before}
 use Rattle.plant_trace.proofs.IndexesNoted.{Grows-longer, places_none, placed_more}

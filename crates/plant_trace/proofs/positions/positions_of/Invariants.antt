@@ -1,7 +1,5 @@
-use Rattle.std.proofs.Common.{◌≡◌, ◌-◌, ◌^◌, ◌≤◌, length, take}
-use Rattle.std.specs.BTreeMap.{btree_map_len}
-use Rattle.plant_trace.specs.NodeIndexes.{AreIndexes}
-use Rattle.plant_trace.specs.Waiting.{AreWaiting, Awaits, IsMentioned}
+use Rattle.std.proofs.Common.{◌≡◌, ◌-◌, ◌^◌, ◌≤◌, length, take, btree_map_len}
+use Rattle.plant_trace.specs.{AreIndexes, AreWaiting, Awaits, IsMentioned}
 use Rattle.plant_trace.proofs.TakenInOrder.{IsInOrder}
 use Rattle.plant_trace.proofs.positions.positions_of.Given as goal
 

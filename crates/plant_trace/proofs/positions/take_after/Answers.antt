@@ -1,8 +1,7 @@
-use Rattle.std.proofs.Common.{◌≡◌, ◌<◌, ◌∙◌, ◌+◌, [], ◌∷◌, ◌++◌, List, Contains, length, take, ap, subst, sym}
-use Rattle.std.proofs.lemmas.List.{take_all, take_more}
+use Rattle.std.proofs.Common.{◌≡◌, ◌<◌, ◌∙◌, ◌+◌, [], ◌∷◌, ◌++◌, List, Contains, length, take, ap, subst, sym, take_all}
+use Rattle.std.proofs.lemmas.List.{take_more}
 use Rattle.std.proofs.lemmas.List.Elements.{Contains-get_or}
-use Rattle.plant_trace.specs.Reach.{HasEdge, IsNext, Lists}
-use Rattle.plant_trace.specs.Waiting.{AreWaiting, IsMentioned}
+use Rattle.plant_trace.specs.{HasEdge, IsNext, Lists, AreWaiting, IsMentioned}
 use Rattle.plant_trace.specs.declared.direction.Direction.TheVariants.{Forward}
 use Rattle.plant_trace.specs.declared.node.Node.{Node}
 use Rattle.plant_trace.proofs.DistinctNodes.{distinct_sorted, not_before}

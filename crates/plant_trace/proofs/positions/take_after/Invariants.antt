@@ -1,6 +1,5 @@
 use Rattle.std.proofs.Common.{List, take, Contains}
-use Rattle.plant_trace.specs.NodeIndexes.{Grows}
-use Rattle.plant_trace.specs.Waiting.{AreWaiting, Awaits, IsMentioned}
+use Rattle.plant_trace.specs.{Grows, AreWaiting, Awaits, IsMentioned}
 use Rattle.plant_trace.specs.declared.node.Node.{Node}
 use Rattle.plant_trace.proofs.NodesWaiting.{IsOpen}
 use Rattle.plant_trace.proofs.positions.take_after.Given as goal

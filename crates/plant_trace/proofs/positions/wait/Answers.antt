@@ -1,5 +1,4 @@
-use Rattle.std.proofs.Common.{refl}
-use Rattle.std.specs.Prelude.{Some}
+use Rattle.std.proofs.Common.{refl, Some}
 use Rattle.plant_trace.proofs.NodesWaiting.{count_put}
 use Rattle.plant_trace.proofs.positions.wait.Goals as goal
 

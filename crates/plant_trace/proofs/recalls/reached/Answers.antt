@@ -1,6 +1,6 @@
 use Rattle.std.proofs.Common.{subst, sym}
-use Rattle.plant_trace.specs.Reach.{Reach, HasEdge, Lists}
-use Rattle.plant_trace.specs.Recalls.{IsRecalled}
+use Rattle.plant_trace.specs.{HasEdge, Lists, IsRecalled}
+use Rattle.plant_trace.specs.Reach.{Reach}
 use Rattle.plant_trace.specs.declared.node.Node.TheVariants.{Lot}
 use Rattle.plant_trace.proofs.RecallReaches.{with_start}
 use Rattle.plant_trace.proofs.HoldsIfHonest.{HoldsIfHonest-weaker}

@@ -1,11 +1,9 @@
-use Rattle.std.proofs.Common.{◌≡◌, ◌∙◌, subst, arith}
+use Rattle.std.proofs.Common.{◌≡◌, ◌∙◌, subst, arith, take_all}
 use Rattle.std.proofs.lemmas.Result.{IfOk-from_err}
-use Rattle.std.proofs.lemmas.List.{take_all}
 use Rattle.std.proofs.lemmas.List.Elements.{All-contains}
-use Rattle.plant_trace.specs.Reach.{Lists, IsReached}
+use Rattle.plant_trace.specs.{Lists, IsReached, IsNext}
 use Rattle.plant_trace.proofs.HoldsIfHonest.{HoldsIfHonest-then, HoldsIfHonest-weaker}
 use Rattle.plant_trace.proofs.SearchFinds.{Asked, Found-first, turn, finished}
-use Rattle.plant_trace.specs.Reach.{IsNext}
 use Rattle.plant_trace.proofs.rounds.closure_in_rounds.Goals as goal
 
 pub rounds-init : goal.rounds-init

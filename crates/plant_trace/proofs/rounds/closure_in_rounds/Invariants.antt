@@ -1,7 +1,6 @@
-use Rattle.std.proofs.Common.{◌≡◌, ◌-◌, ◌^◌, ◌≤◌, length, take, Contains}
-use Rattle.std.specs.List.{All}
+use Rattle.std.proofs.Common.{◌≡◌, ◌-◌, ◌^◌, ◌≤◌, length, take, Contains, All}
 use Rattle.plant_trace.specs.declared.node.Node.{Node}
-use Rattle.plant_trace.specs.Reach.{IsNext}
+use Rattle.plant_trace.specs.{IsNext}
 use Rattle.plant_trace.specs.HoldsIfHonest.{HoldsIfHonest}
 use Rattle.plant_trace.proofs.SearchFinds.{Found, Asked}
 use Rattle.plant_trace.proofs.rounds.closure_in_rounds.Given as goal

@@ -1,5 +1,5 @@
 use Rattle.std.proofs.Common.{take}
-use Rattle.plant_trace.specs.Seen.{Adds}
+use Rattle.plant_trace.specs.{Adds}
 use Rattle.plant_trace.proofs.seen.note_all.Given as goal
 
 abbrev pub invariant-loop-node : goal.invariant-loop-node

@@ -1,5 +1,5 @@
 use Rattle.std.proofs.Common.{take}
-use Rattle.plant_trace.specs.Seen.{Adds, Queues}
+use Rattle.plant_trace.specs.{Adds, Queues}
 use Rattle.plant_trace.proofs.seen.note_new.Given as goal
 
 abbrev pub invariant-loop-node : goal.invariant-loop-node

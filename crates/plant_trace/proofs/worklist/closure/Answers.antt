@@ -1,7 +1,6 @@
-use Rattle.std.proofs.Common.{◌<◌, ◌+◌, ◌∙◌, length, sym, subst, arith}
-use Rattle.std.proofs.lemmas.List.{take_all}
+use Rattle.std.proofs.Common.{◌<◌, ◌+◌, ◌∙◌, length, sym, subst, arith, take_all}
 use Rattle.std.proofs.lemmas.List.Elements.{All-nil, All-contains}
-use Rattle.plant_trace.specs.Reach.{Lists, IsReached, IsNext}
+use Rattle.plant_trace.specs.{Lists, IsReached, IsNext}
 use Rattle.plant_trace.proofs.HoldsIfHonest.{HoldsIfHonest-then, HoldsIfHonest-weaker}
 use Rattle.plant_trace.proofs.SearchFinds.{Asked, Found-first, turn, turn_skipped, finished}
 use Rattle.plant_trace.proofs.NodeOrder.{node_eq_exact}

@@ -1,7 +1,5 @@
-use Rattle.std.proofs.Common.{◌-◌, ◌^◌, ◌≤◌, length, take}
-use Rattle.std.specs.List.{All}
-use Rattle.plant_trace.specs.Reach.{IsNext}
-use Rattle.plant_trace.specs.Seen.{HasSame}
+use Rattle.std.proofs.Common.{◌-◌, ◌^◌, ◌≤◌, length, take, All}
+use Rattle.plant_trace.specs.{IsNext, HasSame}
 use Rattle.plant_trace.specs.HoldsIfHonest.{HoldsIfHonest}
 use Rattle.plant_trace.proofs.SearchFinds.{Found, Asked}
 use Rattle.plant_trace.proofs.worklist.closure.Given as goal

@@ -1,9 +1,8 @@
 use Rattle.std.proofs.Common.{◌≡◌, option_map, refl, subst, sym}
-use Rattle.plant_base.specs.State.{place_at}
+use Rattle.plant_base.specs.{place_at}
 use Rattle.plant_trace.proofs.HoldsIfHonest.{HoldsIfHonest-weaker}
 use Rattle.plant_view.specs.DecisionInvariant.{DecisionInvariant}
-use Rattle.plant_view.specs.Tables.{sublot_row}
-use Rattle.plant_view.specs.Views.{IsSublotOf}
+use Rattle.plant_view.specs.{sublot_row, IsSublotOf}
 use Rattle.plant_view.proofs.StockColumn.{found_sublot}
 use Rattle.plant_view.proofs.lookup.sublot.Goals as goal
 

@@ -1,5 +1,5 @@
 use Rattle.std.proofs.Common.{rules, ◌≡◌, Some, arith}
-use Rattle.plant_base.specs.Digits.{digits_of}
+use Rattle.plant_base.specs.{digits_of}
 use Rattle.plant_worklists.proofs.SmallNumbers.{small}
 use Rattle.plant_worklists.proofs.cursors.read_small.Goals as goal
 

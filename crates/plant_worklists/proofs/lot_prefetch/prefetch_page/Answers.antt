@@ -2,9 +2,7 @@ use Rattle.std.proofs.Common.{◌∙◌, refl, sym, ap}
 use Rattle.std.proofs.lemmas.Bool.{false≢true}
 use Rattle.std.proofs.lemmas.Result.{IfOk-from_err}
 use Rattle.plant_trace.proofs.HoldsIfHonest.{HoldsIfHonest-weaker}
-use Rattle.plant_worklists.specs.Pages.{page_of}
-use Rattle.plant_worklists.specs.Prefetching.{asked_for, counted, is_answered, rows_after, wants_page, with_page}
-use Rattle.plant_worklists.specs.Worklists.{is_after}
+use Rattle.plant_worklists.specs.{page_of, asked_for, counted, is_answered, rows_after, wants_page, with_page, is_after}
 use Rattle.plant_worklists.proofs.PrefetchSteps.{no_page, page_in, unanswered}
 use Rattle.plant_worklists.proofs.lot_prefetch.prefetch_page.Goals as goal
 

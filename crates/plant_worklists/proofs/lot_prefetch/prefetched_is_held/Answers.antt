@@ -1,9 +1,8 @@
-use Rattle.std.proofs.Common.{◌∙◌, ap, length}
+use Rattle.std.proofs.Common.{◌∙◌, ap, length, nat_le}
 use Rattle.std.proofs.lemmas.Bool.{false≢true}
 use Rattle.std.proofs.lemmas.Result.{IfOk-from_err}
-use Rattle.std.specs.Prelude.{nat_le}
 use Rattle.plant_trace.proofs.HoldsIfHonest.{HoldsIfHonest-then, HoldsIfHonest-weaker}
-use Rattle.plant_worklists.specs.Prefetching.{is_answered}
+use Rattle.plant_worklists.specs.{is_answered}
 use Rattle.plant_worklists.proofs.PrefetchSteps.{none_wanted, of_any}
 use Rattle.plant_worklists.proofs.lot_prefetch.prefetched_is_held.Goals as goal
 

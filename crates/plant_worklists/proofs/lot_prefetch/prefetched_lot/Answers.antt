@@ -1,9 +1,9 @@
 use Rattle.std.proofs.Common.{◌∙◌, ap, slice_get}
 use Rattle.std.proofs.lemmas.Bool.{false≢true}
 use Rattle.std.proofs.lemmas.Result.{IfOk-from_err}
-use Rattle.plant_base.specs.State.{same}
+use Rattle.plant_base.specs.{same}
 use Rattle.plant_trace.proofs.HoldsIfHonest.{HoldsIfHonest-then, HoldsIfHonest-weaker}
-use Rattle.plant_worklists.specs.Prefetching.{is_answered}
+use Rattle.plant_worklists.specs.{is_answered}
 use Rattle.plant_worklists.proofs.PrefetchSteps.{none_wanted, of_any}
 use Rattle.plant_worklists.proofs.FoundRows.{first_is}
 use Rattle.plant_worklists.proofs.lot_prefetch.prefetched_lot.Goals as goal

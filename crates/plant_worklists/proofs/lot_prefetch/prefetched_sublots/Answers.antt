@@ -1,10 +1,10 @@
 use Rattle.std.proofs.Common.{◌≡◌, ◌∙◌, ap, map, refl}
 use Rattle.std.proofs.lemmas.Bool.{false≢true}
 use Rattle.std.proofs.lemmas.Result.{IfOk-from_err, IfOk-weaker}
-use Rattle.plant_base.specs.State.{same}
+use Rattle.plant_base.specs.{same}
 use Rattle.plant_trace.proofs.HoldsIfHonest.{HoldsIfHonest-then, HoldsIfHonest-weaker}
-use Rattle.plant_view.specs.Tables.{sublot_row, sublots_of}
-use Rattle.plant_worklists.specs.Prefetching.{is_answered}
+use Rattle.plant_view.specs.{sublot_row, sublots_of}
+use Rattle.plant_worklists.specs.{is_answered}
 use Rattle.plant_worklists.proofs.PrefetchSteps.{none_wanted, of_any}
 use Rattle.plant_worklists.proofs.FoundRows.{of_mapped}
 use Rattle.plant_worklists.proofs.lot_prefetch.prefetched_sublots.Goals as goal

@@ -1,6 +1,6 @@
 use Rattle.std.proofs.Common.{◌≡◌, ◌∙◌, ◌||◌, true, take, length, nat_lt, ap, ap₂}
 use Rattle.std.specs.Set.{sorted_merge}
-use Rattle.plant_worklists.specs.Pages.{page_size}
+use Rattle.plant_worklists.specs.{page_size}
 use Rattle.plant_worklists.proofs.MergedLists.{pages_merged}
 use Rattle.plant_worklists.proofs.merging.merge_pages.Goals as goal
 

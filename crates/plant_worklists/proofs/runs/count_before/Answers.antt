@@ -1,7 +1,6 @@
-use Rattle.std.proofs.Common.{rules}
-use Rattle.std.specs.Ordering.{is_lt}
+use Rattle.std.proofs.Common.{rules, is_lt}
 use Rattle.std.proofs.lemmas.List.Sorted.{IsPartitionPoint-from_clause}
-use Rattle.plant_base.specs.State.{id_cmp}
+use Rattle.plant_base.specs.{id_cmp}
 use Rattle.plant_worklists.proofs.RowsOfLot.{parted_before}
 use Rattle.plant_worklists.proofs.runs.count_before.Goals as goal
 

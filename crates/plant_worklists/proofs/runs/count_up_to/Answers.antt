@@ -1,7 +1,6 @@
-use Rattle.std.proofs.Common.{rules}
-use Rattle.std.specs.Ordering.{is_le}
+use Rattle.std.proofs.Common.{rules, is_le}
 use Rattle.std.proofs.lemmas.List.Sorted.{IsPartitionPoint-from_clause}
-use Rattle.plant_base.specs.State.{id_cmp}
+use Rattle.plant_base.specs.{id_cmp}
 use Rattle.plant_worklists.proofs.RowsOfLot.{parted_up_to}
 use Rattle.plant_worklists.proofs.runs.count_up_to.Goals as goal
 

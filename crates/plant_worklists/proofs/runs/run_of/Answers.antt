@@ -1,5 +1,4 @@
-use Rattle.std.proofs.Common.{◌≡◌, ◌-◌, take, drop, length, arith}
-use Rattle.std.proofs.lemmas.List.{length-drop, take_all}
+use Rattle.std.proofs.Common.{◌≡◌, ◌-◌, take, drop, length, arith, length-drop, take_all}
 use Rattle.plant_worklists.proofs.RowsOfLot.{part_is, rise_rest}
 use Rattle.plant_worklists.proofs.runs.run_of.Goals as goal
 

@@ -1,6 +1,5 @@
-use Rattle.std.proofs.Common.{◌≡◌}
-use Rattle.std.specs.Prelude.{drop}
-use Rattle.sql_queries.specs.Keys.{key_order}
+use Rattle.std.proofs.Common.{◌≡◌, drop}
+use Rattle.sql_queries.specs.{key_order}
 use Rattle.sql_queries.proofs.keys.key_order.Given as goal
 
 -- the columns so far are equal

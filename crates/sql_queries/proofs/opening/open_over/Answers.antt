@@ -5,7 +5,7 @@ use Rattle.sqlite_trees.specs.Tree.{Trees}
 use Rattle.sqlite_catalog.specs.Listing.{IsSound}
 use Rattle.sqlite.specs.Held.{state}
 use Rattle.sql_tables.proofs.TransactionEnds.{IsStore}
-use Rattle.sql_queries.specs.Ordered.{IsRising}
+use Rattle.sql_queries.specs.{IsRising}
 use Rattle.sql_queries.proofs.StoreLaws.{rising_of, newly_opened, ok_three}
 use Rattle.sql_queries.proofs.opening.open_over.Goals as goal
 

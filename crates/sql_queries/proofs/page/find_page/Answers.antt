@@ -1,7 +1,7 @@
 use Rattle.std.proofs.Common.{rules, ◌≡◌, true, subst, length}
 use Rattle.sqlite.specs.Held.{state}
 use Rattle.sqlite.specs.Values.{bound}
-use Rattle.sql_tables.specs.StoredRows.{HasTable}
+use Rattle.sql_tables.specs.{HasTable}
 use Rattle.sql_queries.proofs.ReadingKeeps.{shown_unchanged}
 use Rattle.sql_queries.proofs.PageText.{page_reads, page_shown}
 use Rattle.sql_queries.proofs.page.find_page.Goals as goal

@@ -8,8 +8,7 @@ use Rattle.sqlite.specs.Held.{Held, state}
 use Rattle.sqlite_trees.specs.declared.store.Store.{Ghosts}
 use Rattle.sqlite.proofs.Callers.{unchanged_then}
 use Rattle.sqlite.proofs.StateLemmas.{survives_then}
-use Rattle.sql_queries.specs.Given.{HasGivenRow}
-use Rattle.sql_queries.specs.Keys.{is_before}
+use Rattle.sql_queries.specs.{HasGivenRow, is_before}
 use Rattle.sql_queries.proofs.ReadingKeeps.{keeps_refused, commits_nothing, begun, shown_since}
 use Rattle.sql_queries.proofs.RisingLists.{rises_more}
 use Rattle.sql_queries.proofs.reading.read_rows.Goals as goal

@@ -3,7 +3,7 @@ use Rattle.sqlite.specs.State.{HasCleanDisk, IsUnchanged, Survives}
 use Rattle.sqlite.specs.Values.{bound}
 use Rattle.sqlite.specs.Held.{state}
 use Rattle.sqlite.specs.Given.{HasGiven}
-use Rattle.sql_queries.specs.Keys.{is_before}
+use Rattle.sql_queries.specs.{is_before}
 use Rattle.sql_queries.specs.Rises.{Rises}
 use Rattle.sql_queries.proofs.reading.read_rows.Given as goal
 

@@ -1,6 +1,6 @@
 use Rattle.std.proofs.Common.{rules, ◌≡◌, ◌<◌, true, inl, inr, subst, slice_index_or, length, ap, sym, ◌∙◌}
 use Rattle.std.proofs.lemmas.Option.{slice_get-get_or}
-use Rattle.sql_tables.specs.StoredRows.{IsFree}
+use Rattle.sql_tables.specs.{IsFree}
 use Rattle.sql_queries.proofs.RisingLists.{split}
 use Rattle.sql_queries.proofs.table.all_free.Goals as goal
 

@@ -1,6 +1,5 @@
 use Rattle.std.proofs.Common.{ℕ, ◌<◌, slice_index_or}
-use Rattle.sql_tables.specs.TableDefs.{TableDef}
-use Rattle.sql_tables.specs.StoredRows.{IsFree}
+use Rattle.sql_tables.specs.{TableDef, IsFree}
 use Rattle.sql_queries.proofs.table.all_free.Given as goal
 
 abbrev pub invariant-loop-table_def : goal.invariant-loop-table_def

@@ -1,6 +1,5 @@
 use Rattle.std.proofs.Common.{ℕ, ◌<◌, slice_index_or}
-use Rattle.sql_tables.specs.TableDefs.{TableDef}
-use Rattle.sql_tables.specs.StoredRows.{HasTable}
+use Rattle.sql_tables.specs.{TableDef, HasTable}
 use Rattle.sql_queries.proofs.table.are_all_declared.Given as goal
 
 abbrev pub invariant-loop-table_def : goal.invariant-loop-table_def

@@ -2,7 +2,7 @@ use Rattle.std.proofs.Common.{rules, ◌≡◌, true, subst}
 use Rattle.std.proofs.lemmas.Result.{IfOk-weaker}
 use Rattle.sqlite.specs.Held.{state}
 use Rattle.sqlite.specs.Values.{bound}
-use Rattle.sql_tables.specs.StoredRows.{HasTable}
+use Rattle.sql_tables.specs.{HasTable}
 use Rattle.sql_queries.proofs.ReadingKeeps.{shown_unchanged}
 use Rattle.sql_queries.proofs.SelectText.{only_reads, selected}
 use Rattle.sql_queries.proofs.table.find_rows.Goals as goal

@@ -1,7 +1,7 @@
 use Rattle.std.proofs.Common.{◌≡◌, refl, subst, arith, rules, IsTrue, OnErr}
 use Rattle.sqlite.specs.Held.{state}
 use Rattle.sqlite.specs.State.{HasCleanDisk, Survives, KeepsCommit}
-use Rattle.sql_tables.specs.CrashStates.{IsSettled, IsUndone}
+use Rattle.sql_tables.specs.{IsSettled, IsUndone}
 use Rattle.sql_tables.proofs.TransactionEnds.{IsStore, begun, committed, ended_early, ended_late, err_always}
 use Rattle.sql_tables.proofs.frame.in_one.Goals as goal
 

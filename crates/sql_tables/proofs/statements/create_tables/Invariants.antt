@@ -1,8 +1,7 @@
 use Rattle.std.proofs.Common.{◌≡◌, List, map, IsTrue, true}
 use Rattle.sqlite.specs.State.{HasCleanDisk, Survives, KeepsCommit, Shows}
 use Rattle.sqlite.specs.Held.{state}
-use Rattle.sql_tables.specs.TableDefs.{TableDef}
-use Rattle.sql_tables.specs.Moves.{AreApart, AreCreateStatements}
+use Rattle.sql_tables.specs.{TableDef, AreApart, AreCreateStatements}
 use Rattle.sql_tables.proofs.TablesInTurn.{Founding}
 use Rattle.sql_tables.proofs.statements.create_tables.Given as goal
 

@@ -1,8 +1,7 @@
 use Rattle.std.proofs.Common.{◌≡◌, List, map, IsTrue, true}
 use Rattle.sqlite.specs.State.{HasCleanDisk, Survives, KeepsCommit, Shows}
 use Rattle.sqlite.specs.Held.{state}
-use Rattle.sql_tables.specs.TableDefs.{TableDef}
-use Rattle.sql_tables.specs.Indexes.{IndexDef, AreOf, AreCreateIndexStatements}
+use Rattle.sql_tables.specs.{TableDef, IndexDef, AreOf, AreCreateIndexStatements}
 use Rattle.sql_tables.proofs.IndexesInTurn.{Indexing}
 use Rattle.sql_tables.proofs.statements.run_create_indexes.Given as goal
 

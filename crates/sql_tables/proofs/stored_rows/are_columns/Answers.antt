@@ -1,5 +1,5 @@
 use Rattle.std.proofs.Common.{◌≡◌, refl, length, arith}
-use Rattle.sql_tables.specs.TableDefs.{column_of}
+use Rattle.sql_tables.specs.{column_of}
 use Rattle.sql_tables.proofs.ListsAgree.{same_map}
 use Rattle.sql_tables.proofs.stored_rows.are_columns.Goals as goal
 

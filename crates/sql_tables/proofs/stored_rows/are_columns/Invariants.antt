@@ -1,7 +1,7 @@
 use Rattle.std.proofs.Common.{◌≡◌, ◌<◌, ℕ, slice_index_or}
 use Rattle.sqlite_schema.specs.declared.schema.Column.{Column}
 use Rattle.sql_tables.specs.declared.table_def.ColumnDef.{ColumnDef}
-use Rattle.sql_tables.specs.TableDefs.{column_of}
+use Rattle.sql_tables.specs.{column_of}
 use Rattle.sql_tables.proofs.stored_rows.are_columns.Given as goal
 
 abbrev pub invariant-loop-at : goal.invariant-loop-at

@@ -4,7 +4,7 @@ use Rattle.sqlite_schema.specs.declared.schema.Index.{Index}
 use Rattle.sqlite_schema.specs.Rules.{guards}
 use Rattle.sqlite_rules.specs.Lists.{Has}
 use Rattle.sqlite_value.specs.Keys.{plain}
-use Rattle.sql_tables.specs.TableDefs.{TableDef, table_of}
+use Rattle.sql_tables.specs.{TableDef, table_of}
 use Rattle.sql_tables.proofs.ListsAgree.{each_has, has_at}
 use Rattle.sql_tables.proofs.stored_rows.has_no_other_key.Goals as goal
 

@@ -3,7 +3,7 @@ use Rattle.sqlite_schema.specs.declared.schema.Index.{Index}
 use Rattle.sqlite_schema.specs.Rules.{guards}
 use Rattle.sqlite_rules.specs.Lists.{Has}
 use Rattle.sqlite_value.specs.Keys.{plain}
-use Rattle.sql_tables.specs.TableDefs.{table_of}
+use Rattle.sql_tables.specs.{table_of}
 use Rattle.sql_tables.proofs.stored_rows.has_no_other_key.Given as goal
 
 abbrev pub invariant-loop-index : goal.invariant-loop-index

@@ -2,7 +2,7 @@ use Rattle.std.proofs.Common.{◌≡◌, Some, slice_get, refl, sym, ap, rules, 
 use Rattle.std.proofs.lemmas.Bool.{not-true}
 use Rattle.sqlite.proofs.RunLemmas.{has_got}
 use Rattle.sqlite_schema.specs.Names.{table_named}
-use Rattle.sql_tables.specs.TableDefs.{TableDef, table_of}
+use Rattle.sql_tables.specs.{TableDef, table_of}
 use Rattle.sql_tables.proofs.ListsAgree.{unnamed_as, named_as}
 use Rattle.sql_tables.proofs.stored_rows.is_declared.Goals as goal
 

@@ -1,7 +1,7 @@
 use Rattle.std.proofs.Common.{refl, sym, ap, ◌∙◌}
 use Rattle.std.proofs.lemmas.Bool.{not-true}
 use Rattle.sqlite.specs.Change.{is_used}
-use Rattle.sql_tables.specs.TableDefs.{TableDef}
+use Rattle.sql_tables.specs.{TableDef}
 use Rattle.sql_tables.proofs.ListsAgree.{unnamed_as, named_as}
 use Rattle.sql_tables.proofs.stored_rows.is_free.Goals as goal
 

@@ -1,7 +1,7 @@
 use Rattle.std.proofs.Common.{◌≡◌, ◌≤◌, refl, sym, ap, subst, ◌∙◌, arith, length}
 use Rattle.sqlite.specs.Table.{Table}
 use Rattle.sqlite_rules.specs.Lists.{Has}
-use Rattle.sql_tables.specs.TableDefs.{table_of}
+use Rattle.sql_tables.specs.{table_of}
 use Rattle.sql_tables.proofs.ListsAgree.{each_has, has_at}
 use Rattle.sql_tables.proofs.stored_rows.is_own.Goals as goal
 

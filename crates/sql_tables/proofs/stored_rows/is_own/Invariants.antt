@@ -1,6 +1,6 @@
 use Rattle.std.proofs.Common.{◌≡◌, ◌<◌, ℕ, slice_index_or}
 use Rattle.sqlite.specs.Table.{Table}
-use Rattle.sql_tables.specs.TableDefs.{table_of}
+use Rattle.sql_tables.specs.{table_of}
 use Rattle.sql_tables.proofs.stored_rows.is_own.Given as goal
 
 abbrev pub invariant-loop-table : goal.invariant-loop-table

@@ -1,5 +1,5 @@
 use Rattle.std.proofs.Common.{ap, sym, ◌∙◌}
-use Rattle.desk_server.specs.Waiting.{position_of}
+use Rattle.desk_server.specs.{position_of}
 use Rattle.desk_server.proofs.MarkedWaiters.{marked_at, marked_nowhere}
 use Rattle.desk_server.proofs.waiting.Waiting.mark.Goals as goal
 

@@ -1,5 +1,5 @@
 use Rattle.std.proofs.Common.{None, map}
-use Rattle.plant_view.specs.Tables.{sublot_row}
+use Rattle.plant_view.specs.{sublot_row}
 use Rattle.plant_answers.proofs.known_lots.KnownLots.new.Goals as goal
 
 pub returns-clause-valid : goal.returns-clause-valid

@@ -1,7 +1,6 @@
 use Rattle.std.proofs.Common.{◌∙◌, map, refl, ap}
-use Rattle.plant_view.specs.Tables.{sublot_row}
-use Rattle.plant_worklists.specs.Pages.{page_of}
-use Rattle.plant_worklists.specs.Worklists.{is_after}
+use Rattle.plant_view.specs.{sublot_row}
+use Rattle.plant_worklists.specs.{page_of, is_after}
 use Rattle.plant_desk.proofs.PageIsPrefix.{prefix_of_mapped}
 use Rattle.plant_desk.proofs.pages.ListsViewWorklists.sublots_after.Goals as goal
 

@@ -1,9 +1,8 @@
 use Rattle.std.proofs.Common.{Bool, false, sym, subst}
 use Rattle.sqlite.specs.Held.{state}
 use Rattle.sqlite.specs.State.{HasCleanDisk}
-use Rattle.plant_base.specs.State.{State}
-use Rattle.plant_desk_store.specs.Runs.{Ran}
-use Rattle.plant_desk_store.specs.DeskStates.{Represents, HasCrashStates, HasForeignTables}
+use Rattle.plant_base.specs.{State}
+use Rattle.plant_desk_store.specs.{Ran, Represents, HasCrashStates, HasForeignTables}
 use Rattle.plant_desk_store.proofs.RunsPreserveInvariant.{accounted}
 use Rattle.plant_desk_store.proofs.stored.Desk.run.Goals as goal
 

@@ -1,6 +1,6 @@
 use Rattle.std.proofs.Common.{◌≡◌, Bool, false, refl, sym, subst, rules}
 use Rattle.sqlite.specs.Held.{state}
-use Rattle.plant_desk_store.specs.DeskStates.{HasForeignTables, IsDurablyAt}
+use Rattle.plant_desk_store.specs.{HasForeignTables, IsDurablyAt}
 use Rattle.plant_desk_store.proofs.ForeignTablesKept.{executed_foreign_tables}
 use Rattle.plant_desk_store.proofs.stored.DeskKeeper.execute.Goals as goal
 

@@ -1,5 +1,5 @@
 use Rattle.std.proofs.Common.{◌≡◌, ℕ, List, ◌++◌, ◌∙◌, append_assoc, codes}
-use Rattle.plant_http.specs.Answers.{policy_bytes}
+use Rattle.plant_http.specs.{policy_bytes}
 use Rattle.plant_http.proofs.room.Room.push_guards.Goals as goal
 
 five_behind : (text a b c d e : List ℕ) → (((((text ++ a) ++ b) ++ c) ++ d) ++ e) ≡ text ++ (a ++ (b ++ (c ++ (d ++ e))))

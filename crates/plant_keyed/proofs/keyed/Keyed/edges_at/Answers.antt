@@ -3,9 +3,8 @@ use Rattle.std.proofs.lemmas.Slice.{pushed}
 use Rattle.sqlite.specs.Effect.{Database}
 use Rattle.sqlite.specs.Held.{state}
 use Rattle.plant_base.specs.{EdgeRow}
-use Rattle.plant_view.specs.Genealogy.{edge_rows, edges_among, ends_of}
-use Rattle.plant_keyed.specs.Edges.{begins_at, HasEdgesAt}
-use Rattle.plant_keyed.specs.Abstraction.{abstraction}
+use Rattle.plant_view.specs.{edge_rows, edges_among, ends_of}
+use Rattle.plant_keyed.specs.{begins_at, HasEdgesAt, abstraction}
 use Rattle.plant_keyed.proofs.EdgesAtNode.{by_one, by_two}
 use Rattle.plant_keyed.proofs.LookupsKeep.{reported_then, reported_weaker}
 use Rattle.plant_keyed.proofs.keyed.Keyed.edges_at.Goals as goal

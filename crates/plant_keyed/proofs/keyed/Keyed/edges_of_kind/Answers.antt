@@ -1,5 +1,5 @@
 use Rattle.std.proofs.Common.{refl, [], ◌∷◌}
-use Rattle.plant_base.specs.Edges.{edge_kind_number}
+use Rattle.plant_base.specs.{edge_kind_number}
 use Rattle.plant_keyed.proofs.LookupFinds.{edges_are}
 use Rattle.plant_keyed.proofs.LookupsKeep.{reported_found}
 use Rattle.plant_keyed.proofs.TextsSelect as text

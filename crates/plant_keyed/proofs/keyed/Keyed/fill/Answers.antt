@@ -4,11 +4,8 @@ use Rattle.sqlite.specs.Effect.{Database}
 use Rattle.sqlite.specs.Held.{state}
 use Rattle.plant_base.specs.{Position}
 use Rattle.plant_trace.specs.{Direction}
-use Rattle.plant_view.specs.Genealogy.{edges_of}
-use Rattle.plant_view.specs.Tables.{position_of}
-use Rattle.plant_keyed.specs.Edges.{AreTurned}
-use Rattle.plant_keyed.specs.Caching.{AreEdgesOf}
-use Rattle.plant_keyed.specs.Abstraction.{abstraction}
+use Rattle.plant_view.specs.{edges_of, position_of}
+use Rattle.plant_keyed.specs.{AreTurned, AreEdgesOf, abstraction}
 use Rattle.plant_keyed.specs.declared.lookup_cache.LookupCache.{LookupCache}
 use Rattle.plant_keyed.proofs.CachedEdges.{all_reported}
 use Rattle.plant_keyed.proofs.keyed.Keyed.fill.Goals as goal

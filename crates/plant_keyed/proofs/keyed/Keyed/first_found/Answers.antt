@@ -1,5 +1,5 @@
 use Rattle.std.proofs.Common.{◌∙◌, IfSome, ap, slice_get, subst, sym}
-use Rattle.plant_keyed.specs.Decoding.{IsDecoded}
+use Rattle.plant_keyed.specs.{IsDecoded}
 use Rattle.plant_keyed.proofs.FirstDecoded.{first_decoded}
 use Rattle.plant_keyed.proofs.keyed.Keyed.first_found.Goals as goal
 

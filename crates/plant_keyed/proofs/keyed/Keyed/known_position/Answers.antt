@@ -1,7 +1,7 @@
 use Rattle.std.proofs.Common.{◌≡◌}
 use Rattle.sqlite.specs.Held.{state}
-use Rattle.plant_view.specs.Tables.{position_of}
-use Rattle.plant_keyed.specs.Frames.{frame_refl, stays_refl}
+use Rattle.plant_view.specs.{position_of}
+use Rattle.plant_keyed.specs.{frame_refl, stays_refl}
 use Rattle.plant_keyed.proofs.LookupsKeep.{recalled_so}
 use Rattle.plant_keyed.proofs.keyed.Keyed.known_position.Goals as goal
 

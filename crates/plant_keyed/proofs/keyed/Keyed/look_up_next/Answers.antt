@@ -1,6 +1,6 @@
 use Rattle.sqlite.specs.Held.{state}
-use Rattle.plant_view.specs.Genealogy.{edges_of}
-use Rattle.plant_keyed.specs.Abstraction.{abstraction}
+use Rattle.plant_view.specs.{edges_of}
+use Rattle.plant_keyed.specs.{abstraction}
 use Rattle.plant_keyed.proofs.EdgesAtNode.{next_by}
 use Rattle.plant_keyed.proofs.LookupsKeep.{reported_weaker}
 use Rattle.plant_keyed.proofs.keyed.Keyed.look_up_next.Goals as goal

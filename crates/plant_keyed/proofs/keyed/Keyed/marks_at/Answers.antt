@@ -1,9 +1,8 @@
 use Rattle.std.proofs.Common.{◌≡◌, refl, subst, [], ◌∷◌}
 use Rattle.sqlite.specs.Held.{state}
 use Rattle.plant_trace.specs.{Node}
-use Rattle.plant_view.specs.Recalls.{marks_on}
-use Rattle.plant_keyed.specs.Edges.{id_of}
-use Rattle.plant_keyed.specs.Abstraction.{abstraction}
+use Rattle.plant_view.specs.{marks_on}
+use Rattle.plant_keyed.specs.{id_of, abstraction}
 use Rattle.plant_keyed.proofs.LookupFinds.{marks_are}
 use Rattle.plant_keyed.proofs.LookupsKeep.{reported_found}
 use Rattle.plant_keyed.proofs.TextsSelect.{marks_on_node}

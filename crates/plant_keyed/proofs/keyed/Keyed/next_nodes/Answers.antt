@@ -1,8 +1,8 @@
 use Rattle.sqlite.specs.Held.{state}
 use Rattle.std.proofs.Common.{IfOk}
-use Rattle.plant_trace.specs.Reach.{IsNext, Lists}
-use Rattle.plant_view.specs.Genealogy.{edges_of}
-use Rattle.plant_keyed.specs.Abstraction.{abstraction}
+use Rattle.plant_trace.specs.{IsNext, Lists}
+use Rattle.plant_view.specs.{edges_of}
+use Rattle.plant_keyed.specs.{abstraction}
 use Rattle.plant_keyed.proofs.LookupsKeep.{recalled_so, traced_on}
 use Rattle.plant_keyed.proofs.keyed.Keyed.next_nodes.Goals as goal
 

@@ -5,10 +5,9 @@ use Rattle.sqlite.specs.Effect.{Database}
 use Rattle.sqlite.specs.Held.{state}
 use Rattle.sqlite.specs.Values.{bound_value}
 use Rattle.sqlite_value.specs.Value.{owned}
-use Rattle.plant_tables_columns.specs.Kinds.{number}
-use Rattle.plant_worklists.specs.Pages.{page_size, page_of}
-use Rattle.plant_keyed.specs.Paging.{IsPaged}
-use Rattle.plant_keyed.specs.Frames.{frame_trans}
+use Rattle.plant_tables_columns.specs.{number}
+use Rattle.plant_worklists.specs.{page_size, page_of}
+use Rattle.plant_keyed.specs.{IsPaged, frame_trans}
 use Rattle.plant_keyed.proofs.LookupsKeep.{reported_by, reported_then}
 use Rattle.plant_keyed.proofs.keyed.Keyed.page_beyond.Goals as goal
 

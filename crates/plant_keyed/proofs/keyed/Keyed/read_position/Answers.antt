@@ -1,8 +1,7 @@
-use Rattle.std.proofs.Common.{◌≡◌, ◌∙◌, [], ap, refl, sym, arith}
+use Rattle.std.proofs.Common.{◌≡◌, ◌∙◌, [], ap, refl, sym, arith, nat_le, true}
 use Rattle.std.proofs.lemmas.Bool.Decides.{nat_tests}
-use Rattle.std.specs.Prelude.{nat_le, true}
 use Rattle.sqlite.specs.Held.{state}
-use Rattle.plant_base.specs.Values.{greatest_seq}
+use Rattle.plant_base.specs.{greatest_seq}
 use Rattle.plant_tables_columns.proofs.OptionalValues.{some_same}
 use Rattle.plant_tables_columns.proofs.RowLaws.{meta_reads}
 use Rattle.plant_keyed.proofs.LookupFinds.{meta_is}

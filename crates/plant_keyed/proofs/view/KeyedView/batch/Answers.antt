@@ -1,8 +1,7 @@
-use Rattle.std.proofs.Common.{◌∙◌, refl, [], ◌∷◌, ap}
+use Rattle.std.proofs.Common.{◌∙◌, refl, [], ◌∷◌, ap, option_map}
 use Rattle.sqlite.specs.Held.{state}
-use Rattle.std.specs.Prelude.{option_map}
-use Rattle.plant_base.specs.State.{batch_at}
-use Rattle.plant_keyed.specs.Abstraction.{abstraction}
+use Rattle.plant_base.specs.{batch_at}
+use Rattle.plant_keyed.specs.{abstraction}
 use Rattle.plant_keyed.proofs.AbstractionIsState.{batch_unread}
 use Rattle.plant_keyed.proofs.LookupFinds.{batch_is}
 use Rattle.plant_keyed.proofs.TextsSelect.{batch_by_id}

@@ -1,5 +1,4 @@
-use Rattle.std.proofs.Common.{◌∙◌, refl, [], ◌∷◌, ap, sym, rules}
-use Rattle.std.specs.Prelude.{option_map}
+use Rattle.std.proofs.Common.{◌∙◌, refl, [], ◌∷◌, ap, sym, rules, option_map}
 use Rattle.plant_base.specs.{BatchRow}
 use Rattle.plant_keyed.proofs.LookupFinds.{batch_of_is}
 use Rattle.plant_keyed.proofs.TextsSelect.{batch_by_job}

@@ -1,9 +1,8 @@
-use Rattle.std.proofs.Common.{◌∙◌, refl, [], ◌∷◌, ap}
+use Rattle.std.proofs.Common.{◌∙◌, refl, [], ◌∷◌, ap, option_map}
 use Rattle.sqlite.specs.Held.{state}
-use Rattle.std.specs.Prelude.{option_map}
-use Rattle.plant_base.specs.State.{place_at}
-use Rattle.plant_view.specs.Tables.{place_of_row}
-use Rattle.plant_keyed.specs.Abstraction.{abstraction}
+use Rattle.plant_base.specs.{place_at}
+use Rattle.plant_view.specs.{place_of_row}
+use Rattle.plant_keyed.specs.{abstraction}
 use Rattle.plant_keyed.proofs.AbstractionIsState.{place_unread}
 use Rattle.plant_keyed.proofs.LookupFinds.{sublot_is}
 use Rattle.plant_keyed.proofs.TextsSelect.{sublot_by_key}

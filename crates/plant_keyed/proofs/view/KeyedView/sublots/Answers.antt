@@ -1,8 +1,7 @@
-use Rattle.std.proofs.Common.{◌∙◌, refl, [], ◌∷◌, ap}
+use Rattle.std.proofs.Common.{◌∙◌, refl, [], ◌∷◌, ap, map}
 use Rattle.sqlite.specs.Held.{state}
-use Rattle.std.specs.Prelude.{map}
-use Rattle.plant_view.specs.Tables.{place_of_row, places_of}
-use Rattle.plant_keyed.specs.Abstraction.{abstraction}
+use Rattle.plant_view.specs.{place_of_row, places_of}
+use Rattle.plant_keyed.specs.{abstraction}
 use Rattle.plant_keyed.proofs.AbstractionIsState.{places_unread}
 use Rattle.plant_keyed.proofs.LookupFinds.{sublots_are}
 use Rattle.plant_keyed.proofs.TextsSelect.{sublots_of_lot}

@@ -4,15 +4,12 @@ use Rattle.std.specs.Set.{sorted_merge}
 use Rattle.sqlite.specs.Effect.{Database}
 use Rattle.sqlite.specs.Held.{state}
 use Rattle.sqlite.specs.declared.types.Value.TheVariants.{Text}
-use Rattle.plant_base.specs.State.{movement_order}
-use Rattle.sql_queries.specs.Selects.{first_of}
-use Rattle.plant_tables.specs.DeskTableDefs.{movement_table}
-use Rattle.plant_tables_columns.specs.Kinds.{number}
-use Rattle.plant_tables_columns.specs.TableColumns.{movement_read}
-use Rattle.plant_worklists.specs.Pages.{page_of}
-use Rattle.plant_worklists.specs.Worklists.{movement_after}
-use Rattle.plant_keyed.specs.Paging.{IsPagedBeyond}
-use Rattle.plant_keyed.specs.Frames.{frame_trans}
+use Rattle.plant_base.specs.{movement_order}
+use Rattle.sql_queries.specs.{first_of}
+use Rattle.plant_tables.specs.{movement_table}
+use Rattle.plant_tables_columns.specs.{number, movement_read}
+use Rattle.plant_worklists.specs.{page_of, movement_after}
+use Rattle.plant_keyed.specs.{IsPagedBeyond, frame_trans}
 use Rattle.plant_keyed.proofs.LookupsKeep.{reported_then}
 use Rattle.plant_keyed.proofs.TwoKeyPages.{ledger_is}
 use Rattle.plant_keyed.proofs.TextsSelect.{ledger, ledger_at, ledger_by_second, ledger_by_second_at}

@@ -1,6 +1,6 @@
 use Rattle.std.proofs.Common.{◌∙◌, sym}
 use Rattle.std.proofs.lemmas.Result.{err_from_is_err_and}
-use Rattle.plant_recipe.specs.Progress.{run_of}
+use Rattle.plant_recipe.specs.{run_of}
 use Rattle.plant_recipe.proofs.EventFold.{run_stops}
 use Rattle.plant_recipe.proofs.progress.Progress.of_events.Goals as goal
 

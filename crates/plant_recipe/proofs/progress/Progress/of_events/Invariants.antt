@@ -1,5 +1,5 @@
 use Rattle.std.proofs.Common.{◌≡◌, drop, fold, Ok}
-use Rattle.plant_recipe.specs.Progress.{opening_progress, then_turn}
+use Rattle.plant_recipe.specs.{opening_progress, then_turn}
 use Rattle.plant_recipe.proofs.progress.Progress.of_events.Given as goal
 
 -- the events that are left lead on to the whole fold

@@ -1,6 +1,6 @@
 use Rattle.std.proofs.Common.{ap, codes, rules}
 use Rattle.std.proofs.Output.{has_written_append, has_written_of_eq}
-use Rattle.plant_record.specs.Record.{consumed_text, control_text, event_text, produced_text, record_text, section}
+use Rattle.plant_record.specs.{consumed_text, control_text, event_text, produced_text, record_text, section}
 use Rattle.plant_record.proofs.whole.WholeRecordDisplay.fmt.Goals as goal
 
 pub returns-clause-writes : goal.returns-clause-writes

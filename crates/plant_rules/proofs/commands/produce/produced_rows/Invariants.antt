@@ -1,9 +1,8 @@
 use Rattle.std.proofs.Common.{◌≡◌, ◌+◌, ◌++◌, ◌∷◌, map, take}
-use Rattle.plant_base.specs.State.{newest_schema}
+use Rattle.plant_base.specs.{newest_schema}
 use Rattle.plant_base.specs.declared.rows.MovementKind.TheVariants.{Produced}
 use Rattle.plant_view.specs.declared.change.RowChange.TheVariants as row
-use Rattle.plant_rules.specs.Booking.{line_of, edge_change}
-use Rattle.plant_rules.specs.Consumption.{lot_marks}
+use Rattle.plant_rules.specs.{line_of, edge_change, lot_marks}
 use Rattle.plant_rules.proofs.commands.produce.produced_rows.Given as goal
 
 abbrev pub invariant-loop-mark : goal.invariant-loop-mark

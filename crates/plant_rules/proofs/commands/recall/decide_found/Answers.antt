@@ -1,6 +1,5 @@
-use Rattle.std.proofs.Common.{◌≡◌, ◌∙◌, sym, ap, arith}
-use Rattle.std.specs.Prelude.{is_some, true}
-use Rattle.plant_rules.specs.Recalling.{may_open}
+use Rattle.std.proofs.Common.{◌≡◌, ◌∙◌, sym, ap, arith, is_some, true}
+use Rattle.plant_rules.specs.{may_open}
 use Rattle.std.proofs.lemmas.Grind.{common_steps}
 use Rattle.plant_rules.proofs.MergeIsOfNoBatch.{one_recall}
 use Rattle.plant_rules.proofs.RecallRows.{recall_tables}

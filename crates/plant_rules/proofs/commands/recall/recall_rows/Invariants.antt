@@ -1,8 +1,8 @@
 use Rattle.std.proofs.Common.{◌≡◌, ◌+◌, ◌++◌, ◌∷◌, [], map, take}
-use Rattle.plant_base.specs.State.{newest_schema}
-use Rattle.plant_view.specs.Recalls.{mark_on}
+use Rattle.plant_base.specs.{newest_schema}
+use Rattle.plant_view.specs.{mark_on}
 use Rattle.plant_view.specs.declared.change.RowChange.TheVariants as row
-use Rattle.plant_rules.specs.Recalling.{opened}
+use Rattle.plant_rules.specs.{opened}
 use Rattle.plant_rules.proofs.commands.recall.recall_rows.Given as goal
 
 abbrev pub invariant-loop-node : goal.invariant-loop-node

@@ -3,7 +3,7 @@ use Rattle.std.proofs.lemmas.Result.{on_ok_weaker}
 use Rattle.sqlite.specs.Held.{state}
 use Rattle.sqlite.specs.State.{HasCleanDisk}
 use Rattle.sql_tables.proofs.WritesInTurn.{kept_then}
-use Rattle.plant_base.specs.State.{newest_schema}
+use Rattle.plant_base.specs.{newest_schema}
 use Rattle.plant_tables.proofs.OpeningTables.{desk_made}
 use Rattle.plant_tables.proofs.commit.OpeningWork.run.Goals as goal
 

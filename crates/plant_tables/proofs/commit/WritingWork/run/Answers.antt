@@ -1,5 +1,5 @@
 use Rattle.std.proofs.lemmas.Result.{on_ok_weaker}
-use Rattle.plant_base.specs.State.{newest_schema}
+use Rattle.plant_base.specs.{newest_schema}
 use Rattle.plant_tables.proofs.StatementsOnDesk.{all_of_newest}
 use Rattle.plant_tables.proofs.commit.WritingWork.run.Goals as goal
 

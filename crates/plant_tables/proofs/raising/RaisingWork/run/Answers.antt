@@ -2,7 +2,7 @@ use Rattle.std.proofs.Common.{◌≡◌, ◌+◌, arith, rules}
 use Rattle.std.proofs.lemmas.Result.{on_ok_weaker}
 use Rattle.sqlite.specs.Held.{state}
 use Rattle.sqlite.specs.State.{HasCleanDisk}
-use Rattle.plant_base.specs.State.{newest_schema}
+use Rattle.plant_base.specs.{newest_schema}
 use Rattle.plant_tables.proofs.StatementsOnDesk.{all_of_newest}
 use Rattle.plant_tables.proofs.RaisedSchema.{raised}
 use Rattle.plant_tables.proofs.raising.RaisingWork.run.Goals as goal

@@ -1,7 +1,7 @@
 use Rattle.std.proofs.Common.{rules, ◌≡◌, ◌∙◌, true, false, sym, subst}
 use Rattle.sqlite.specs.Held.{state}
 use Rattle.sql_queries.proofs.AllErrors.{if_error}
-use Rattle.plant_tables_read.specs.Version.{HasTablesOf}
+use Rattle.plant_tables_read.specs.{HasTablesOf}
 use Rattle.plant_tables_read.proofs.LoadedIsStored.{loaded_is_stored}
 use Rattle.plant_tables_read.proofs.loaded.Loaded.read.Goals as goal
 

@@ -5,11 +5,10 @@ use Rattle.sqlite.proofs.Callers.{unchanged_then}
 use Rattle.sqlite.specs.Held.{state}
 use Rattle.sqlite.specs.State.{HasCleanDisk}
 use Rattle.sql_tables.proofs.WritesInTurn.{survives_on}
-use Rattle.sql_tables.specs.TableDefs.{TableDef}
-use Rattle.sql_queries.specs.Keys.{comes_before}
-use Rattle.sql_queries.specs.Reading.{Lists}
+use Rattle.sql_tables.specs.{TableDef}
+use Rattle.sql_queries.specs.{comes_before, Lists}
 use Rattle.sql_queries.specs.Rises.{Rises}
-use Rattle.plant_tables.specs.DeskTableDefs.{table_defs_of}
+use Rattle.plant_tables.specs.{table_defs_of}
 use Rattle.plant_tables_read.proofs.FirstTablesRead.{prefix_more, all_loaded, all_rising}
 use Rattle.plant_tables_read.proofs.loaded.Loaded.read_all.Goals as goal
 

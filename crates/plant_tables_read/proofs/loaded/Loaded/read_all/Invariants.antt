@@ -1,10 +1,9 @@
 use Rattle.std.proofs.Common.{◌≡◌, ◌<◌, false, IsTrue, length}
 use Rattle.sqlite.specs.State.{HasCleanDisk, IsUnchanged, Survives}
 use Rattle.sqlite.specs.Held.{state}
-use Rattle.sql_queries.specs.Keys.{comes_before}
-use Rattle.sql_queries.specs.Reading.{Lists}
+use Rattle.sql_queries.specs.{comes_before, Lists}
 use Rattle.sql_queries.specs.Rises.{Rises}
-use Rattle.plant_tables.specs.DeskTableDefs.{table_defs_of}
+use Rattle.plant_tables.specs.{table_defs_of}
 use Rattle.plant_tables_read.proofs.FirstTablesRead.{Front}
 use Rattle.plant_tables_read.proofs.loaded.Loaded.read_all.Given as goal
 

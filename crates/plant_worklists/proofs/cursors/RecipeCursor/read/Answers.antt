@@ -1,7 +1,7 @@
 use Rattle.std.proofs.Common.{rules, ◌≡◌, None, length, arith}
 use Rattle.std.specs.List.{position_or_len}
 use Rattle.std.proofs.lemmas.Str.Pattern.{split_once_first}
-use Rattle.plant_worklists.specs.Cursors.{is_dot}
+use Rattle.plant_worklists.specs.{is_dot}
 use Rattle.plant_worklists.proofs.SmallNumbers.{no_recipe}
 use Rattle.plant_worklists.proofs.cursors.RecipeCursor.read.Goals as goal
 

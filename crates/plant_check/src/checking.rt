@@ -1,4 +1,4 @@
-//! The rules that are tested apart from the rows that break them.
+//! The rules on edges and recalls, which are tested apart from the rows that break them.
 ghost use Rattle.std.specs.Prelude.{◌≡◌, IfOk};
 ghost use Rattle.plant_tables_read.specs.{rows_listed};
 ghost use Rattle.plant_check.specs.Broken.{are_kept_recalls, obeys};
@@ -8,30 +8,9 @@ use crate::edges::are_kept_edges;
 use crate::history::{are_acyclic, movements_in};
 use crate::recalls::{are_fitting, recalls_read};
 use plant_base::{Movement, Recall};
-use plant_check_stock::{are_marks, are_numbers, are_recalls, are_times};
+use plant_check_stock::{are_marks, are_recalls};
 use plant_tables_read::DeskRows;
 use std::alloc::{AllocError, Global};
-
-/// Whether numbers and lines are those of commands, and moments don't fall. The only error is that memory was refused.
-#[tactic(auto, unfolding(plant_tables_read::specs::Collecting::rows_listed))]
-pub fn are_numbers_of(alloc: Global, rows: &DeskRows) -> Result<bool, AllocError>
-    ensures { IfOk result (λ b. b ≡ obeys Rule.Numbers (rows_listed rows.now)) }
-{
-    let movements = movements_in(alloc, rows.movements.as_slice())?;
-    let position = rows.meta.position;
-    let events = rows.events.as_slice();
-    if !are_numbers(alloc, position.seq, events, movements.as_slice())? {
-        return Ok(false);
-    }
-    are_times(
-        alloc,
-        position.at,
-        movements.as_slice(),
-        events,
-        rows.batches.as_slice(),
-        rows.holds.as_slice(),
-    )
-}
 
 /// Whether nothing was made from itself, and the edges that are kept are those of the movements. The only error is that memory
 /// was refused.

@@ -48,6 +48,6 @@ moments_exact at ms es batches holds =
     let booked = of_both Past (map mark_of_movement ms) (map mark_of_event es)
     (both (of_mapped Past mark_of_movement ms (all_by (λ (m : Movement). m.at) at ms)) (of_mapped Past mark_of_event es (all_by (λ (e : BatchEvent). e.at) at es))) in
     let released = of_mapped (λ (b : Batch). b.at ≤ at) batch_of_row batches (all_by (λ (b : BatchRow). b.batch.at) at batches) in
-    in_words (both (rising_exact (row_marks ms es)) (both (both booked released) (all_by (λ (h : Hold). h.at) at holds)))
-    (λ p. record { rising = subst AreRising (same_marks ms es) p.0; bookings = p.1.0.0; released = p.1.0.1; held = p.1.1 })
-    (λ m. (subst AreRising (sym (same_marks ms es)) m.rising, ((m.bookings, m.released), m.held)))
+    in_words (both (both (both booked released) (all_by (λ (h : Hold). h.at) at holds)) (rising_exact (row_marks ms es)))
+    (λ p. record { rising = subst AreRising (same_marks ms es) p.1; bookings = p.0.0.0; released = p.0.0.1; held = p.0.1 })
+    (λ m. (((m.bookings, m.released), m.held), subst AreRising (sym (same_marks ms es)) m.rising))

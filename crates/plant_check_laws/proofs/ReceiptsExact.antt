@@ -1,23 +1,45 @@
 -- The rule on receipts: their numbers were given and are apart, and their contents are contents.
-use Rattle.std.proofs.Common.{◌≡◌, ℕ, ◌≤◌, Bool, true, false, List, [], ◌∷◌, refl, ap, not, ◌==◌, if◌then◌else◌, Decides}
+use Rattle.std.proofs.Common.{◌≡◌, ◌∙◌, ℕ, suc, ◌≤◌, Bool, true, false, cond, List, [], ◌∷◌, filter, length, refl, ap, arith, ◌==◌, if◌then◌else◌, Decides, eq-eqb}
 use Rattle.std.specs.List.{AllByRecursion, list_all}
 use Rattle.std.specs.List.Sorted.{IsStrictlySortedBy}
+use Rattle.std.proofs.lemmas.Bool.Decides.{nat_tests}
 use Rattle.plant_base.specs.{is_content, is_content_byte, is_there, receipt_order, is_id, Receipt}
 use Rattle.plant_base.proofs.PutKeepsOrder.{all_weaker}
 use Rattle.plant_view.proofs.CommandsPreserveInvariant.{all_two}
-use Rattle.plant_view.proofs.TestsAndSums.{and_left, any_map}
+use Rattle.plant_view.proofs.TestsAndSums.{and_left}
 use Rattle.plant_invariant.specs.{HasReceiptValues, AreApart, AreValidReceipts}
 use Rattle.plant_check_stock.specs.{is_given, is_right_receipt, seqs_of, are_receipts}
-use Rattle.plant_check_stock.specs.Receipts.{are_distinct}
-use Rattle.plant_check_laws.proofs.ExactTests.{passing, le_exact, both, by_test, all_two_exact, none_exact}
+use Rattle.plant_check_laws.proofs.ExactTests.{passing, equal_exact, le_exact, both, by_test, in_words, all_exact, all_apart, all_joined}
+use Rattle.plant_check_laws.proofs.KeysApart.{AreApart as AreApartBy, one_left, apart_alone}
 
 -- the number of an accepted command
 pub given_exact : (greatest n : ℕ) → Decides (is_given greatest n) ((1 ≤ n) × (n ≤ greatest))
 given_exact greatest n = both (le_exact 1 n) (le_exact n greatest)
 
-apart_exact : (rs : List Receipt) → Decides (are_distinct (seqs_of rs)) (AreApart rs)
-apart_exact [] = ((λ e. tt), (λ a. refl))
-apart_exact (r ∷ rs) = both (by_test (ap not (any_map (λ m. r.seq == m) (λ (q : Receipt). q.seq) rs)) (none_exact (λ (q : Receipt). r.seq == q.seq) rs)) (apart_exact rs)
+-- a receipt has the number of another
+abbrev has_number_of : Receipt → Receipt → Bool
+has_number_of r q = q.seq == r.seq
+
+-- a number is as often among those of receipts as they have it
+counted : (n : ℕ) (rs : List Receipt) → length (filter (λ m. m == n) (seqs_of rs)) ≡ length (filter (λ (q : Receipt). q.seq == n) rs)
+counted n [] = refl
+counted n (q ∷ qs) = at (q.seq == n) (counted n qs)
+  where
+    at : {ms : List ℕ} {rs : List Receipt} (b : Bool) → length ms ≡ length rs → length (cond b (q.seq ∷ ms) ms) ≡ length (cond b (q ∷ rs) rs)
+    at true e = ap suc e
+    at false e = e
+
+same_number : (a b : ℕ) → (a == b) ≡ (b == a)
+same_number a b = grind (arith, nat_tests)
+
+-- none has that of another
+none_shares : (rs : List Receipt) → AreApartBy has_number_of rs → AreApart rs
+none_shares [] apart = tt
+none_shares (r ∷ rs) apart = (all_weaker _ _ (λ (q : Receipt) a. a.1) rs apart.0, none_shares rs apart.1)
+
+apart_both_ways : (rs : List Receipt) → AreApart rs → AreApartBy has_number_of rs
+apart_both_ways [] apart = tt
+apart_both_ways (r ∷ rs) apart = (all_weaker _ _ (λ (q : Receipt) a. (same_number q.seq r.seq ∙ a, a)) rs apart.0, apart_both_ways rs apart.1)
 
 abbrev AreGiven : ℕ → List Receipt → Type 0
 AreGiven greatest rs = AllByRecursion (λ r. (1 ≤ r.seq) × (r.seq ≤ greatest)) rs
@@ -26,9 +48,19 @@ abbrev HaveContents : List Receipt → Type 0
 HaveContents rs = AllByRecursion (λ r. is_content r.content ≡ true) rs
 
 pub receipts_exact : (greatest : ℕ) (rs : List Receipt) → Decides (are_receipts greatest rs) ((AreGiven greatest rs × HaveContents rs) × AreApart rs)
-receipts_exact greatest rs = both
-    (all_two_exact (is_right_receipt greatest) (λ r. (1 ≤ r.seq) × (r.seq ≤ greatest)) (λ r. is_content r.content ≡ true) (λ r. both (given_exact greatest r.seq) (passing (is_content r.content))) rs)
-    (apart_exact rs)
+receipts_exact greatest rs =
+    let IsGiven : Receipt → Type 0 = λ r. (1 ≤ r.seq) × (r.seq ≤ greatest) in
+    let IsContent : Receipt → Type 0 = λ r. is_content r.content ≡ true in
+    let IsAlone : Receipt → Type 0 = λ r. length (filter (has_number_of r) rs) ≡ 1 in
+    let own = λ (r : Receipt). eq-eqb r.seq r.seq refl in
+    let alone = λ (r : Receipt). by_test (ap (λ k. k == 1) (counted r.seq rs)) (equal_exact (length (filter (has_number_of r) rs)) 1) in
+    in_words
+    (all_exact (is_right_receipt greatest (seqs_of rs)) (λ r. IsGiven r × (IsContent r × IsAlone r)) (λ r. both (given_exact greatest r.seq) (both (passing (is_content r.content)) (alone r))) rs)
+    (λ a. let apart = all_apart IsGiven (λ r. IsContent r × IsAlone r) rs a in
+    let made = all_apart IsContent IsAlone rs apart.1 in
+    ((apart.0, made.0), none_shares rs (apart_alone has_number_of own (λ r q. same_number q.seq r.seq) rs made.1)))
+    (λ f. let alone = all_weaker _ IsAlone (λ r left. ap length left) rs (one_left has_number_of own rs (apart_both_ways rs f.1)) in
+    all_joined IsGiven (λ r. IsContent r × IsAlone r) rs f.0.0 (all_joined IsContent IsAlone rs f.0.1 alone))
 
 -- contents of receipts that pass aren't empty
 pub contents_there : (greatest : ℕ) (rs : List Receipt) → are_receipts greatest rs ≡ true → AllByRecursion (λ r. is_there r.content ≡ true) rs

@@ -1,6 +1,6 @@
 -- Rows break no rule exactly where they pass the test of each rule.
 use Rattle.std.proofs.Common.{◌≡◌, ◌∙◌, Bool, true, false, cond, List, [], ◌∷◌, Option, Some, None, is_some, refl, ap, ◌&&◌, not, find, if◌then◌else◌, Decides}
-use Rattle.std.proofs.lemmas.Bool.{false≢true}
+use Rattle.std.proofs.lemmas.Bool.{false≢true, and_from}
 use Rattle.std.specs.List.{list_all}
 use Rattle.plant_view.specs.{edges_among}
 use Rattle.plant_check_stock.specs.{are_marks, are_movements, are_numbers, are_recalls, are_times}
@@ -8,7 +8,7 @@ use Rattle.plant_tables_columns.specs.{only_meta}
 use Rattle.plant_tables_read.specs.{contents_loaded, Loaded, Rows, rows_from}
 use Rattle.plant_check.specs.{are_whole, movements_in, are_acyclic, are_kept_edges, are_fitting, recalls_read, obeys, tested_rules, first_broken_of, broken_rows, first_broken, Rule}
 use Rattle.plant_check.specs.declared.rule.Rule.TheVariants as rule
-use Rattle.plant_check_laws.proofs.ExactTests.{passing, both, in_words}
+use Rattle.plant_check_laws.proofs.ExactTests.{passing, both}
 
 pub record PassesAll (r : Rows) : Type 0 where
   pub classes : obeys rule.Classes r ≡ true
@@ -39,59 +39,36 @@ all_passed r =
     let descended = both (passing (are_acyclic (edges_among ms))) (passing (are_kept_edges r.meta.schema r.edges ms)) in
     let recalls = recalls_read r.recalls in
     let recalled = both (passing (are_fitting r.recalls)) (both (passing (are_recalls at r.lots recalls)) (passing (are_marks recalls ms r.marks))) in
-    in_words
-    (both (one rule.Classes) (both (one rule.Recipes) (both (one rule.Orders) (both (one rule.Batches) (both (one rule.Stocks) (both (one rule.Lots)
-    (both moved (both (one rule.Events) (both numbered (both descended (both (one rule.Receipts) (both recalled (passing true)))))))))))))
-    (λ q. let done = q.1.1.1.1.1.1 in record {
-      classes = q.0;
-      recipes = q.1.0;
-      orders = q.1.1.0;
-      batches = q.1.1.1.0;
-      stocks = q.1.1.1.1.0;
-      lots = q.1.1.1.1.1.0;
-      whole = done.0.0;
-      movements = done.0.1;
-      events = done.1.0;
-      numbers = done.1.1.0.0;
-      times = done.1.1.0.1;
-      descent = done.1.1.1.0.0;
-      edges = done.1.1.1.0.1;
-      receipts = done.1.1.1.1.0;
-      fitting = done.1.1.1.1.1.0.0;
-      recalls = done.1.1.1.1.1.0.1.0;
-      marks = done.1.1.1.1.1.0.1.1;
-    })
-    (λ p. (
-      p.classes,
-      (
-        p.recipes,
-        (
-          p.orders,
-          (
-            p.batches,
-            (
-              p.stocks,
-              (
-                p.lots,
-                (
-                  (p.whole, p.movements),
-                  (
-                    p.events,
-                    (
-                      (p.numbers, p.times),
-                      (
-                        (p.descent, p.edges),
-                        (p.receipts, ((p.fitting, (p.recalls, p.marks)), refl)),
-                      ),
-                    ),
-                  ),
-                ),
-              ),
-            ),
-          ),
-        ),
-      ),
-    ))
+    let exact =
+    both (one rule.Classes) (both (one rule.Recipes) (both (one rule.Orders) (both (one rule.Batches) (both (one rule.Stocks) (both (one rule.Lots)
+    (both moved (both (one rule.Events) (both numbered (both descended (both (one rule.Receipts) (both recalled (passing true)))))))))))) in (
+      (λ e. let q = exact.0 e in let done = q.1.1.1.1.1.1 in record {
+        classes = q.0;
+        recipes = q.1.0;
+        orders = q.1.1.0;
+        batches = q.1.1.1.0;
+        stocks = q.1.1.1.1.0;
+        lots = q.1.1.1.1.1.0;
+        whole = done.0.0;
+        movements = done.0.1;
+        events = done.1.0;
+        numbers = done.1.1.0.0;
+        times = done.1.1.0.1;
+        descent = done.1.1.1.0.0;
+        edges = done.1.1.1.0.1;
+        receipts = done.1.1.1.1.0;
+        fitting = done.1.1.1.1.1.0.0;
+        recalls = done.1.1.1.1.1.0.1.0;
+        marks = done.1.1.1.1.1.0.1.1;
+      }),
+      (λ p.
+          let moved = and_from _ _ p.whole p.movements in
+          let numbered = and_from _ _ p.numbers p.times in
+          let descended = and_from _ _ p.descent p.edges in
+          let recalled = and_from _ _ p.fitting (and_from _ _ p.recalls p.marks) in
+          and_from _ _ p.classes (and_from _ _ p.recipes (and_from _ _ p.orders (and_from _ _ p.batches (and_from _ _ p.stocks (and_from _ _ p.lots
+          (and_from _ _ moved (and_from _ _ p.events (and_from _ _ numbered (and_from _ _ descended (and_from _ _ p.receipts (and_from _ _ recalled refl)))))))))))),
+    )
 
 -- ---- no rule is broken exactly where facts hold
 

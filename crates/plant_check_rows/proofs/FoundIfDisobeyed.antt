@@ -1,8 +1,8 @@
 -- A rule is found exactly where the rows don't obey it, and most with a row.
-use Rattle.std.proofs.Common.{◌≡◌, ◌∙◌, Bool, true, false, List, length, map, Option, Some, None, is_some, Result, Ok, Err, refl, ap, ◌==◌, filter, is_none, if◌then◌else◌}
+use Rattle.std.proofs.Common.{◌≡◌, ◌∙◌, ℕ, Bool, true, false, nat_le, List, [], ◌∷◌, length, map, Option, Some, None, is_some, Result, Ok, Err, refl, ap, ◌==◌, filter, is_none, if◌then◌else◌}
 use Rattle.std.proofs.lemmas.Bool.{false≢true}
 use Rattle.std.specs.List.{list_all}
-use Rattle.plant_base.specs.{same, BatchEvent, BatchRow, ControlLine, Definition, Job, Lot, MasterLine, Movement, Recipe, Refusal, Sublot}
+use Rattle.plant_base.specs.{is_content, same, BatchEvent, BatchRow, ControlLine, Definition, Hold, Job, Lot, MasterLine, Movement, Recipe, Refusal, Sublot}
 use Rattle.plant_recipe.specs.{is_well_formed, run_of}
 use Rattle.plant_recipe.specs.declared.progress.Progress.{Progress}
 use Rattle.plant_stock.specs.{goes_to, comes_from}
@@ -10,7 +10,7 @@ use Rattle.plant_view.specs.{batch_by, is_defined, is_known, is_size_of_recipe, 
 use Rattle.plant_tables_columns.specs.{movement_from, BookedRow}
 use Rattle.plant_tables_read.specs.{Rows}
 use Rattle.plant_check_plans.specs.{control_asked_for, is_control, is_row_among, is_right_batch, is_class_among, is_run, kept_progress, has_right_run, recipe_among, row_of_order, is_started, is_right_order, are_numbered, is_recipe_among, is_whole_recipe}
-use Rattle.plant_check_stock.specs.{is_there, is_batch_there, is_of_right_definition, is_of_right_merge, names_known, is_right_movement}
+use Rattle.plant_check_stock.specs.{are_by, are_lines, are_numbers, has_right_number, is_apart, is_entered_before, is_given, is_next_line, is_right_receipt, seqs_of, is_there, is_batch_there, is_of_right_definition, is_of_right_merge, names_known, is_right_movement}
 use Rattle.plant_check.specs.{movements_in, obeys, has_right_stock, are_from_zero, sublots_among, is_lot_among, is_born, is_right_lot, is_right_sublot, Rule}
 use Rattle.plant_check.specs.declared.rule.Rule.TheVariants as rule
 use Rattle.plant_check_rows.specs.{run_found, run_fault, row_fault, is_broken_by_row, IsFoundByRow, IsFoundWhereBroken, Finding, RowFault, lot_fault, sublot_fault, naming_fault, movement_fault, size_fault, order_fault, batch_fault, line_fault, recipe_fault, stock_fault}
@@ -69,6 +69,27 @@ has_run_none : (control : List ControlLine) (events : List BatchEvent) (b : Batc
 unfolding has_right_run
 has_run_none control events b = run_none (run_of (phases_among control b.batch.id) (events_among events b.batch.id)) b
 
+-- ---- numbers and moments
+
+lines_none : (before : Option Movement) (ms : List Movement) → is_none (line_fault_in before ms) ≡ are_lines before ms
+lines_none before [] = refl
+lines_none before (m ∷ ms) = both_none _ _ _ _ (reported_none (is_next_line before m) _) (lines_none (Some m) ms)
+
+number_none : (greatest : ℕ) (events : List BatchEvent) (ms : List Movement) (m : Movement) → is_none (number_fault greatest events ms m) ≡ has_right_number greatest events ms m
+unfolding has_right_number
+number_none greatest events ms m = three_none (is_given greatest m.seq) (is_apart events m) (is_entered_before ms m.seq (comes_from m.kind m.lot m.sub)) _ _ _
+
+pub numbers_none : (greatest : ℕ) (events : List BatchEvent) (ms : List Movement) → is_none (number_fault_in greatest events ms) ≡ are_numbers greatest events ms
+numbers_none greatest events ms =
+    both_none _ _ _ _ (lines_none None ms)
+    (both_none _ _ _ _ (first_none _ (has_right_number greatest events ms) (number_none greatest events ms) ms) (first_none _ (λ e. is_given greatest e.seq) (λ e. reported_none _ _) events))
+
+pub late_none : (at : ℕ) (ms : List Movement) (es : List BatchEvent) (batches : List BatchRow) (holds : List Hold) → is_none (late_fault_in at ms es batches holds) ≡ are_by at ms es batches holds
+late_none at ms es batches holds =
+    both_none _ _ _ _ (first_none _ (λ m. nat_le m.at at) (λ m. reported_none _ _) ms)
+    (both_none _ _ _ _ (first_none _ (λ e. nat_le e.at at) (λ e. reported_none _ _) es)
+    (both_none _ _ _ _ (first_none _ (λ b. nat_le b.batch.at at) (λ b. reported_none _ _) batches) (first_none _ (λ h. nat_le h.at at) (λ h. reported_none _ _) holds)))
+
 -- ---- rules
 
 pub found_by_row : IsFoundByRow
@@ -96,7 +117,10 @@ found_by_row rule.Events r by_row =
     (first_none _ (λ e. is_row_among r.batches e.batch) (λ e. reported_none _ _) r.events)
 found_by_row rule.Numbers r by_row = absurd (false≢true by_row)
 found_by_row rule.Descent r by_row = absurd (false≢true by_row)
-found_by_row rule.Receipts r by_row = absurd (false≢true by_row)
+found_by_row rule.Receipts r by_row =
+    let seqs = seqs_of r.receipts in
+    let given = r.meta.position.seq in
+    first_none _ (is_right_receipt given seqs) (λ x. three_none (is_given given x.seq) (is_content x.content) (length (filter (λ n. n == x.seq) seqs) == 1) _ _ _) r.receipts
 found_by_row rule.Recalls r by_row = absurd (false≢true by_row)
 
 -- of what was reported

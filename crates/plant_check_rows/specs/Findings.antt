@@ -3,6 +3,7 @@ use Rattle.std.specs.Prelude.{◌≡◌, ℕ, Bool, true, false, not, if◌then�
 use Rattle.plant_base.specs.{Movement, Recall}
 use Rattle.plant_tables_columns.specs.{only_meta}
 use Rattle.plant_tables_read.specs.{contents_loaded, DeskRows, Loaded, Rows, rows_from, rows_listed}
+use Rattle.plant_check_stock.specs.{row_mark_of, row_mark_of_event}
 use Rattle.plant_check.specs.{movements_in, recalls_read, obeys, tested_rules, first_broken, Rule}
 use Rattle.plant_check.specs.declared.rule.Rule.TheVariants as rule
 use Rattle.plant_check_rows.specs.First.{or_fault, RowFault}
@@ -11,7 +12,7 @@ use Rattle.plant_check_rows.specs.Events.{event_fault_in}
 use Rattle.plant_check_rows.specs.Lots.{lot_fault_in}
 use Rattle.plant_check_rows.specs.Marks.{mark_fault_in}
 use Rattle.plant_check_rows.specs.Movements.{movement_fault_in}
-use Rattle.plant_check_rows.specs.Numbers.{number_fault_in, late_fault_in, fall_fault_in, event_fall_fault_in}
+use Rattle.plant_check_rows.specs.Numbers.{number_fault_in, late_fault_in, movement_before, event_before, fall_fault_in}
 use Rattle.plant_check_rows.specs.Plans.{class_fault_in, order_fault_in, batch_fault_in}
 use Rattle.plant_check_rows.specs.Recalls.{recall_fault_in}
 use Rattle.plant_check_rows.specs.Receipts.{receipt_fault_in}
@@ -49,7 +50,7 @@ abbrev pub numbered_fault_in : Rows → List Movement → Option RowFault
 numbered_fault_in r ms =
     or_fault (number_fault_in r.meta.position.seq r.events ms)
     (or_fault (late_fault_in r.meta.position.at ms r.events r.batches r.holds)
-    (or_fault (fall_fault_in (0, 0) ms) (event_fall_fault_in (0, 0) r.events)))
+    (or_fault (fall_fault_in row_mark_of movement_before (0, 0) ms) (fall_fault_in row_mark_of_event event_before (0, 0) r.events)))
 
 -- the row that breaks the rule of recalls, or the mark that breaks it
 abbrev pub recalled_fault_in : Rows → List Recall → List Movement → Option RowFault
@@ -107,11 +108,10 @@ first_rule (findings.Rows t) = head t.rules.items
 abbrev pub IsFoundWhereBroken : Type 0
 IsFoundWhereBroken = (tested : Rule) (r : Rows) → is_none (finding_of tested r) ≡ obeys tested r
 
--- where the rule is broken, a row breaks it that is known: all but those on numbers, descent, receipts and recalls
+-- where the rule is broken, a row breaks it that is known: all but those on numbers, descent and recalls
 abbrev pub is_broken_by_row : Rule → Bool
 is_broken_by_row rule.Numbers = false
 is_broken_by_row rule.Descent = false
-is_broken_by_row rule.Receipts = false
 is_broken_by_row rule.Recalls = false
 is_broken_by_row _ = true
 

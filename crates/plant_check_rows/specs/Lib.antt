@@ -27,7 +27,7 @@ pub use Stocks.{stock_fault}
 pub use Lots.{lot_fault, sublot_fault}
 pub use Movements.{movement_fault, naming_fault}
 pub use Events.{run_fault, run_found}
-pub use Numbers.{event_before, event_fall_fault_in, fall_fault_in, line_fault_in, movement_before}
+pub use Numbers.{fall_fault_in, given_fault, late_fault_in, line_fault_in, number_fault, number_fault_in}
 pub use ValueRules.{allows_null, allows_text, obeys}
 pub use ColumnRules.{rules_of}
 pub use Values.{AreUnreadIfBad, bad_value, first_bad_value, first_unread, first_unread_of}

@@ -2,7 +2,7 @@
 use Rattle.std.specs.Prelude.{ℕ, nat_le, List, [], ◌∷◌, Option, Some, None}
 use Rattle.plant_base.specs.{BatchEvent, BatchRow, Hold, Movement}
 use Rattle.plant_stock.specs.{comes_from}
-use Rattle.plant_check_stock.specs.{is_given, is_next_line, is_apart, is_entered_before, row_mark_of, row_mark_of_event, is_no_later}
+use Rattle.plant_check_stock.specs.{is_given, is_next_line, is_apart, is_entered_before, is_no_later}
 use Rattle.plant_check_rows.specs.Keys.{booked_key, id_key, number_key, hold_key}
 use Rattle.plant_check_rows.specs.Movements.{movement_as}
 use Rattle.plant_check_rows.specs.First.{Column, Found, Key, RowFault, Table, Wanted, in_column, fault_unless, or_fault, first_reported}
@@ -77,22 +77,11 @@ late_fault_in at ms es batches holds =
 abbrev pub movement_before : ℕ × ℕ → Movement → RowFault
 movement_before before m = movement_as m (Some column.At) (found.Number m.at) (wanted.NotBefore before.1)
 
--- the movement, where it is earlier than this row, which has a lower number
-abbrev pub fall_fault : ℕ × ℕ → Movement → Option RowFault
-fall_fault before m = fault_unless (is_no_later before (row_mark_of m)) (movement_before before m)
-
--- the first movement that is earlier than the one before it, which has a lower number
-abbrev pub fall_fault_in : ℕ × ℕ → List Movement → Option RowFault
-fall_fault_in before [] = None
-fall_fault_in before (m ∷ ms) = or_fault (fall_fault before m) (fall_fault_in (row_mark_of m) ms)
-
--- the same of events
+-- and the event
 abbrev pub event_before : ℕ × ℕ → BatchEvent → RowFault
 event_before before e = event_as e column.At (found.Number e.at) (wanted.NotBefore before.1)
 
-abbrev pub event_fall_fault : ℕ × ℕ → BatchEvent → Option RowFault
-event_fall_fault before e = fault_unless (is_no_later before (row_mark_of_event e)) (event_before before e)
-
-abbrev pub event_fall_fault_in : ℕ × ℕ → List BatchEvent → Option RowFault
-event_fall_fault_in before [] = None
-event_fall_fault_in before (e ∷ es) = or_fault (event_fall_fault before e) (event_fall_fault_in (row_mark_of_event e) es)
+-- the first row that is earlier than the one before it, which has a lower number
+abbrev pub fall_fault_in : {R : Type 0} → (R → ℕ × ℕ) → (ℕ × ℕ → R → RowFault) → ℕ × ℕ → List R → Option RowFault
+fall_fault_in mark_of early before [] = None
+fall_fault_in mark_of early before (r ∷ rs) = or_fault (fault_unless (is_no_later before (mark_of r)) (early before r)) (fall_fault_in mark_of early (mark_of r) rs)

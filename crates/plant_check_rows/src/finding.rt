@@ -12,7 +12,7 @@ use crate::events::event_fault;
 use crate::fault::RowFault;
 use crate::lots::lot_fault;
 use crate::movements::movement_fault;
-use crate::numbers::number_fault;
+use crate::numbers::{are_right_numbers, number_fault};
 use crate::plans::{batch_fault, class_fault, order_fault};
 use crate::recalls::recall_fault;
 use crate::receipts::receipt_fault;
@@ -20,8 +20,7 @@ use crate::recipes::recipe_fault;
 use crate::stocks::stock_fault;
 use crate::values::value_fault_in;
 use plant_check::Rule;
-use plant_check::checking::{are_edges_of, are_numbers_of, are_right_recalls};
-use plant_check_stock::are_receipts;
+use plant_check::checking::{are_edges_of, are_right_recalls};
 use plant_tables_read::{DeskRows, Loaded, has_meta, rows_of};
 use std::alloc::{AllocError, Global};
 
@@ -127,9 +126,8 @@ fn obeys(alloc: Global, rule: Rule, rows: &DeskRows) -> Result<bool, AllocError>
     ensures { IfOk result (λ b. b ≡ obeys rule (rows_listed rows.now)) }
 {
     match rule {
-        Rule::Numbers => are_numbers_of(alloc, rows),
+        Rule::Numbers => are_right_numbers(alloc, rows),
         Rule::Descent => are_edges_of(alloc, rows),
-        Rule::Receipts => are_receipts(alloc, rows.meta.position.seq, rows.receipts.as_slice()),
         Rule::Recalls => are_right_recalls(alloc, rows),
         _ => passes_by_row(alloc, rule, rows),
     }

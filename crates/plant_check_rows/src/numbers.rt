@@ -1,15 +1,14 @@
 //! Movements, events, batches and holds whose number or moment breaks a rule.
-ghost use Rattle.std.specs.Prelude.{◌≡◌, List, false, IfOk, IfSome, None};
-ghost use Rattle.plant_base.specs.{BatchEvent as BatchEventRow, Movement as MovementRow};
-ghost use Rattle.plant_check_stock.specs.{is_no_later, never_fall, row_marks};
-ghost use Rattle.plant_check_rows.specs.Numbers.{event_as, event_fall_fault, event_fall_fault_in};
-ghost use Rattle.plant_check_rows.specs.Numbers.{fall_fault, fall_fault_in, late_fault_in};
+ghost use Rattle.std.specs.Prelude.{◌≡◌, ℕ, ◌++◌, List, false, IfOk, IfSome, None, map};
+ghost use Rattle.plant_check_stock.specs.{are_by, are_numbers, is_no_later, never_fall};
+ghost use Rattle.plant_check_rows.specs.First.{first_reported};
+ghost use Rattle.plant_check_rows.specs.Numbers.{event_as, fall_fault_in, late_fault_in};
 ghost use Rattle.plant_check_rows.specs.Numbers.{line_fault, line_fault_in, moment_fault};
 ghost use Rattle.plant_check_rows.specs.Numbers.{number_as, number_fault, number_fault_in};
-ghost use Rattle.plant_tables_read.specs.{rows_listed};
-ghost use Rattle.plant_check.specs.{movements_in};
 ghost use Rattle.plant_check_rows.specs.Findings.{numbered_fault_in};
-ghost use Rattle.plant_check_rows.specs.First.{first_reported};
+ghost use Rattle.plant_tables_read.specs.{rows_listed};
+ghost use Rattle.plant_check.specs.{movements_in, obeys};
+ghost use Rattle.plant_check.specs.declared.rule.Rule.TheVariants as rule;
 
 use crate::fault::{Column, Found, Key, RowFault, Table, Wanted};
 use crate::first::{RowRule, fault_unless, first_fault, in_column, or_fault};
@@ -19,6 +18,7 @@ use grouped_rows::Grouped;
 use plant_base::{BatchEvent, BatchRow, Hold, Moment, Movement};
 use plant_check::history::movements_in;
 use plant_check_stock::keys::{EnteredSublots, EventNumbers, has_event};
+use plant_check_stock::moments_never_fall;
 use plant_check_stock::numbering::{is_entered_before, is_given, is_next_line};
 use plant_stock::source;
 use plant_tables_read::DeskRows;
@@ -240,76 +240,82 @@ fn is_no_later(before: (u64, u64), row: (u64, u64)) -> bool
     before.0 >= row.0 || before.1 <= row.1
 }
 
-/// The movement, where it is earlier than this row, which has a lower number.
-fn fall_fault(before: (u64, u64), movement: &Movement) -> Option<RowFault>
-    ensures { result ≡ fall_fault before movement.now }
-{
-    let fault = movement_as(
-        movement,
-        Some(Column::At),
-        Found::Number(movement.at.get()),
-        Wanted::NotBefore(before.1),
-    );
-    let row = (movement.seq, movement.at.get());
-    fault_unless(is_no_later(before, row), fault)
+/// A row with a number and a moment.
+trait Marked {
+    ghost use Rattle.std.specs.Prelude.{◌≡◌, ℕ};
+    ghost use Rattle.plant_check_rows.specs.First.{RowFault as Reported};
+
+    /// Its number and its moment.
+    ghost mark_of: { Self → ℕ × ℕ };
+
+    /// That it is earlier than this row.
+    ghost early: { ℕ × ℕ → Self → Reported };
+
+    /// Its number and its moment.
+    fn mark(&self) -> (u64, u64)
+        ensures { result ≡ mark_of self.now };
+
+    /// That it is earlier than this row.
+    fn as_early(&self, before: (u64, u64)) -> RowFault
+        ensures { result ≡ early before self.now };
 }
 
-/// The first movement that is earlier than the one before it, which has a lower number.
-fn first_falling_movement(movements: &[Movement]) -> Option<RowFault>
-    ensures { result ≡ fall_fault_in (0, 0) movements.now }
+impl Marked for Movement {
+    ghost use Rattle.plant_check_stock.specs.{row_mark_of};
+    ghost use Rattle.plant_check_rows.specs.Numbers.{movement_before};
+
+    ghost mark_of = { row_mark_of };
+
+    ghost early = { movement_before };
+
+    fn mark(&self) -> (u64, u64) {
+        (self.seq, self.at.get())
+    }
+
+    fn as_early(&self, before: (u64, u64)) -> RowFault {
+        let found = Found::Number(self.at.get());
+        movement_as(self, Some(Column::At), found, Wanted::NotBefore(before.1))
+    }
+}
+
+impl Marked for BatchEvent {
+    ghost use Rattle.plant_check_stock.specs.{row_mark_of_event};
+    ghost use Rattle.plant_check_rows.specs.Numbers.{event_before};
+
+    ghost mark_of = { row_mark_of_event };
+
+    ghost early = { event_before };
+
+    fn mark(&self) -> (u64, u64) {
+        (self.seq, self.at.get())
+    }
+
+    fn as_early(&self, before: (u64, u64)) -> RowFault {
+        let found = Found::Number(self.at.get());
+        event_as(self, Column::At, found, Wanted::NotBefore(before.1))
+    }
+}
+
+/// The first row that is earlier than the one before it, which has a lower number.
+fn first_fall<R: Marked>(rows: &[R]) -> Option<RowFault>
+    ensures { result ≡ fall_fault_in R.mark_of R.early (0, 0) rows.now }
 {
     let mut before = (0, 0);
-    for movement in movements {
-        if let Some(fault) = fall_fault(before, movement) {
-            return Some(fault);
+    for row in rows {
+        if !is_no_later(before, row.mark()) {
+            return Some(row.as_early(before));
         }
-        before = (movement.seq, movement.at.get());
+        before = row.mark();
     }
     None
 }
 
-/// The event, where it is earlier than this row, which has a lower number.
-fn event_fall_fault(before: (u64, u64), event: &BatchEvent) -> Option<RowFault>
-    ensures { result ≡ event_fall_fault before event.now }
+/// The same row. It breaks the rule of moments, whatever other rows there are.
+fn falling<R: Marked>(rows: &[R]) -> Option<RowFault>
+    ensures reported { result ≡ fall_fault_in R.mark_of R.early (0, 0) rows.now }
+    ensures breaks { IfSome result (λ _. (others more : List (ℕ × ℕ)) → never_fall (others ++ (map R.mark_of rows.now ++ more)) ≡ false) }
 {
-    let fault = event_as(
-        event,
-        Column::At,
-        Found::Number(event.at.get()),
-        Wanted::NotBefore(before.1),
-    );
-    let row = (event.seq, event.at.get());
-    fault_unless(is_no_later(before, row), fault)
-}
-
-/// The first event that is earlier than the one before it, which has a lower number.
-fn first_falling_event(events: &[BatchEvent]) -> Option<RowFault>
-    ensures { result ≡ event_fall_fault_in (0, 0) events.now }
-{
-    let mut before = (0, 0);
-    for event in events {
-        if let Some(fault) = event_fall_fault(before, event) {
-            return Some(fault);
-        }
-        before = (event.seq, event.at.get());
-    }
-    None
-}
-
-/// The same movement. It breaks the rule of moments, whatever the events.
-fn falling_movement(movements: &[Movement]) -> Option<RowFault>
-    ensures reported { result ≡ fall_fault_in (0, 0) movements.now }
-    ensures breaks { IfSome result (λ _. (events : List BatchEventRow) → never_fall (row_marks movements.now events) ≡ false) }
-{
-    first_falling_movement(movements)
-}
-
-/// The same event. It breaks the rule of moments, whatever the movements.
-fn falling_event(events: &[BatchEvent]) -> Option<RowFault>
-    ensures reported { result ≡ event_fall_fault_in (0, 0) events.now }
-    ensures breaks { IfSome result (λ _. (movements : List MovementRow) → never_fall (row_marks movements events.now) ≡ false) }
-{
-    first_falling_event(events)
+    first_fall(rows)
 }
 
 /// The first row whose number or moment breaks the rule: a number that wasn't given, or else a moment that is later than the
@@ -330,6 +336,59 @@ pub(crate) fn number_fault(alloc: Global, rows: &DeskRows) -> Result<Option<RowF
         rows.batches.as_slice(),
         rows.holds.as_slice(),
     )?;
-    let fall = or_fault(falling_movement(movements), falling_event(events));
+    let fall = or_fault(falling(movements), falling(events));
     Ok(or_fault(number, or_fault(late, fall)))
+}
+
+/// Whether numbers and lines are those of commands: whether no row breaks the rule on them. The only error is that memory was refused.
+#[tactic(auto, using(crate::proofs::FoundIfDisobeyed::numbers_none))]
+fn are_numbers(
+    alloc: Global,
+    greatest: u64,
+    events: &[BatchEvent],
+    movements: &[Movement],
+) -> Result<bool, AllocError>
+    ensures { IfOk result (λ b. b ≡ are_numbers greatest events.now movements.now) }
+{
+    Ok(wrong_number(alloc, greatest, events, movements)?.is_none())
+}
+
+/// Whether no row is later than the desk's moment. The only error is that memory was refused.
+#[tactic(auto, using(crate::proofs::FoundIfDisobeyed::late_none))]
+fn are_by(
+    alloc: Global,
+    at: Moment,
+    movements: &[Movement],
+    events: &[BatchEvent],
+    batches: &[BatchRow],
+    holds: &[Hold],
+) -> Result<bool, AllocError>
+    ensures { IfOk result (λ b. b ≡ are_by at movements.now events.now batches.now holds.now) }
+{
+    Ok(late_fault(alloc, at, movements, events, batches, holds)?.is_none())
+}
+
+/// Whether numbers and lines are those of commands, no moment is later than the desk's, and moments don't fall. The only error is that
+/// memory was refused.
+#[tactic(auto, unfolding(plant_tables_read::specs::Collecting::rows_listed))]
+pub(crate) fn are_right_numbers(alloc: Global, rows: &DeskRows) -> Result<bool, AllocError>
+    ensures { IfOk result (λ b. b ≡ obeys rule.Numbers (rows_listed rows.now)) }
+{
+    let list = movements_in(alloc, rows.movements.as_slice())?;
+    let (movements, events) = (list.as_slice(), rows.events.as_slice());
+    if !are_numbers(alloc, rows.meta.position.seq, events, movements)? {
+        return Ok(false);
+    }
+    let (batches, holds) = (rows.batches.as_slice(), rows.holds.as_slice());
+    if !are_by(
+        alloc,
+        rows.meta.position.at,
+        movements,
+        events,
+        batches,
+        holds,
+    )? {
+        return Ok(false);
+    }
+    moments_never_fall(alloc, movements, events)
 }

@@ -1,4 +1,3 @@
-pub mod CountedOnce
 pub mod MarksByRecall
 pub mod SetsOfKeys
 pub mod SublotTests

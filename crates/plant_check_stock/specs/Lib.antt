@@ -5,7 +5,7 @@ pub mod Recalls
 pub mod Receipts
 pub mod Times
 pub use Marks.{are_marks, are_same_marks}
-pub use Movements.{are_movements, are_of_one, are_parts, is_asked_for, is_batch_there, is_merged, is_of_right_definition, is_of_right_merge, is_there, is_yielded, lot_among, names_known, parts_of}
+pub use Movements.{are_distinct, are_movements, are_of_one, are_parts, is_asked_for, is_batch_there, is_merged, is_of_right_definition, is_of_right_merge, is_there, is_yielded, lot_among, names_known, parts_of}
 unfoldable pub use Movements.{is_right_movement}
 pub use Numbering.{are_lines, are_numbers, is_apart, is_entered_before, is_given, is_next_line, is_next_part}
 unfoldable pub use Numbering.{has_right_number}

@@ -30,7 +30,7 @@ are_by at ms es batches holds =
     && list_all (λ h. nat_le h.at at) holds
 
 abbrev pub are_times : ℕ → List Movement → List BatchEvent → List BatchRow → List Hold → Bool
-are_times at ms es batches holds = never_fall (row_marks ms es) && are_by at ms es batches holds
+are_times at ms es batches holds = are_by at ms es batches holds && never_fall (row_marks ms es)
 
 -- ---- in the order of the numbers
 

@@ -1,5 +1,5 @@
-//! What the rule on movements asks of each of them in tables that a desk has written, and the rules on numbers, moments, receipts
-//! and recalls, each as a test.
+//! What the rules on movements, numbers, moments and receipts ask of a row in tables that a desk has written, and the rules on recalls
+//! and falling moments, each as a test.
 //!
 //! Other rows are looked up by their key.
 #![tactic(auto)]
@@ -13,7 +13,5 @@ pub mod receipts;
 mod times;
 
 pub use marks::{are_marks, marks_within};
-pub use numbering::are_numbers;
 pub use recalls::are_recalls;
-pub use receipts::are_receipts;
-pub use times::are_times;
+pub use times::moments_never_fall;

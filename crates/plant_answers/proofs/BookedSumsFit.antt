@@ -4,8 +4,7 @@ use Rattle.std.proofs.lemmas.List.Sums.{sum_by-le-sum_by}
 use Rattle.plant_base.specs.{edge_eq, State, same, EdgeKind, EdgeRow, Movement, MovementKind}
 use Rattle.plant_base.specs.declared.rows.EdgeKind.TheVariants.{LotToBatch, BatchToLot, LotToLot}
 use Rattle.plant_base.specs.declared.rows.MovementKind.TheVariants.{Consumed, Produced, Split, Merged}
-use Rattle.plant_base.proofs.KeyOrders.{same_itself}
-use Rattle.plant_base.proofs.PutKeepsOrder.{all_weaker}
+use Rattle.plant_view.proofs.ListLemmas.{same_itself, all_weaker}
 use Rattle.plant_stock.specs.{goes_to, comes_from, entered, left}
 use Rattle.plant_view.specs.{edge_row_by}
 use Rattle.plant_view.specs.DecisionInvariant.{DecisionInvariant}

@@ -11,15 +11,13 @@ use Rattle.plant_base.specs.{edge_eq, edge_order, edge_total, State, same, EdgeK
 use Rattle.plant_base.specs.declared.rows.EdgeKind.TheVariants as edge
 use Rattle.plant_base.specs.declared.rows.MovementKind.TheVariants.{Consumed, Produced, Split, Merged}
 use Rattle.plant_base.proofs.EdgeIsItsKey.{one_edge}
-use Rattle.plant_base.proofs.KeyOrders.{same_itself}
-use Rattle.plant_base.proofs.PutKeepsOrder.{map_alike}
+use Rattle.plant_view.proofs.ListLemmas.{same_itself, map_alike, all_of, filtered_passes}
 use Rattle.plant_trace.specs.{node_cmp, node_eq, node_total, Node}
 use Rattle.plant_trace.specs.declared.node.Node.TheVariants as node
 use Rattle.plant_trace.proofs.LeadsIsReach.{none_in}
 use Rattle.plant_trace.proofs.NodeOrder.{node_eq_exact}
 use Rattle.plant_view.specs.{batch_by, edge_row_by, edge_row_of, edge_rows, ends_by, put_all, is_named, movements_of}
 use Rattle.plant_view.proofs.Membership.{all_in, filter_in, filter_from, flat_in, flat_from, map_in, map_from, one_list, put_all_from, sorted_put_all}
-use Rattle.plant_view.proofs.RowsInTurn.{all_of, filtered_passes}
 use Rattle.plant_worklists.specs.{movements_into, other_lot}
 use Rattle.plant_answers.specs.{Fits, booked_at, booked_if, bookings_around, counted, movements_at, summed, reported_at, reported_by, total_along, amount_of, booked_along, booked_edge, edges_between, is_among, is_between, is_made}
 use Rattle.plant_messages.specs.{BookedEdge}

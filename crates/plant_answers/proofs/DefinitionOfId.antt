@@ -1,7 +1,6 @@
 -- A definition that was found is the one of its id.
 use Rattle.std.proofs.Common.{◌≡◌, ◌∙◌, List, ℕ, Bool, true, false, cond, Option, Some, None, IfSome, refl, sym, ap}
-use Rattle.plant_base.proofs.FindIsFirst.{found_passes}
-use Rattle.plant_base.proofs.KeyOrders.{same_id}
+use Rattle.plant_view.proofs.ListLemmas.{found_passes, same_id}
 use Rattle.plant_base.specs.{State, definition_at, same, Definition}
 use Rattle.plant_answers.specs.{last_one}
 

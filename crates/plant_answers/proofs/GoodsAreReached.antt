@@ -3,9 +3,7 @@ use Rattle.std.proofs.Common.{◌≡◌, ◌∙◌, ◌<◌, ℕ, Bool, true, fa
 use Rattle.std.specs.List.Sorted.{IsStrictlySortedBy}
 use Rattle.std.proofs.lemmas.Bool.Decides.{nat_tests}
 use Rattle.plant_base.specs.{State, same, id_cmp, lot_at, put, Lot}
-use Rattle.plant_base.proofs.FindIsFirst.{found_passes}
-use Rattle.plant_base.proofs.KeyOrders.{same_id}
-use Rattle.plant_base.proofs.PutKeepsOrder.{sorted_put}
+use Rattle.plant_view.proofs.ListLemmas.{found_passes, same_id, sorted_put}
 use Rattle.plant_trace.specs.{node_cmp, node_total, Lists, Direction, Node}
 use Rattle.plant_trace.specs.declared.direction.Direction.TheVariants.{Forward}
 use Rattle.plant_trace.specs.declared.node.Node.TheVariants as node

@@ -6,8 +6,7 @@ use Rattle.std.proofs.lemmas.Bool.{false≢true}
 use Rattle.plant_base.specs.{State, same, definition_at, lot_at, place_at, Definition, Lot, MovementKind, Place}
 use Rattle.plant_base.specs.declared.rows.MovementKind.TheVariants.{Consumed, Produced, Split, Merged}
 use Rattle.plant_base.specs.declared.refusal.Refusal.TheVariants.{UnknownLot}
-use Rattle.plant_base.proofs.FindIsFirst.{found_keeps, found_passes}
-use Rattle.plant_base.proofs.KeyOrders.{same_id, same_key}
+use Rattle.plant_view.proofs.ListLemmas.{found_keeps, found_passes, same_id, same_key}
 use Rattle.plant_stock.specs.{goes_to, comes_from}
 use Rattle.plant_trace.specs.{HasEdge, IsReached, Direction, Node}
 use Rattle.plant_trace.specs.declared.direction.Direction.TheVariants.{Forward, Back}

@@ -1,7 +1,7 @@
 -- The tables of a state, less the columns that the model doesn't hold, are that state.
 use Rattle.std.proofs.Common.{◌≡◌, ℕ, refl}
 use Rattle.plant_base.specs.{State, newest_schema}
-use Rattle.plant_base.proofs.PutKeepsOrder.{map_back}
+use Rattle.plant_view.proofs.ListLemmas.{map_back}
 use Rattle.plant_view.specs.{state_without_kept, tables_of, IsWholeIn, batch_row, sublot_row, place_of_row, batch_of_row}
 
 -- of a schema that lacks no row of the state

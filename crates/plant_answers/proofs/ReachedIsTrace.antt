@@ -9,7 +9,7 @@ use Rattle.plant_trace.proofs.LeadsIsReach.{leads_where_reached}
 use Rattle.plant_trace.proofs.SortedNodes.{Lists-unique}
 use Rattle.plant_trace.proofs.NodeOrder.{node_exact}
 use Rattle.plant_view.proofs.MappedContains.{mapped_in, filtered_in, come}
-use Rattle.plant_view.proofs.RowsInTurn.{sorted_put_all, all_put_all}
+use Rattle.plant_view.proofs.ListLemmas.{sorted_put_all, all_put_all}
 use Rattle.plant_answers.specs.{is_reached, ends, trace_along}
 
 -- ---- what is reached

@@ -7,13 +7,10 @@ use Rattle.std.specs.Ordering.{ordering_then}
 use Rattle.std.proofs.lemmas.Cmp.{tied_itself, nat_list_cmp_total}
 use Rattle.std.proofs.lemmas.List.Sums.{sum_by-cons}
 use Rattle.plant_base.specs.{greatest_amount, greatest_sublot, State, same, id_cmp, place_order, Place, Sublot}
-use Rattle.plant_base.proofs.KeyOrders.{same_id}
-use Rattle.plant_base.proofs.PutKeepsOrder.{all_weaker}
+use Rattle.plant_view.proofs.ListLemmas.{same_id, all_weaker, all_of, sum_map}
 use Rattle.plant_view.specs.DecisionInvariant.{DecisionInvariant}
 use Rattle.plant_view.specs.{sublot_row, sublots_of}
 use Rattle.std.proofs.lemmas.Bool.{cases_order}
-use Rattle.plant_view.proofs.RowsInTurn.{all_of}
-use Rattle.plant_view.proofs.TestsAndSums.{sum_map}
 use Rattle.plant_answers.proofs.NarrowedMovements.{sum_filtered}
 
 -- ---- numbers of one lot rise

@@ -2,7 +2,7 @@
 use Rattle.std.proofs.Common.{◌≡◌, ◌∙◌, ℕ, true, Option, Some, None, ap, not, if◌then◌else◌}
 use Rattle.plant_base.specs.{content_of, State, same, Envelope, Receipt, Refusal}
 use Rattle.plant_base.specs.declared.refusal.Refusal.TheVariants.{BadForm, RefReused}
-use Rattle.plant_base.proofs.KeyOrders.{same_itself}
+use Rattle.plant_view.proofs.ListLemmas.{same_itself}
 use Rattle.plant_view.specs.{refuse}
 use Rattle.plant_rules.specs.{IsRepeated, is_whole, wrong, wrong_there, kept_for, decoded}
 use Rattle.plant_causes.specs.{checked, checked_by, item_of}

@@ -5,7 +5,7 @@ use Rattle.plant_base.specs.{Movement, MovementKind}
 use Rattle.plant_base.specs.declared.rows.MovementKind.TheVariants as kind
 use Rattle.plant_stock.specs.{goes_to, comes_from, is_sublot_key, entered, left}
 use Rattle.plant_stock.specs.Stock as flows
-use Rattle.plant_view.proofs.TestsAndSums.{sum_map}
+use Rattle.plant_view.proofs.ListLemmas.{sum_map}
 use Rattle.plant_tables_columns.specs.{booked_of, code_of, BookedRow}
 use Rattle.plant_check.specs.{entered_by, left_by, entries, exits, total_booked}
 

@@ -10,7 +10,7 @@ use Rattle.std.proofs.lemmas.List.Sorted.{list_any-IsPermutation}
 use Rattle.std.proofs.lemmas.Map.Lookups.{CmpEqualImpliesEq, btree_set_from_contains}
 use Rattle.plant_base.specs.{put}
 use Rattle.plant_view.specs.{put_all}
-use Rattle.plant_view.proofs.RowsInTurn.{sorted_put_all}
+use Rattle.plant_view.proofs.ListLemmas.{sorted_put_all}
 
 absorbed : (a b c : Bool) → a ≡ b → (a || c) ≡ (a || (b || c))
 absorbed true b c e = refl

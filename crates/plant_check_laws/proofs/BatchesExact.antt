@@ -7,14 +7,10 @@ use Rattle.std.proofs.lemmas.Cmp.{lists_equiv, nat_list_eq_equiv}
 use Rattle.std.proofs.lemmas.List.{length-map}
 use Rattle.plant_base.specs.{same, batch_order, control_line_order, Batch, BatchEvent, BatchRow, ControlLine, Header, Job, MasterLine, OrderRow, Recipe, RecipeLine}
 use Rattle.plant_base.specs.contracts.rows.RecipeLineEq.TheImpl.Laws.{laws-law}
-use Rattle.plant_base.proofs.FindIsFirst.{found_passes, found_keeps}
-use Rattle.plant_base.proofs.KeyOrders.{same_id, same_key, same_itself}
-use Rattle.plant_base.proofs.PutKeepsOrder.{all_weaker}
+use Rattle.plant_view.proofs.ListLemmas.{found_passes, found_keeps, same_id, same_key, same_itself, all_weaker, all_two, all_mapped, all_unmapped, filtered_passes, find_mapped}
 use Rattle.plant_recipe.specs.{is_well_formed, is_size_of, control_of}
 use Rattle.plant_view.specs.{headers_of, header_among, lines_among, orders_of, order_among, batch_among, control_line, control_among, control_of_header, control_of_order, is_batch_among, is_size_of_some, HasBatchValues, IsConsistentBatch, AreConsistentBatches, IsConsistentRun, AreConsistentRuns, job_among, has_finished, numbered, batch_of_row}
 use Rattle.plant_view.proofs.HeadersFound.{header_found}
-use Rattle.plant_view.proofs.CommandsPreserveInvariant.{all_two}
-use Rattle.plant_view.proofs.RowsInTurn.{all_mapped, all_unmapped, filtered_passes, find_mapped}
 use Rattle.plant_check_plans.specs.{control_sized, control_of_found, control_asked_for, is_control, is_row_among, is_right_batch, are_batches, recipe_among, row_of_order, are_numbered}
 use Rattle.plant_check.proofs.BookedRowsMove.{filter_mapped}
 use Rattle.plant_check_laws.proofs.ExactTests.{equal_exact, both, in_words, all_exact, any_exact}

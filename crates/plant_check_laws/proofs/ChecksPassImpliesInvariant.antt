@@ -3,12 +3,11 @@ use Rattle.std.proofs.Common.{◌≡◌, ◌∙◌, ◌≤◌, nat_le, Bool, tru
 use Rattle.std.specs.List.{AllByRecursion}
 use Rattle.plant_base.specs.{greatest_sublot, edge_order, mark_order, batch_order, place_order, Header, Movement, OrderRow, Place}
 use Rattle.std.specs.List.Sorted.{IsStrictlySortedBy}
-use Rattle.plant_base.proofs.PutKeepsOrder.{all_weaker}
+use Rattle.plant_view.proofs.ListLemmas.{all_weaker, all_mapped, each_passes, sorted_mapped}
 use Rattle.plant_recipe.specs.{is_well_formed}
 use Rattle.plant_stock.specs.{goes_to, comes_from}
 use Rattle.plant_view.specs.{edges_among, recalls_in, marks_in, IsThere, headers_of, header_among, lines_among, orders_of, is_size_of_some, is_batch_among, tables_of, edges_in, receipts_in, place_of_row, batch_row, batch_of_row}
 use Rattle.plant_view.specs.DecisionInvariant.{DecisionInvariant}
-use Rattle.plant_view.proofs.RowsInTurn.{all_mapped, each_passes, sorted_mapped}
 use Rattle.plant_invariant.specs.StateInvariant.{StateInvariant}
 use Rattle.plant_invariant.specs.{HasRowValues, HasPlaceValues, HasMovementValues}
 use Rattle.sql_tables.specs.{HasStoredRows}

@@ -4,10 +4,7 @@ use Rattle.std.specs.List.{AllByRecursion, list_any, list_all}
 use Rattle.std.proofs.lemmas.Bool.{false≢true, and_from}
 use Rattle.std.proofs.lemmas.Bool.Decides.{Decides-and}
 pub use Rattle.std.proofs.lemmas.Bool.Decides.{Decides-eqb as equal_exact}
-use Rattle.plant_base.proofs.PutKeepsOrder.{all_weaker}
-use Rattle.plant_view.proofs.CommandsPreserveInvariant.{all_two}
-use Rattle.plant_view.proofs.RowsInTurn.{all_append, all_mapped, all_unmapped, all_filtered, filtered_passes}
-use Rattle.plant_view.proofs.TestsAndSums.{and_left, and_right, not_true, each_fails, any_map}
+use Rattle.plant_view.proofs.ListLemmas.{all_weaker, all_two, all_append, all_mapped, all_unmapped, all_filtered, filtered_passes, and_left, and_right, not_true, each_fails, any_map}
 use Rattle.plant_check_plans.proofs.KeyTests.{found_any}
 use Rattle.plant_invariant.proofs.ListsThatGrow.{all_passing}
 

@@ -3,12 +3,10 @@ use Rattle.std.proofs.Common.{◌≡◌, ◌∙◌, ℕ, ◌≤◌, nat_le, true
 use Rattle.std.specs.List.{AllByRecursion}
 use Rattle.sqlite.specs.Effect.{Database}
 use Rattle.plant_base.specs.{State, greatest_amount, Batch, BatchRow, Header, Movement, Place, Recall, Sublot}
-use Rattle.plant_base.proofs.PutKeepsOrder.{all_weaker, map_back}
+use Rattle.plant_view.proofs.ListLemmas.{all_weaker, map_back, all_two, all_of, all_mapped}
 use Rattle.plant_recipe.specs.{is_well_formed}
 use Rattle.plant_view.specs.DecisionInvariant.{DecisionInvariant}
 use Rattle.plant_view.specs.{headers_of, lines_among, IsWholeRecipe, IsConsistentRun, edges_among, recalls_in, tables_of, edges_in, batch_row, batch_of_row, sublot_row, place_of_row}
-use Rattle.plant_view.proofs.CommandsPreserveInvariant.{all_two}
-use Rattle.plant_view.proofs.RowsInTurn.{all_of, all_mapped}
 use Rattle.plant_invariant.specs.StateInvariant.{StateInvariant}
 use Rattle.plant_tables.specs.{HoldsTablesOf, LacksLater}
 use Rattle.plant_tables_read.specs.{AreLoaded, IsKnown, Loaded, Rows, rows_from, rows_in}

@@ -4,9 +4,7 @@ use Rattle.std.specs.List.{AllByRecursion}
 use Rattle.std.specs.List.Sorted.{IsStrictlySortedBy}
 use Rattle.std.proofs.lemmas.Cmp.{nat_list_eq_equiv}
 use Rattle.plant_base.specs.{same, id_cmp}
-use Rattle.plant_base.proofs.PutKeepsOrder.{all_weaker}
-use Rattle.plant_view.proofs.CommandsPreserveInvariant.{all_two}
-use Rattle.plant_view.proofs.RowsInTurn.{none_left}
+use Rattle.plant_view.proofs.ListLemmas.{all_weaker, all_two, none_left}
 use Rattle.plant_check_plans.proofs.KeyTests.{ids_tie}
 
 -- where one passes it is the one that is found

@@ -8,7 +8,7 @@ use Rattle.plant_base.specs.{greatest_amount, same, Definition, Hold, Lot, Movem
 use Rattle.plant_base.specs.declared.rows.MovementKind.TheVariants as kind
 use Rattle.plant_stock.specs.{is_division, entries}
 use Rattle.plant_view.specs.{is_defined, place_of_row}
-use Rattle.plant_view.proofs.RowsInTurn.{all_mapped, all_unmapped}
+use Rattle.plant_view.proofs.ListLemmas.{all_mapped, all_unmapped}
 use Rattle.plant_invariant.specs.{numbers_among, AreFromZero, are_one_birth, IsBirth, IsDivision, IsBorn, AreBorn}
 use Rattle.plant_tables_columns.specs.{code_of, booked_of}
 use Rattle.plant_check.specs.{total_booked, are_from_zero, sublots_among, is_right_lot, is_division_code, have_same_kind_code, is_of_one_birth, is_one_birth, is_one_division, is_born, is_lot_among, is_right_sublot, are_lots}

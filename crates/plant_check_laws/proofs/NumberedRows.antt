@@ -2,10 +2,8 @@
 use Rattle.std.proofs.Common.{◌≡◌, ◌∙◌, ℕ, ◌+◌, ◌≤◌, Bool, true, List, [], ◌∷◌, map, filter, find, Option, Some, None, is_some, refl, sym, ap, arith, Decides, eq-eqb}
 use Rattle.std.specs.List.{AllByRecursion}
 use Rattle.std.proofs.lemmas.Bool.{false≢true, and_from}
-use Rattle.plant_base.proofs.FindIsFirst.{found_passes, found_keeps}
-use Rattle.plant_base.proofs.PutKeepsOrder.{all_weaker}
+use Rattle.plant_view.proofs.ListLemmas.{found_passes, found_keeps, all_weaker, all_unmapped}
 use Rattle.plant_view.specs.{numbered}
-use Rattle.plant_view.proofs.RowsInTurn.{all_unmapped}
 use Rattle.plant_check_plans.specs.{are_numbered}
 use Rattle.plant_invariant.specs.{AreCounted}
 use Rattle.plant_invariant.proofs.ListsThatGrow.{all_passing}

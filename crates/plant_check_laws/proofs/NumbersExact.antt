@@ -9,11 +9,8 @@ use Rattle.std.proofs.lemmas.Bool.Decides.{nat_tests}
 use Rattle.std.proofs.lemmas.List.Sums.{length-filter, count_by-le-length}
 use Rattle.plant_base.specs.{event_order, movement_order, BatchEvent, Movement, MovementKind}
 use Rattle.plant_base.specs.declared.rows.MovementKind.TheVariants as kind
-use Rattle.plant_base.proofs.KeyOrders.{same_id}
-use Rattle.plant_base.proofs.PutKeepsOrder.{all_weaker}
+use Rattle.plant_view.proofs.ListLemmas.{same_id, all_weaker, none_left, all_of, all_filtered, filtered_passes, and_left, and_right}
 use Rattle.plant_stock.specs.{goes_to, comes_from, is_sublot_key, entries, are_one_merge, is_one_source, greatest_parts}
-use Rattle.plant_view.proofs.RowsInTurn.{none_left, all_of, all_filtered, filtered_passes}
-use Rattle.plant_view.proofs.TestsAndSums.{and_left, and_right}
 use Rattle.plant_rules_production.proofs.ReleaseRows.{filter_both}
 use Rattle.plant_invariant.specs.{AreCounted, booked, AreDistinct, IsBooking, IsEnteredBefore, IsNumbered}
 use Rattle.plant_invariant.proofs.ListsThatGrow.{numbers_differ, all_left}

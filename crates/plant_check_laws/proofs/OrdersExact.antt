@@ -5,14 +5,9 @@ use Rattle.std.specs.List.Sorted.{IsStrictlySortedBy}
 use Rattle.std.proofs.lemmas.Bool.{false≢true}
 use Rattle.plant_base.specs.{same, job_order, Batch, BatchRow, Job, JobState, OrderRow, Recipe}
 use Rattle.plant_base.specs.declared.states.JobState.TheVariants.{Open, Cancelled, Released, Finished}
-use Rattle.plant_base.proofs.FindIsFirst.{found_passes, found_keeps}
-use Rattle.plant_base.proofs.KeyOrders.{same_id, same_itself}
-use Rattle.plant_base.proofs.PutKeepsOrder.{all_weaker}
+use Rattle.plant_view.proofs.ListLemmas.{found_passes, found_keeps, same_id, same_itself, all_weaker, all_two, all_mapped, all_unmapped, find_mapped, some_mapped, not_true}
 use Rattle.plant_view.specs.{headers_of, header_among, orders_of, batch_among, job_among, is_size_of_some, has_batch, is_finished, has_finished, HasValidOrder, AreConsistentOrders, batch_of_row}
-use Rattle.plant_view.proofs.CommandsPreserveInvariant.{all_two}
 use Rattle.plant_view.proofs.HeadersFound.{header_found, size_of_recipe}
-use Rattle.plant_view.proofs.RowsInTurn.{all_mapped, all_unmapped, find_mapped, some_mapped}
-use Rattle.plant_view.proofs.TestsAndSums.{not_true}
 use Rattle.plant_check_plans.specs.{recipe_among, row_of_order, is_started, is_right_order, are_orders}
 use Rattle.plant_check_laws.proofs.ExactTests.{passing, both, in_words, by_test, all_exact}
 use Rattle.plant_check_laws.proofs.KeysApart.{one_found, apart_sorted, ids_apart}

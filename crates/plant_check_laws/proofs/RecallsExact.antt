@@ -3,7 +3,7 @@ use Rattle.std.proofs.Common.{◌≡◌, ◌∙◌, ℕ, Bool, true, false, List
 use Rattle.std.specs.List.{AllByRecursion}
 use Rattle.std.specs.List.Sorted.{IsStrictlySortedBy}
 use Rattle.plant_base.specs.{mark_order, HasLiftingValues, HasRecallValues, State, is_text, is_moment, Lifting, Lot, Mark, Movement, Recall}
-use Rattle.plant_base.proofs.PutKeepsOrder.{all_weaker}
+use Rattle.plant_view.proofs.ListLemmas.{all_weaker}
 use Rattle.plant_view.specs.{edges_among, marks, recalls_in, marks_in, tables_of}
 use Rattle.plant_view.specs.Tables.{Tables}
 use Rattle.plant_view.proofs.MarkChanges.{marks_sorted}

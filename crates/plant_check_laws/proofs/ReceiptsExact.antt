@@ -4,9 +4,7 @@ use Rattle.std.specs.List.{AllByRecursion, list_all}
 use Rattle.std.specs.List.Sorted.{IsStrictlySortedBy}
 use Rattle.std.proofs.lemmas.Bool.Decides.{nat_tests}
 use Rattle.plant_base.specs.{is_content, is_content_byte, is_there, receipt_order, is_id, Receipt}
-use Rattle.plant_base.proofs.PutKeepsOrder.{all_weaker}
-use Rattle.plant_view.proofs.CommandsPreserveInvariant.{all_two}
-use Rattle.plant_view.proofs.TestsAndSums.{and_left}
+use Rattle.plant_view.proofs.ListLemmas.{all_weaker, all_two, and_left}
 use Rattle.plant_invariant.specs.{HasReceiptValues, AreApart, AreValidReceipts}
 use Rattle.plant_check_stock.specs.{is_given, is_right_receipt, seqs_of, are_receipts}
 use Rattle.plant_check_laws.proofs.ExactTests.{passing, equal_exact, le_exact, both, by_test, in_words, all_exact, all_apart, all_joined}

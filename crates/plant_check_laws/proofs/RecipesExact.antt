@@ -3,12 +3,9 @@ use Rattle.std.proofs.Common.{◌≡◌, ◌∙◌, ℕ, ◌≤◌, true, List, 
 use Rattle.std.specs.List.{AllByRecursion}
 use Rattle.std.specs.List.Sorted.{IsStrictlySortedBy}
 use Rattle.plant_base.specs.{HasLineValues, same, recipe_order, master_line_order, Class, Definition, Header, MasterLine, Recipe, RecipeLine}
-use Rattle.plant_base.proofs.KeyOrders.{same_key, key_itself}
-use Rattle.plant_base.proofs.PutKeepsOrder.{all_weaker}
+use Rattle.plant_view.proofs.ListLemmas.{same_key, key_itself, all_weaker, all_two, all_mapped, all_filtered, filtered_passes}
 use Rattle.plant_recipe.specs.{is_well_formed}
 use Rattle.plant_view.specs.{is_defined, is_known, headers_of, header_among, rows_among, lines_among, master_line, IsWholeRecipe, AreConsistentRecipes, numbered}
-use Rattle.plant_view.proofs.CommandsPreserveInvariant.{all_two}
-use Rattle.plant_view.proofs.RowsInTurn.{all_mapped, all_filtered, filtered_passes}
 use Rattle.plant_check_plans.specs.{is_class_among, are_classified, are_numbered, is_whole_recipe, is_recipe_among, are_recipes}
 use Rattle.plant_invariant.specs.{HasMasterValues}
 use Rattle.plant_check_laws.proofs.ExactTests.{passing, both, in_words, all_exact, any_exact, any_mapped_exact, of_mapped}

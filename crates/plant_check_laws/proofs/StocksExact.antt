@@ -3,14 +3,9 @@ use Rattle.std.proofs.Common.{◌≡◌, ◌∙◌, ℕ, suc, ◌+◌, ◌-◌, 
 use Rattle.std.specs.List.{AllByRecursion}
 use Rattle.std.proofs.lemmas.Bool.{false≢true}
 use Rattle.plant_base.specs.{greatest_amount, State, same, place_at, Movement, Place, Sublot}
-use Rattle.plant_base.proofs.FindIsFirst.{found_passes, found_keeps}
-use Rattle.plant_base.proofs.KeyOrders.{same_key}
-use Rattle.plant_base.proofs.PutKeepsOrder.{all_weaker}
+use Rattle.plant_view.proofs.ListLemmas.{found_passes, found_keeps, same_key, all_weaker, all_two, none_left, all_mapped, all_unmapped, all_filtered, and_right}
 use Rattle.plant_stock.specs.{goes_to, comes_from, is_sublot_key, entered, left, entries}
 use Rattle.plant_view.specs.{IsThere, sublot_row, place_of_row}
-use Rattle.plant_view.proofs.CommandsPreserveInvariant.{all_two}
-use Rattle.plant_view.proofs.RowsInTurn.{none_left, all_mapped, all_unmapped, all_filtered}
-use Rattle.plant_view.proofs.TestsAndSums.{and_right}
 use Rattle.plant_invariant.specs.{IsDivision, IsBorn, HasMovementValues}
 use Rattle.plant_tables_columns.specs.{booked_of}
 use Rattle.plant_check.specs.{total_booked, has_right_stock, are_stocks}

@@ -10,10 +10,7 @@ use Rattle.std.proofs.lemmas.Bool.Decides.{nat_tests}
 use Rattle.std.proofs.lemmas.List.Sums.{AllPass-from_list_all, list_all-from_AllPass}
 use Rattle.std.proofs.lemmas.List.Sorted.{All-permutation, IsPermutation-sym}
 use Rattle.std.proofs.lemmas.Map.Keys.{ge_from_not_lt}
-use Rattle.plant_base.proofs.PutKeepsOrder.{all_weaker}
-use Rattle.plant_view.proofs.CommandsPreserveInvariant.{all_two}
-use Rattle.plant_view.proofs.RowsInTurn.{each_passes}
-use Rattle.plant_view.proofs.TestsAndSums.{and_left, and_right}
+use Rattle.plant_view.proofs.ListLemmas.{all_weaker, all_two, each_passes, and_left, and_right}
 use Rattle.plant_check_stock.specs.{is_no_later, never_fall, rises}
 
 abbrev Mark : Type 0

@@ -3,8 +3,7 @@ use Rattle.std.proofs.Common.{◌≡◌, ◌∙◌, ℕ, Bool, true, false, cond
 use Rattle.std.specs.List.{list_any}
 use Rattle.std.proofs.lemmas.Bool.{false≢true}
 use Rattle.plant_base.specs.{State, same, put, receipt_order, content_of, stamp_of, Envelope, Receipt, Refusal}
-use Rattle.plant_base.proofs.PutKeepsOrder.{found_put, found_same}
-use Rattle.plant_base.proofs.KeyOrders.{same_itself, same_id, id_tie}
+use Rattle.plant_view.proofs.ListLemmas.{found_put, found_same, same_itself, same_id, id_tie}
 use Rattle.plant_base.specs.declared.refusal.Refusal.TheVariants.{BadForm, MomentBack}
 use Rattle.plant_view.specs.{refuse}
 use Rattle.plant_rules.specs.{is_whole, wrong, wrong_plain, wrong_there, kept_among, kept_for, decoded, step, step_body, step_plain, unless_refused, noted, taken}

@@ -2,7 +2,7 @@
 use Rattle.std.proofs.Common.{◌≡◌, ◌∙◌, ℕ, Option, Some, None, Result, Ok, Err, IfOk, OnOk, OnErr, true, refl, subst, sym, ap, not, if◌then◌else◌}
 use Rattle.plant_base.specs.{State, HasValues, Envelope, Receipt, Refusal, content_of, same}
 use Rattle.plant_view.specs.DecisionInvariant.{DecisionInvariant}
-use Rattle.plant_base.proofs.KeyOrders.{same_itself}
+use Rattle.plant_view.proofs.ListLemmas.{same_itself}
 use Rattle.plant_base.specs.declared.refusal.Refusal.TheVariants.{BadForm, RefReused}
 use Rattle.plant_view.specs.{refuse}
 use Rattle.plant_rules.specs.{step, unless_refused, taken, IsRepeated, is_whole, wrong, wrong_there, kept_for, decoded}

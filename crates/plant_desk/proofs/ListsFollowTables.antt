@@ -1,7 +1,7 @@
 -- Row changes that lead to the tables of a state lead the plain lists to that state.
 use Rattle.std.proofs.Common.{◌≡◌, ◌∙◌, List, [], ◌∷◌, refl, sym, ap}
 use Rattle.plant_base.specs.{State, newest_schema, batch_order, place_order}
-use Rattle.plant_base.proofs.PutKeepsOrder.{put_kept}
+use Rattle.plant_view.proofs.ListLemmas.{put_kept}
 use Rattle.plant_view.specs.{RowChange, state_without_kept, tables_of, changed, changed_all, batch_row_order, sublot_order, place_of_row, batch_of_row}
 use Rattle.plant_view.specs.declared.change.RowChange.TheVariants as row
 use Rattle.plant_view.specs.Tables.{Tables}

@@ -1,15 +1,12 @@
 -- What is answered of a state is what its movements say.
 use Rattle.std.proofs.Common.{◌≡◌, ◌∙◌, ◌+◌, ℕ, List, Option, Some, None, refl, sym, ap, subst, arith, filter}
 use Rattle.plant_base.specs.{State, same, lot_at, newest_schema, Lot, Place, Refusal}
-use Rattle.plant_base.proofs.FindIsFirst.{found_passes}
-use Rattle.plant_base.proofs.KeyOrders.{same_id}
-use Rattle.plant_base.proofs.PutKeepsOrder.{map_back}
+use Rattle.plant_view.proofs.ListLemmas.{found_passes, same_id, map_back, all_of, all_mapped}
 use Rattle.plant_stock.specs.{left_of, born_of}
 use Rattle.plant_trace.specs.{Direction, Node}
 use Rattle.plant_view.specs.{lot_stock, edges_of, sublot_row, place_of_row}
 use Rattle.plant_view.specs.DecisionInvariant.{DecisionInvariant}
 use Rattle.plant_view.proofs.LotsAreBalanced.{balanced}
-use Rattle.plant_view.proofs.RowsInTurn.{all_of, all_mapped}
 use Rattle.plant_answers.specs.{answer_stands, answer, answer_lot, missing, answer_trace}
 use Rattle.plant_messages.specs.{Answer, Question}
 use Rattle.plant_messages.specs.declared.question.Question.TheVariants as Q

@@ -5,8 +5,8 @@ use Rattle.plant_base.specs.declared.rows.MovementKind.TheVariants as kind
 use Rattle.plant_stock.specs.{goes_to, comes_from}
 use Rattle.plant_view.specs.{batch_by, IsBatchThere, control_line, control_among, is_batch_among, numbered, put_all, IsThere, is_taken, is_made}
 use Rattle.plant_view.specs.DecisionInvariant.{DecisionInvariant}
-use Rattle.plant_view.proofs.CommandsPreserveInvariant.{all_two, lot_known, lot_stays}
-use Rattle.plant_view.proofs.RowsInTurn.{filter_past_all, all_numbered}
+use Rattle.plant_view.proofs.ListLemmas.{all_two, filter_past_all, all_numbered}
+use Rattle.plant_view.proofs.CommandsPreserveInvariant.{lot_known, lot_stays}
 use Rattle.plant_view.proofs.RowKeys.{control_line_order_total, control_batch_tied, ids_apart}
 use Rattle.plant_rules.specs.{def_of}
 use Rattle.plant_invariant.specs.{IsAsked}

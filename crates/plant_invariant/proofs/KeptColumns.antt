@@ -5,14 +5,10 @@ use Rattle.std.proofs.lemmas.Bool.{false≢true}
 use Rattle.std.proofs.lemmas.Bool.Decides.{nat_tests}
 use Rattle.plant_base.specs.{State, newest_schema, same, place_at, Batch, Movement, MovementKind, Place}
 use Rattle.plant_base.specs.declared.rows.MovementKind.TheVariants as kind
-use Rattle.plant_base.proofs.PutKeepsOrder.{all_weaker}
-use Rattle.plant_base.proofs.FindIsFirst.{found_passes, found_keeps}
-use Rattle.plant_base.proofs.KeyOrders.{same_key, key_itself}
+use Rattle.plant_view.proofs.ListLemmas.{all_weaker, found_passes, found_keeps, same_key, key_itself, all_two, all_of, all_mapped}
 use Rattle.plant_recipe.proofs.EventFold.{after_in_range}
 use Rattle.plant_stock.specs.{goes_to, is_sublot_key, is_division, entries}
 use Rattle.plant_view.specs.{IsThere, tables_of, phases_among, events_among, batch_row, sublot_row}
-use Rattle.plant_view.proofs.CommandsPreserveInvariant.{all_two}
-use Rattle.plant_view.proofs.RowsInTurn.{all_of, all_mapped}
 use Rattle.plant_invariant.specs.{IsDivision, IsBorn, HasProgressValues, BeginsAtZero, HasColumns}
 use Rattle.plant_invariant.specs.StateInvariant.{StateInvariant}
 use Rattle.plant_invariant.proofs.ListsThatGrow.{all_swap, all_passing}

@@ -3,12 +3,9 @@ use Rattle.std.proofs.Common.{◌≡◌, ◌∙◌, ℕ, ◌≤◌, Bool, true, 
 use Rattle.std.specs.List.{AllByRecursion}
 use Rattle.std.proofs.lemmas.Bool.{false≢true}
 use Rattle.plant_base.specs.{is_id, is_moment, greatest_seq, is_version, HasLineValues, HasClassValues, HasDefinitionValues, HasLotValues, HasHoldValues, State, same, batch_at, Batch, ControlLine, Header, MasterLine}
-use Rattle.plant_base.proofs.FindIsFirst.{found_passes, found_keeps}
-use Rattle.plant_base.proofs.KeyOrders.{same_id, same_key, same_itself, key_itself}
+use Rattle.plant_view.proofs.ListLemmas.{found_passes, found_keeps, same_id, same_key, same_itself, key_itself, all_two, all_unmapped, filtered_passes}
 use Rattle.plant_view.specs.{headers_of, header_among, rows_among, IsWholeRecipe, orders_of, control_among, IsConsistentBatch, is_batch_among}
 use Rattle.plant_view.specs.DecisionInvariant.{DecisionInvariant}
-use Rattle.plant_view.proofs.CommandsPreserveInvariant.{all_two}
-use Rattle.plant_view.proofs.RowsInTurn.{all_unmapped, filtered_passes}
 use Rattle.plant_rules_production.proofs.ControlIsWellFormed.{control_made, made_valid}
 use Rattle.plant_invariant.specs.{HasMasterValues, HasControlValues, HasEventValues, HasPlaceValues, HasMovementValues, HasRowValues}
 use Rattle.plant_invariant.proofs.ListsThatGrow.{all_swap, all_passing}

@@ -3,7 +3,7 @@ use Rattle.std.proofs.Common.{◌≡◌, ◌∙◌, Bool, true, false, cond, Lis
 use Rattle.std.specs.List.{AllByRecursion}
 use Rattle.std.specs.List.Sorted.{IsStrictlySortedBy}
 use Rattle.std.proofs.lemmas.List.Elements.{filter-append}
-use Rattle.plant_view.proofs.RowsInTurn.{none_left}
+use Rattle.plant_view.proofs.ListLemmas.{none_left}
 pub use Rattle.std.proofs.lemmas.Bool.{ne_eqb as numbers_differ}
 pub use Rattle.plant_view.proofs.RowsInTurn.{all_append}
 pub use Rattle.plant_view.proofs.RowKeys.{number_less}

@@ -3,10 +3,9 @@ use Rattle.std.proofs.Common.{◌≡◌, ℕ, ◌+◌, ◌≤◌, true, false, L
 use Rattle.std.specs.List.{AllByRecursion}
 use Rattle.plant_base.specs.{is_id, HasPartValues, State, put, lot_order, place_at, Lot, Movement, Part, Stamp}
 use Rattle.plant_base.specs.declared.rows.MovementKind.TheVariants.{Merged}
-use Rattle.plant_base.proofs.KeyOrders.{same_itself}
+use Rattle.plant_view.proofs.ListLemmas.{same_itself, all_two}
 use Rattle.plant_stock.specs.{comes_from, are_one_merge, is_one_source, greatest_parts}
 use Rattle.plant_view.specs.{IsThere}
-use Rattle.plant_view.proofs.CommandsPreserveInvariant.{all_two}
 use Rattle.plant_rules.specs.{part_line, part_lines}
 use Rattle.plant_rules.proofs.MergePreservesInvariant.{all_lines}
 use Rattle.plant_rules.proofs.MergeParts.{Apart, AreApart}

@@ -3,9 +3,7 @@ use Rattle.std.proofs.Common.{◌≡◌, ℕ, ◌+◌, ◌≤◌, ◌<◌, true,
 use Rattle.std.specs.List.{AllByRecursion}
 use Rattle.std.proofs.lemmas.Bool.{false≢true}
 use Rattle.plant_base.specs.{is_id, is_text, is_amount, is_moment, greatest_sublot, greatest_seq, State, same, put, lot_order, place_order, lot_at, place_at, Batch, BatchEvent, Class, ControlLine, Definition, Hold, Job, Lot, MasterLine, Movement, MovementKind, Place, Recall, Recipe, Stamp, HasClassValues, HasDefinitionValues, HasLotValues, HasHoldValues}
-use Rattle.plant_base.proofs.FindIsFirst.{found_passes, found_keeps}
-use Rattle.plant_base.proofs.KeyOrders.{same_key}
-use Rattle.plant_base.proofs.PutKeepsOrder.{all_weaker, all_put, all_push}
+use Rattle.plant_view.proofs.ListLemmas.{found_passes, found_keeps, same_key, all_weaker, all_put, all_push}
 use Rattle.plant_stock.specs.{goes_to, comes_from}
 use Rattle.plant_view.specs.{IsThere}
 use Rattle.plant_view.specs.DecisionInvariant.{DecisionInvariant}

@@ -1,8 +1,7 @@
 -- Recalls stay valid.
 use Rattle.std.proofs.Common.{◌≡◌, ◌∙◌, ◌≤◌, ℕ, false, List, Option, Some, None, find, is_some, refl, ap, arith}
 use Rattle.plant_base.specs.{HasLiftingValues, State, same, put, lot_order, recall_order, lot_at, Lifting, Lot, Recall, Stamp}
-use Rattle.plant_base.proofs.FindIsFirst.{found_keeps}
-use Rattle.plant_base.proofs.PutKeepsOrder.{all_weaker, all_put}
+use Rattle.plant_view.proofs.ListLemmas.{found_keeps, all_weaker, all_put}
 use Rattle.plant_view.specs.DecisionInvariant.{DecisionInvariant}
 use Rattle.plant_view.proofs.CommandsPreserveInvariant.{lot_stays}
 use Rattle.plant_rules.specs.{lifted, with_lifted}

@@ -5,8 +5,7 @@ use Rattle.std.specs.List.Sorted.{IsStrictlySortedBy}
 use Rattle.std.specs.Ordering.{match_ordering}
 use Rattle.std.proofs.lemmas.Bool.Decides.{nat_tests}
 use Rattle.plant_base.specs.{content_of, put, receipt_order, Receipt}
-use Rattle.plant_base.proofs.PutKeepsOrder.{all_weaker, all_put, sorted_put}
-use Rattle.plant_base.proofs.KeyOrders.{id_total}
+use Rattle.plant_view.proofs.ListLemmas.{all_weaker, all_put, sorted_put, id_total}
 use Rattle.plant_base.proofs.ContentIsInjective.{content_written}
 use Rattle.plant_invariant.specs.{HasReceiptValues, AreApart, OpeningHasNone, StayValid, AreValidWith}
 

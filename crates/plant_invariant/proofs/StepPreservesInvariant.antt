@@ -10,14 +10,10 @@ use Rattle.plant_base.specs.declared.states.Word.TheVariants.{Done}
 use Rattle.plant_base.specs.declared.states.Event.TheVariants as event
 use Rattle.plant_base.specs.declared.rows.MovementKind.TheVariants as kind
 use Rattle.plant_base.specs.declared.command.Command.TheVariants as body
-use Rattle.plant_base.proofs.FindIsFirst.{found_keeps}
-use Rattle.plant_base.proofs.PutKeepsOrder.{all_weaker, all_put, found_new}
-use Rattle.plant_base.proofs.KeyOrders.{same_itself}
+use Rattle.plant_view.proofs.ListLemmas.{found_keeps, all_weaker, all_put, found_new, same_itself, all_filtered, and_left, not_false}
 use Rattle.plant_view.specs.{sublot_standing, is_taken, is_made}
 use Rattle.plant_view.specs.DecisionInvariant.{DecisionInvariant}
 use Rattle.plant_view.proofs.CommandsPreserveInvariant.{passed, is_there}
-use Rattle.plant_view.proofs.RowsInTurn.{all_filtered}
-use Rattle.plant_view.proofs.TestsAndSums.{and_left, not_false}
 use Rattle.plant_rules_production.specs.{event_row, close_batch, control_of_job, lines_in, released_batch, release, add_recipe, approve, withdraw, import_orders, cancel_order}
 use Rattle.plant_rules.specs.{line_of, next_number, opened, with_lifted, def_of, def_at, def_of_parts, part_lines, is_whole, wrong, wrong_body, wrong_there, decoded, kept_for, step, step_body, unless_refused, noted, taken}
 use Rattle.plant_rules.proofs.NextSublotNumber.{next_free}

@@ -6,13 +6,10 @@ use Rattle.std.proofs.lemmas.Cmp.{tied_itself, nat_list_cmp_total, nat_list_eq_e
 use Rattle.std.proofs.lemmas.List.{map-append}
 use Rattle.std.proofs.Math.Nat.{le-max_left, le-max_right}
 use Rattle.plant_base.specs.{State, same, put, id_cmp, lot_order, place_order, lot_at, place_at, Lot, Movement, Place}
-use Rattle.plant_base.proofs.PutKeepsOrder.{all_weaker, all_put}
-use Rattle.plant_base.proofs.KeyOrders.{same_id, same_itself, key_itself, same_key_tie, test_tie, place_order_total, place_tie}
+use Rattle.plant_view.proofs.ListLemmas.{all_weaker, all_put, same_id, same_itself, key_itself, same_key_tie, test_tie, place_order_total, place_tie, all_two, none_passes, none_left, filtered_passes, filter_past, filter_put, put_last}
 use Rattle.plant_stock.specs.{goes_to, is_sublot_key, entries}
 use Rattle.plant_view.specs.{IsThere}
 use Rattle.plant_view.specs.DecisionInvariant.{DecisionInvariant}
-use Rattle.plant_view.proofs.CommandsPreserveInvariant.{all_two}
-use Rattle.plant_view.proofs.RowsInTurn.{none_passes, none_left, filtered_passes, filter_past, filter_put, put_last}
 use Rattle.plant_view.proofs.RowKeys.{ids_apart, keys_apart}
 use Rattle.plant_view.proofs.StockColumn.{no_place}
 use Rattle.plant_rules.proofs.NextSublotNumber.{next_free}

@@ -9,13 +9,11 @@ use Rattle.std.proofs.lemmas.Bool.{false≢true}
 use Rattle.std.proofs.lemmas.List.Sums.{length-filter}
 use Rattle.std.proofs.lemmas.Option.{same_Some}
 use Rattle.plant_base.specs.{State, newest_schema, same, put, event_order, movement_order, HasValues, Batch, BatchEvent, BatchRow, Envelope, Movement}
-use Rattle.plant_base.proofs.PutKeepsOrder.{all_weaker}
-use Rattle.plant_base.proofs.KeyOrders.{same_id, same_itself}
+use Rattle.plant_view.proofs.ListLemmas.{all_weaker, same_id, same_itself, all_mapped}
 use Rattle.plant_view.specs.{batch_among, tables_of, changed, changed_all, batch_row, batch_row_order, RowChange, is_batch, puts_one_batch}
 use Rattle.plant_view.specs.DecisionInvariant.{DecisionInvariant}
 use Rattle.plant_view.specs.Tables.{Tables}
 use Rattle.plant_view.specs.declared.change.RowChange.TheVariants as change
-use Rattle.plant_view.proofs.RowsInTurn.{all_mapped}
 use Rattle.plant_rules.specs.{step}
 use Rattle.plant_invariant.specs.StateInvariant.{StateInvariant}
 use Rattle.plant_invariant.proofs.StepPreservesInvariant.{step_preserves_validity}

@@ -5,7 +5,7 @@ use Rattle.plant_base.specs.{mark_order, State, receipt_order, recall_order}
 use Rattle.plant_view.specs.{edges_of, marks, tables_of, sublot_order, sublot_row, batch_row_order, batch_row}
 use Rattle.plant_view.proofs.EdgeRowOrder.{edges_sorted}
 use Rattle.plant_view.proofs.MarkChanges.{marks_sorted}
-use Rattle.plant_view.proofs.RowsInTurn.{sorted_mapped}
+use Rattle.plant_view.proofs.ListLemmas.{sorted_mapped}
 use Rattle.plant_invariant.specs.StateInvariant.{StateInvariant}
 use Rattle.plant_tables.specs.{AreKeyed}
 

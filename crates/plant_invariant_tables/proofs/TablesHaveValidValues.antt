@@ -6,17 +6,12 @@ use Rattle.std.proofs.lemmas.List.{length-map}
 use Rattle.plant_base.specs.{edge_order, edge_total, is_open, mark_order, mark_total, HasRecallValues, State, same, newest_schema, batch_at, is_id, greatest_amount, greatest_sublot, greatest_seq, Batch, BatchEvent, ControlLine, EdgeKind, EdgeRow, Header, Job, MasterLine, Movement, MovementKind, Place, Recall, Receipt, Recipe, RecipeLine, Sublot}
 use Rattle.plant_base.specs.declared.rows.EdgeKind.TheVariants as edge
 use Rattle.plant_base.specs.declared.rows.MovementKind.TheVariants as kind
-use Rattle.plant_base.proofs.PutKeepsOrder.{all_weaker}
-use Rattle.plant_base.proofs.FindIsFirst.{found_passes, found_keeps}
-use Rattle.plant_base.proofs.KeyOrders.{same_id, same_key, same_itself, key_itself}
+use Rattle.plant_view.proofs.ListLemmas.{all_weaker, found_passes, found_keeps, same_id, same_key, same_itself, key_itself, all_two, all_mapped, all_unmapped, all_filtered, all_put_all, and_left, and_right}
 use Rattle.plant_recipe.specs.{is_well_formed, greatest_lines}
 use Rattle.plant_recipe.proofs.RecipeLines.{keeps_procedure}
 use Rattle.plant_view.specs.{headers_of, header_among, orders_of, rows_among, lines_among, master_line, control_line, control_among, IsWholeRecipe, HasValidOrder, IsConsistentBatch, is_batch_among, edge_row_by, edge_row_of, edge_rows, ends_by, ends_of, edge_of, edges_of, mark_on, nodes_from, marks_of, marks, numbered, tables_of, batch_row, sublot_row}
 use Rattle.plant_trace.specs.{leads, Node}
 use Rattle.plant_trace.specs.declared.node.Node.TheVariants as node
-use Rattle.plant_view.proofs.CommandsPreserveInvariant.{all_two}
-use Rattle.plant_view.proofs.RowsInTurn.{all_mapped, all_unmapped, all_filtered, all_put_all}
-use Rattle.plant_view.proofs.TestsAndSums.{and_left, and_right}
 use Rattle.plant_rules_production.proofs.ControlIsWellFormed.{control_made}
 use Rattle.plant_invariant.specs.RowValues as kept
 use Rattle.plant_invariant.specs.{AreCounted, booked, HasProgressValues, IsValidRecall, HasReceiptValues}

@@ -4,7 +4,7 @@ use Rattle.std.specs.List.{cons_option}
 use Rattle.std.proofs.lemmas.Bool.{and_from}
 use Rattle.std.proofs.lemmas.List.Elements.{All-contains, All-contains_itself, All-filter, All-from_recursion, All-map, All-weaker, recursion_from_All, Contains-append_left, Contains-append_right, Contains-append_cases}
 use Rattle.plant_base.specs.{edge_kind_number, edge_order, edge_total, same, EdgeKind, EdgeRow, Movement}
-use Rattle.plant_base.proofs.KeyOrders.{same_itself}
+use Rattle.plant_view.proofs.ListLemmas.{same_itself, all_put_all}
 use Rattle.plant_base.specs.declared.rows.EdgeKind.TheVariants.{LotToBatch}
 use Rattle.plant_base.proofs.EdgeIsItsKey.{one_edge}
 use Rattle.plant_view.proofs.MappedContains.{mapped_in, filtered_in, come}
@@ -13,7 +13,6 @@ use Rattle.plant_trace.proofs.SortedNodes.{Lists-same}
 use Rattle.plant_trace.specs.{IsNext, Lists, turned, Direction, Node}
 use Rattle.plant_trace.specs.declared.direction.Direction.TheVariants.{Forward, Back}
 use Rattle.plant_view.specs.{edge_row_of, edge_rows, edges_among, ends_by, ends_of}
-use Rattle.plant_view.proofs.RowsInTurn.{all_put_all}
 use Rattle.plant_keyed.specs.{near_id, begins_at, id_of, AreKindsAt, HasEdgesAt}
 
 -- ---- lists

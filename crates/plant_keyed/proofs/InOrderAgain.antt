@@ -10,7 +10,7 @@ use Rattle.std.proofs.lemmas.List.Kept.{IsStrictlySortedBy-filter}
 use Rattle.std.proofs.lemmas.List.Sorted.{IsPermutation-refl, IsPermutation-trans, IsPermutation-sym, IsPermutation-cons, IsPermutation-middle, length_permutation}
 use Rattle.sqlite_trees.proofs.ListLemmas.{IsPermutation-filter, all-permutation}
 use Rattle.plant_base.specs.{put}
-use Rattle.plant_base.proofs.PutKeepsOrder.{sorted_put, all_weaker}
+use Rattle.plant_view.proofs.ListLemmas.{sorted_put, all_weaker}
 use Rattle.plant_tables_read.proofs.SortedRowsAreUnique.{same_sorted}
 use Rattle.plant_worklists.specs.{in_order}
 

@@ -12,7 +12,7 @@ use Rattle.sqlite_sql.specs.Ops.{is_null}
 use Rattle.sqlite_value.specs.Order.{value_cmp}
 use Rattle.sqlite_value.proofs.OrderLemmas.{value_cmp-Int, value_cmp-Text}
 use Rattle.plant_base.specs.{HasClassValues, HasDefinitionValues, HasLotValues, HasHoldValues, HasRecallValues, State, newest_schema, id_cmp, same, class_order, definition_order, job_order, lot_order, hold_order, recall_order, job_state_name, BatchRow, Class, Definition, Hold, Job, JobState, Lifting, Lot, Recall, Receipt, Sublot}
-use Rattle.plant_base.proofs.PutKeepsOrder.{all_weaker}
+use Rattle.plant_view.proofs.ListLemmas.{all_weaker}
 use Rattle.plant_view.specs.{tables_of, batch_row_order, sublot_order}
 use Rattle.plant_view.specs.Tables.{Tables}
 use Rattle.plant_invariant.specs.{AreApart}

@@ -3,16 +3,14 @@ use Rattle.std.proofs.Common.{◌≡◌, ◌∙◌, ℕ, ◌+◌, ◌≤◌, ◌
 use Rattle.std.specs.List.{AllByRecursion}
 use Rattle.plant_base.specs.{greatest_amount, greatest_sublot, State, same, put, lot_order, place_order, definition_at, batch_at, lot_at, Hold, Lot, Movement, MovementKind, Place, Produce, Receive, Stamp}
 use Rattle.plant_base.specs.declared.rows.MovementKind.TheVariants.{Received, Produced}
-use Rattle.plant_base.proofs.PutKeepsOrder.{all_put, all_weaker, sorted_put, found_put}
-use Rattle.plant_base.proofs.KeyOrders.{same_itself, key_itself, lot_order_total, place_order_total}
+use Rattle.plant_view.proofs.ListLemmas.{all_put, all_weaker, sorted_put, found_put, same_itself, key_itself, lot_order_total, place_order_total, all_two, all_append}
 use Rattle.plant_stock.specs.{entered, left, goes_to, comes_from, is_sublot_key, entering, leaving}
 use Rattle.plant_stock.proofs.StockAfterMovement.{entered_push, left_push}
 use Rattle.plant_rules.specs.{line_of, born_as, receive, produce}
 use Rattle.plant_view.specs.{IsConsistentGenealogy, IsThere, IsOneMaterial}
 use Rattle.plant_view.specs.DecisionInvariant.{DecisionInvariant}
 use Rattle.plant_view.proofs.GenealogyAfterMovement.{descent_grows, descent_stays, keeps_into_new}
-use Rattle.plant_view.proofs.CommandsPreserveInvariant.{all_two, lot_stays, of_stays, there_still, entering_small}
-use Rattle.plant_view.proofs.RowsInTurn.{all_append}
+use Rattle.plant_view.proofs.CommandsPreserveInvariant.{lot_stays, of_stays, there_still, entering_small}
 use Rattle.plant_rules.proofs.BirthRows.{Brings, receipt_brings, production_brings}
 
 -- ---- a new lot, by any lines that lead to it

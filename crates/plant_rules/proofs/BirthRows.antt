@@ -2,7 +2,7 @@
 use Rattle.std.proofs.Common.{◌≡◌, ◌∙◌, ℕ, ◌+◌, ◌-◌, false, cond, List, Some, None, [], ◌∷◌, ◌++◌, map, is_some, refl, sym, ap, arith}
 use Rattle.plant_base.specs.{State, put, newest_schema, place_order, lot_at, Mark, Movement, MovementKind, Place, Produce, Recall, Stamp, mark_order}
 use Rattle.plant_base.specs.declared.rows.MovementKind.TheVariants.{Received, Produced}
-use Rattle.plant_base.proofs.KeyOrders.{key_itself}
+use Rattle.plant_view.proofs.ListLemmas.{key_itself}
 use Rattle.plant_stock.specs.{goes_to, comes_from, is_sublot_key, entered, left, entering, leaving}
 use Rattle.plant_stock.proofs.StockAfterMovement.{entered_push, left_push}
 use Rattle.plant_view.specs.declared.change.RowChange.TheVariants as row

@@ -3,8 +3,7 @@ use Rattle.std.proofs.Common.{◌≡◌, ℕ, List, find, is_some, true}
 use Rattle.std.specs.List.{AllByRecursion}
 use Rattle.std.specs.List.Sorted.{IsStrictlySortedBy}
 use Rattle.plant_base.specs.{State, same, class_order, definition_order, class_at, AddClass, AddDefinition, Class, Definition, Lot, Stamp}
-use Rattle.plant_base.proofs.PutKeepsOrder.{all_put, all_weaker, sorted_put}
-use Rattle.plant_base.proofs.KeyOrders.{id_total, id_still}
+use Rattle.plant_view.proofs.ListLemmas.{all_put, all_weaker, sorted_put, id_total, id_still}
 use Rattle.plant_rules.specs.{add_class, add_definition}
 use Rattle.plant_view.specs.{is_defined, AreConsistentRecipes}
 use Rattle.plant_view.specs.DecisionInvariant.{DecisionInvariant}

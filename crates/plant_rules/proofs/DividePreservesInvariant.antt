@@ -2,8 +2,7 @@
 use Rattle.std.proofs.Common.{◌≡◌, ◌≤◌, true, Some, is_some, refl, arith, ◌==◌, ◌&&◌}
 use Rattle.plant_base.specs.{greatest_amount, greatest_sublot, State, same, place_order, lot_at, place_at, Divide, Movement, Place, Stamp}
 use Rattle.plant_base.specs.declared.rows.MovementKind.TheVariants.{Divided}
-use Rattle.plant_base.proofs.PutKeepsOrder.{all_put, all_push, all_weaker, sorted_put, found_put}
-use Rattle.plant_base.proofs.KeyOrders.{key_itself, place_order_total}
+use Rattle.plant_view.proofs.ListLemmas.{all_put, all_push, all_weaker, sorted_put, found_put, key_itself, place_order_total}
 use Rattle.plant_stock.proofs.StockAfterMovement.{entered_push, left_push}
 use Rattle.plant_rules.specs.{line_of, next_number, divide}
 use Rattle.plant_view.specs.{sublot_standing}

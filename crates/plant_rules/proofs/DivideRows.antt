@@ -3,9 +3,7 @@ use Rattle.std.proofs.Common.{sym, ◌≡◌, ◌∙◌, ℕ, ◌-◌, false, co
 use Rattle.std.specs.List.{AllByRecursion}
 use Rattle.plant_base.specs.{State, same, put, newest_schema, place_order, place_at, Divide, Movement, MovementKind, Place, Stamp, Sublot}
 use Rattle.plant_base.specs.declared.rows.MovementKind.TheVariants.{Divided}
-use Rattle.plant_base.proofs.KeyOrders.{key_itself, place_order_total, test_tie}
-use Rattle.plant_base.proofs.PutKeepsOrder.{all_weaker, put_there}
-use Rattle.plant_base.proofs.FindIsFirst.{found_keeps}
+use Rattle.plant_view.proofs.ListLemmas.{key_itself, place_order_total, test_tie, all_weaker, put_there, found_keeps, none_passes}
 use Rattle.plant_stock.specs.{entered, left, goes_to, comes_from, entering, leaving, is_sublot_key}
 use Rattle.plant_stock.proofs.StockAfterMovement.{entered_push, left_push}
 use Rattle.plant_rules.specs.{line_of, next_number, divide, divide_rows}
@@ -15,7 +13,6 @@ use Rattle.plant_view.proofs.EdgeRowOrder.{edges_pushed}
 use Rattle.plant_view.proofs.MarksAfterMovement.{marks_plain}
 use Rattle.plant_view.proofs.StockColumn.{sublots_taken, sublots_added, apart_fails, nothing_entered, nothing_left}
 use Rattle.plant_rules.proofs.NextSublotNumber.{none_among, next_free}
-use Rattle.plant_view.proofs.RowsInTurn.{none_passes}
 
 -- the column with the rows of the sublot that a movement takes from and of the new one that it leads to
 pub sublots_parted : (s : State) → DecisionInvariant s → (t : Stamp) (kind : MovementKind) (p q : Place) (amount : ℕ) → comes_from kind p.lot p.number ≡ Some (p.lot, p.number) → goes_to kind p.lot p.number ≡ Some (q.lot, q.number)

@@ -1,8 +1,7 @@
 -- What a look-up of a batch finds.
 use Rattle.std.proofs.Common.{◌≡◌, ℕ, List, Option, Some, None, is_some, sym, ap, option_map}
 use Rattle.plant_base.specs.{State, batch_at, Batch}
-use Rattle.plant_base.proofs.FindIsFirst.{found_passes}
-use Rattle.plant_base.proofs.KeyOrders.{same_id}
+use Rattle.plant_view.proofs.ListLemmas.{found_passes, same_id}
 use Rattle.plant_view.specs.{batch_row, progress_at}
 use Rattle.plant_rules.specs.{IsBatchOf}
 

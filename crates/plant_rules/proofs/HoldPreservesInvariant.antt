@@ -6,10 +6,9 @@ use Rattle.std.specs.Cmp.{IsTotalOrder}
 use Rattle.std.proofs.lemmas.Cmp.{then_total, on_total, nat_list_cmp_total}
 use Rattle.std.proofs.lemmas.List.Kept.{IsStrictlySortedBy-filter}
 use Rattle.plant_base.specs.{State, same, hold_order, recall_order, lot_at, Hold, HoldLot, Recall, Receipt, Stamp, UnholdLot}
-use Rattle.plant_base.proofs.PutKeepsOrder.{all_put, sorted_put}
+use Rattle.plant_view.proofs.ListLemmas.{all_put, sorted_put, all_filtered}
 use Rattle.plant_rules.specs.{hold, unhold}
 use Rattle.plant_view.specs.DecisionInvariant.{DecisionInvariant}
-use Rattle.plant_view.proofs.RowsInTurn.{all_filtered}
 
 pub hold_order_total : IsTotalOrder hold_order
 hold_order_total = then_total (on_total (λ h. h.lot) nat_list_cmp_total) (on_total (λ h. h.id) nat_list_cmp_total)

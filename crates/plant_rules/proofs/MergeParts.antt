@@ -6,14 +6,12 @@ use Rattle.std.proofs.lemmas.Bool.{false≢true}
 use Rattle.std.proofs.lemmas.Bool.Decides.{nat_tests}
 use Rattle.plant_base.specs.{State, lot_at, place_at, is_same_sublot, has_sublot, are_apart, are_parts, Movement, Part, Place, Refusal}
 use Rattle.plant_base.specs.declared.refusal.Refusal.TheVariants.{UnknownLot, UnknownSublot}
-use Rattle.plant_base.proofs.FindIsFirst.{found_passes}
-use Rattle.plant_base.proofs.KeyOrders.{same_key}
+use Rattle.plant_view.proofs.ListLemmas.{found_passes, same_key, and_left, and_right, not_true, each_fails}
 use Rattle.plant_stock.specs.{entered, left}
 use Rattle.plant_view.specs.{refuse}
 use Rattle.plant_rules.specs.{wrong_parts, text_of, found_of, wrong_part}
 use Rattle.plant_rules.specs.declared.parts.Found.{Found}
 use Rattle.plant_view.proofs.CommandsPreserveInvariant.{passed, is_there}
-use Rattle.plant_view.proofs.TestsAndSums.{and_left, and_right, not_true, each_fails}
 
 -- ---- parts of different sublots
 

@@ -4,8 +4,7 @@ use Rattle.std.specs.List.{AllByRecursion}
 use Rattle.std.proofs.lemmas.List.Sums.{sum_by-cons}
 use Rattle.std.proofs.lemmas.Bool.{false≢true}
 use Rattle.plant_base.specs.{greatest_amount, State, same, lot_order, definition_at, lot_at, place_at, Lot, Merge, Movement, Part, Place, Stamp}
-use Rattle.plant_base.proofs.PutKeepsOrder.{all_weaker, found_new}
-use Rattle.plant_base.proofs.KeyOrders.{same_id, same_key, same_itself}
+use Rattle.plant_view.proofs.ListLemmas.{all_weaker, found_new, same_id, same_key, same_itself, all_two, each_fails, not_false}
 use Rattle.plant_stock.specs.{entered, left, leaving, goes_to, comes_from, total_of}
 use Rattle.plant_stock.proofs.StockAfterMovement.{entered_push, left_push}
 use Rattle.plant_view.specs.{sublot_standing, is_of_lot, IsThere, IsOneMaterial, edge_of, batch_by, IsBatchThere}
@@ -13,11 +12,10 @@ use Rattle.plant_rules.specs.{def_of, part_line, part_lines, def_at, def_of_part
 use Rattle.plant_view.specs.DecisionInvariant.{DecisionInvariant}
 use Rattle.plant_trace.specs.declared.node.Node.TheVariants as node
 use Rattle.plant_view.proofs.GenealogyAfterMovement.{EdgeHas, descent_grows, keeps_into_new}
-use Rattle.plant_view.proofs.CommandsPreserveInvariant.{all_two, lot_stays, there_still}
+use Rattle.plant_view.proofs.CommandsPreserveInvariant.{lot_stays, there_still}
 use Rattle.plant_rules.proofs.BirthPreservesInvariant.{first_there, consistent_with_lot}
 use Rattle.plant_rules.proofs.SplitPreservesInvariant.{def_known}
 use Rattle.plant_rules.proofs.MergeParts.{AreApart}
-use Rattle.plant_view.proofs.TestsAndSums.{each_fails, not_false}
 
 -- ---- the lines of the parts
 

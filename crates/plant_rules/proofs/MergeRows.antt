@@ -3,8 +3,7 @@ use Rattle.std.proofs.Common.{◌≡◌, ◌∙◌, ℕ, ◌+◌, ◌-◌, true,
 use Rattle.std.specs.List.{AllByRecursion}
 use Rattle.std.proofs.lemmas.List.Sums.{sum_by-cons}
 use Rattle.plant_base.specs.{State, same, put, newest_schema, lot_order, place_order, lot_at, place_at, Merge, Movement, Part, Place, Stamp}
-use Rattle.plant_base.proofs.PutKeepsOrder.{put_there, all_weaker}
-use Rattle.plant_base.proofs.KeyOrders.{key_itself, place_order_total, test_tie}
+use Rattle.plant_view.proofs.ListLemmas.{put_there, all_weaker, key_itself, place_order_total, test_tie, all_two, sum_map}
 use Rattle.plant_stock.specs.{entered, left, entering, leaving, total_of}
 use Rattle.plant_stock.proofs.StockAfterMovement.{entered_push, left_push}
 use Rattle.plant_view.specs.{sublot_standing, tables_of, changed, changed_all, sublot_order, sublot_row, edge_rows}
@@ -12,14 +11,12 @@ use Rattle.plant_view.specs.DecisionInvariant.{DecisionInvariant}
 use Rattle.plant_view.specs.Tables.{Tables}
 use Rattle.plant_view.specs.declared.change.RowChange.TheVariants as row
 use Rattle.plant_rules.specs.{part_line, part_lines, def_of_parts, merge, text_of, found_of, found_rows, total_found, def_found, merge_rows, is_some_blocked}
-use Rattle.plant_view.proofs.CommandsPreserveInvariant.{all_two}
 use Rattle.plant_rules.proofs.MergeKeepsMarks.{marks_merged}
 use Rattle.plant_view.proofs.EdgeRowOrder.{edges_pushed}
 use Rattle.plant_view.proofs.StockColumn.{sublots_taken, sublots_added, not_among, apart_fails, lots_apart, no_place, nothing_entered, nothing_left}
 use Rattle.plant_view.proofs.RowKeys.{ids_apart}
 use Rattle.plant_rules.proofs.EdgeRowChanges.{changed_append}
 use Rattle.plant_rules.proofs.MergeParts.{Apart, AreApart, IsReady}
-use Rattle.plant_view.proofs.TestsAndSums.{sum_map}
 
 module _ (s : State) (sound : DecisionInvariant s) (seq : ℕ) (t : Stamp) (new : List ℕ) (none : is_some (lot_at s new) ≡ false) where
   -- the new lot gets nothing that a known lot's sublot counts

@@ -3,12 +3,10 @@ use Rattle.std.proofs.Common.{◌≡◌, ◌∙◌, ℕ, ◌<◌, true, false, c
 use Rattle.std.specs.List.{AllByRecursion}
 use Rattle.std.proofs.Math.Nat.{le-max_left, le-max_right}
 use Rattle.plant_base.specs.{State, same, place_at, Movement, Place, Sublot}
-use Rattle.plant_base.proofs.PutKeepsOrder.{all_weaker}
-use Rattle.plant_base.proofs.KeyOrders.{same_key_tie, test_tie}
+use Rattle.plant_view.proofs.ListLemmas.{all_weaker, same_key_tie, test_tie, none_passes}
 use Rattle.plant_stock.specs.{is_sublot_key}
 use Rattle.plant_rules.specs.{greatest, next_number}
 use Rattle.plant_view.specs.{sublot_row}
-use Rattle.plant_view.proofs.RowsInTurn.{none_passes}
 
 -- ---- the greatest number
 

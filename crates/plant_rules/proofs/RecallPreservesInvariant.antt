@@ -4,7 +4,7 @@ use Rattle.std.specs.List.Sorted.{IsStrictlySortedBy}
 use Rattle.std.specs.Cmp.{IsTotalOrder}
 use Rattle.std.proofs.lemmas.Cmp.{on_total, nat_list_cmp_total}
 use Rattle.plant_base.specs.{State, recall_order, recall_at, LiftRecall, Recall, RecallLot, Stamp}
-use Rattle.plant_base.proofs.PutKeepsOrder.{sorted_put}
+use Rattle.plant_view.proofs.ListLemmas.{sorted_put}
 use Rattle.plant_rules.specs.{opened, recall, lifted, with_lifted, lift}
 use Rattle.plant_view.specs.DecisionInvariant.{DecisionInvariant}
 use Rattle.plant_rules.proofs.HoldPreservesInvariant.{with_bars}

@@ -6,7 +6,7 @@ use Rattle.plant_view.specs.{edges_of, mark_on, marks, tables_of, changed_all}
 use Rattle.plant_view.specs.DecisionInvariant.{DecisionInvariant}
 use Rattle.plant_view.proofs.MarkChanges.{come_with_recall, go_with_lift}
 use Rattle.plant_view.proofs.MarksAfterMovement.{marks_changed}
-use Rattle.plant_view.proofs.RowsInTurn.{none_passes}
+use Rattle.plant_view.proofs.ListLemmas.{none_passes}
 use Rattle.plant_rules.specs.{opened, recall, recall_rows, lifted, with_lifted, lift, lift_rows}
 
 pub recall_tables : (s : State) (t : Stamp) (c : RecallLot) (nodes : List Node) → is_some (recall_at s c.recall) ≡ false → Lists (IsRecalled (edges_of s) c.lot) nodes

@@ -3,7 +3,7 @@ use Rattle.std.proofs.Common.{◌≡◌, ◌∙◌, ◌+◌, ◌<◌, ℕ, Bool,
 use Rattle.plant_base.specs.{greatest_seq, State, same, newest_schema, content_of, stamp_of, Command, Envelope, Receipt, Stamp}
 use Rattle.plant_base.specs.declared.refusal.Refusal.TheVariants.{BadForm, MomentBack, RefReused}
 use Rattle.plant_base.specs.declared.command.Command.TheVariants as body
-use Rattle.plant_base.proofs.KeyOrders.{same_id}
+use Rattle.plant_view.proofs.ListLemmas.{same_id}
 use Rattle.plant_view.specs.{refuse, tables_of, changed, changed_all, Decides, Decision}
 use Rattle.plant_view.proofs.CommandsPreserveInvariant.{passed}
 use Rattle.plant_view.specs.declared.change.RowChange.TheVariants as row

@@ -3,9 +3,7 @@ use Rattle.std.proofs.Common.{◌≡◌, ◌∙◌, ℕ, ◌≤◌, true, false,
 use Rattle.std.proofs.lemmas.Bool.{false≢true}
 use Rattle.plant_base.specs.{greatest_amount, State, same, lot_order, definition_at, lot_at, place_at, Lot, Movement, Place, Split, Stamp}
 use Rattle.plant_base.specs.declared.rows.MovementKind.TheVariants as kind
-use Rattle.plant_base.proofs.PutKeepsOrder.{found_new}
-use Rattle.plant_base.proofs.FindIsFirst.{found_keeps}
-use Rattle.plant_base.proofs.KeyOrders.{same_itself}
+use Rattle.plant_view.proofs.ListLemmas.{found_new, found_keeps, same_itself}
 use Rattle.plant_stock.proofs.StockAfterMovement.{entered_push, left_push}
 use Rattle.plant_rules.specs.{line_of, def_of, split}
 use Rattle.plant_view.specs.{sublot_standing, is_of_lot}

@@ -8,7 +8,7 @@ use Rattle.plant_base.specs.declared.refusal.Refusal.TheVariants.{BadForm, Momen
 use Rattle.plant_base.specs.declared.states.Word.TheVariants.{Done}
 use Rattle.plant_base.specs.declared.states.Event.TheVariants as event
 use Rattle.plant_base.specs.declared.command.Command.TheVariants as body
-use Rattle.plant_base.proofs.PutKeepsOrder.{all_weaker}
+use Rattle.plant_view.proofs.ListLemmas.{all_weaker, and_left, and_right, each_fails, not_false}
 use Rattle.plant_stock.specs.{entered, left}
 use Rattle.plant_view.specs.{sublot_standing}
 use Rattle.plant_rules.specs.{is_own_product, is_whole, wrong, wrong_body, wrong_there, decoded, kept_for, step, step_body, unless_refused, noted, taken}
@@ -22,7 +22,6 @@ use Rattle.plant_rules.proofs.TakingPreservesInvariant.{scrap_preserves_invarian
 use Rattle.plant_rules.proofs.DividePreservesInvariant.{divide_preserves_invariant}
 use Rattle.plant_rules.proofs.SplitPreservesInvariant.{split_preserves_invariant}
 use Rattle.plant_rules_production.proofs.ProductionPreservesInvariant.{add_recipe_preserves_invariant, consistent_moved, import_sized, import_preserves_invariant, cancel_preserves_invariant, release_preserves_invariant, consistent_event, close_preserves_invariant}
-use Rattle.plant_view.proofs.TestsAndSums.{and_left, and_right, each_fails, not_false}
 use Rattle.plant_rules.proofs.MergeParts.{formed_apart, formed_some, parts_there, parts_ready, parts_pass}
 use Rattle.plant_rules.proofs.AcceptedHasNumber.{failing, behind, not_failing}
 use Rattle.plant_rules.proofs.MergePreservesInvariant.{merge_preserves_invariant}

@@ -2,7 +2,7 @@
 use Rattle.std.proofs.Common.{◌≡◌, ℕ, ◌≤◌, ◌∷◌, [], cond, true, false, List, Some, is_some, sym, subst, ap, refl, arith}
 use Rattle.plant_base.specs.{State, place_at, batch_at, Consume, Movement, MovementKind, Scrap, Stamp}
 use Rattle.plant_base.specs.declared.rows.MovementKind.TheVariants.{Scrapped, Consumed}
-use Rattle.plant_base.proofs.PutKeepsOrder.{all_push}
+use Rattle.plant_view.proofs.ListLemmas.{all_push}
 use Rattle.plant_stock.specs.{comes_from, is_sublot_key, entering, leaving}
 use Rattle.plant_stock.proofs.StockAfterMovement.{entered_push, left_push}
 use Rattle.plant_rules.specs.{line_of, taken_as, scrap, consume, is_own_product}

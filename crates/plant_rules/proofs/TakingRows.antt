@@ -2,8 +2,7 @@
 use Rattle.std.proofs.Common.{◌≡◌, ◌∙◌, ℕ, ◌+◌, ◌-◌, cond, List, None, [], ◌∷◌, ◌++◌, map, Some, refl, sym, ap, arith, ◌==◌, ◌&&◌}
 use Rattle.plant_base.specs.{State, same, put, newest_schema, place_order, place_at, Movement, MovementKind, Place, Stamp}
 use Rattle.plant_base.specs.declared.rows.MovementKind.TheVariants.{Scrapped, Consumed}
-use Rattle.plant_base.proofs.KeyOrders.{key_itself, place_order_total, test_tie}
-use Rattle.plant_base.proofs.PutKeepsOrder.{put_there}
+use Rattle.plant_view.proofs.ListLemmas.{key_itself, place_order_total, test_tie, put_there}
 use Rattle.plant_stock.specs.{goes_to, comes_from, is_sublot_key, entered, left, entering, leaving}
 use Rattle.plant_stock.proofs.StockAfterMovement.{entered_push, left_push}
 use Rattle.plant_view.specs.declared.change.RowChange.TheVariants as row

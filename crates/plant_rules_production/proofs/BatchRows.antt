@@ -12,9 +12,7 @@ use Rattle.plant_base.specs.{greatest_seq, State, newest_schema, same, put, batc
 use Rattle.plant_base.specs.declared.refusal.Refusal.TheVariants.{UnknownBatch, BatchClosed, TooMany, NotFinished}
 use Rattle.plant_base.specs.declared.states.JobState.TheVariants.{Finished}
 use Rattle.plant_base.specs.declared.states.Event.TheVariants.{Closed}
-use Rattle.plant_base.proofs.PutKeepsOrder.{put_map, put_there}
-use Rattle.plant_base.proofs.FindIsFirst.{found_passes, found_keeps}
-use Rattle.plant_base.proofs.KeyOrders.{same_id, same_itself, id_total}
+use Rattle.plant_view.proofs.ListLemmas.{put_map, put_there, found_passes, found_keeps, same_id, same_itself, id_total, all_of, some_mapped}
 use Rattle.plant_recipe.specs.declared.progress.Progress.{Progress}
 use Rattle.plant_recipe.specs.{is_phase, greatest_phases, is_ended, turn, turn_closed, progress_after}
 use Rattle.plant_recipe.specs.Progress as progress
@@ -22,7 +20,6 @@ use Rattle.plant_recipe.proofs.EventFold.{progress_after_push, turn_capped}
 use Rattle.plant_view.specs.declared.change.RowChange.TheVariants as row
 use Rattle.plant_view.specs.{refuse, at_limit, tables_of, changed_all, row_at, batch_row, batch_row_order, phases_among, events_among, headers_of, orders_of, order_among, IsConsistentBatch, progress_at}
 use Rattle.plant_view.specs.DecisionInvariant.{DecisionInvariant}
-use Rattle.plant_view.proofs.RowsInTurn.{all_of, some_mapped}
 use Rattle.plant_rules_production.specs.Orders.{with_state}
 use Rattle.plant_rules_production.specs.{turn_at, progress_in, refuse_turn, wrong_event, event_row, happened, wrong_close_batch, job_of, close_batch}
 use Rattle.plant_rules_production.proofs.OrdersPreserved.{order_of_job, some_order}

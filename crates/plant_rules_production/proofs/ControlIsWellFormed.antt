@@ -5,15 +5,11 @@ use Rattle.std.proofs.lemmas.Option.{same_Some}
 use Rattle.std.proofs.lemmas.Bool.Decides.{nat_tests}
 use Rattle.plant_base.specs.{greatest_amount, is_amount, HasLineValues, State, same, batch_at, Batch, ControlLine, Header, OrderRow, RecipeLine}
 use Rattle.plant_base.specs.declared.rows.RecipeLine.TheVariants.{In, Out, Parameter, Phase}
-use Rattle.plant_base.proofs.FindIsFirst.{found_passes, found_keeps}
-use Rattle.plant_base.proofs.KeyOrders.{same_id, same_key}
+use Rattle.plant_view.proofs.ListLemmas.{found_passes, found_keeps, same_id, same_key, all_two, each_fails, all_mapped, each_passes}
 use Rattle.plant_recipe.specs.{fits, is_well_formed, is_size_of, line_scaled, scales_to_nothing, control_of}
 use Rattle.plant_recipe.proofs.RecipeLines.{control_fits}
 use Rattle.plant_view.specs.{headers_of, header_among, lines_among, IsWholeRecipe, orders_of, order_among, is_size_of_some, control_among, control_of_header, control_of_order, IsConsistentBatch}
 use Rattle.plant_view.specs.DecisionInvariant.{DecisionInvariant}
-use Rattle.plant_view.proofs.CommandsPreserveInvariant.{all_two}
-use Rattle.plant_view.proofs.TestsAndSums.{each_fails}
-use Rattle.plant_view.proofs.RowsInTurn.{all_mapped, each_passes}
 
 -- the lines are the control recipe of a well-formed recipe for one of its sizes
 pub record IsMade (control : List RecipeLine) : Type 0 where

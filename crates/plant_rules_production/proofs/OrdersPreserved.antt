@@ -8,15 +8,11 @@ use Rattle.std.proofs.lemmas.Cmp.{eq_by_cmp_equiv}
 use Rattle.std.proofs.lemmas.Bool.{false≢true}
 use Rattle.plant_base.specs.{same, put, job_order, batch_order, control_line_order, Batch, BatchEvent, ControlLine, Header, Job, JobState, MasterLine, OrderRow, RecipeLine}
 use Rattle.plant_base.specs.declared.states.JobState.TheVariants.{Open, Cancelled, Released, Finished}
-use Rattle.plant_base.proofs.FindIsFirst.{found_passes, found_keeps}
-use Rattle.plant_base.proofs.PutKeepsOrder.{all_weaker, all_put, sorted_put, found_put, found_new, put_there, put_kept}
-use Rattle.plant_base.proofs.KeyOrders.{same_id, same_itself, id_total, id_tie, id_still}
+use Rattle.plant_view.proofs.ListLemmas.{found_passes, found_keeps, all_weaker, all_put, sorted_put, found_put, found_new, put_there, put_kept, same_id, same_itself, id_total, id_tie, id_still, all_mapped, all_unmapped, none_passes, none_left, sorted_mapped, find_mapped, all_put_apart, found_past, found_past_all, all_put_all, sorted_put_all, filter_past_all, filter_new_all, all_numbered, map_numbered, sorted_numbered, all_two}
 use Rattle.plant_rules_production.specs.{is_open, opened}
 use Rattle.plant_rules_production.specs.Orders.{with_state}
 use Rattle.plant_view.specs.{control_line, numbered, put_all, header_among, orders_of, order_among, batch_among, job_among, is_size_of_some, has_batch, HasValidOrder, AreConsistentOrders, control_among, control_of_order, HasBatchValues, IsConsistentBatch, is_batch_among, AreConsistentBatches}
-use Rattle.plant_view.proofs.RowsInTurn.{all_mapped, all_unmapped, none_passes, none_left, sorted_mapped, find_mapped, all_put_apart, found_past, found_past_all, all_put_all, sorted_put_all, filter_past_all, filter_new_all, all_numbered, map_numbered, sorted_numbered}
 use Rattle.plant_view.proofs.RowKeys.{order_row_order, control_line_order_total, control_batch_tied, ids_apart, control_rises}
-use Rattle.plant_view.proofs.CommandsPreserveInvariant.{all_two}
 
 -- ---- keys of jobs
 

@@ -8,9 +8,7 @@ use Rattle.plant_base.specs.declared.refusal.Refusal.TheVariants.{UnknownRecipe,
 use Rattle.plant_base.specs.declared.states.RecipeState.TheVariants.{Draft}
 use Rattle.plant_base.specs.declared.states.JobState.TheVariants.{Cancelled, Released, Finished}
 use Rattle.plant_base.specs.declared.states.Event.TheVariants.{Closed}
-use Rattle.plant_base.proofs.FindIsFirst.{found_passes}
-use Rattle.plant_base.proofs.PutKeepsOrder.{all_weaker, all_push}
-use Rattle.plant_base.proofs.KeyOrders.{same_id}
+use Rattle.plant_view.proofs.ListLemmas.{found_passes, all_weaker, all_push, same_id, each_passes, all_filtered, filtered_passes, some_mapped, all_two, each_fails, not_false}
 use Rattle.plant_recipe.specs.declared.progress.Progress.{Progress}
 use Rattle.plant_recipe.specs.{is_well_formed, is_ended, turn_closed}
 use Rattle.plant_recipe.specs.Progress as progress
@@ -20,10 +18,8 @@ use Rattle.plant_rules_production.specs.Recipes.{with_state}
 use Rattle.plant_rules_production.specs.Orders as orders
 use Rattle.plant_view.specs.DecisionInvariant.{DecisionInvariant}
 use Rattle.plant_view.proofs.HeadersFound.{header_found, size_of_recipe}
-use Rattle.plant_view.proofs.RowsInTurn.{each_passes, all_filtered, filtered_passes, some_mapped}
-use Rattle.plant_view.proofs.CommandsPreserveInvariant.{passed, is_there, all_two}
+use Rattle.plant_view.proofs.CommandsPreserveInvariant.{passed, is_there}
 use Rattle.plant_view.proofs.GenealogyAfterMovement.{descent_released}
-use Rattle.plant_view.proofs.TestsAndSums.{each_fails, not_false}
 use Rattle.plant_rules_production.proofs.RecipesPreserved.{headers_put, headers_same, with_state_sorted, recipes_moved, more, recipes_added, orders_headed, batches_headed}
 use Rattle.plant_rules_production.proofs.OrdersPreserved.{order_of_job, orders_same, open_has_none, orders_moved, orders_imported, batches_imported, jobs_imported, orders_released, batches_released}
 use Rattle.plant_rules_production.proofs.BatchRows.{batch_consistent, closed_at, open_turn, order_there}

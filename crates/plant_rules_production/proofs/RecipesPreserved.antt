@@ -5,13 +5,10 @@ use Rattle.std.specs.List.Sorted.{IsStrictlySortedBy}
 use Rattle.std.proofs.lemmas.Bool.{false≢true}
 use Rattle.plant_base.specs.{same, put, definition_order, recipe_order, master_line_order, is_version, HasHeaderValues, HasLineValues, Batch, BatchEvent, ControlLine, Definition, Header, Job, MasterLine, OrderRow, Recipe, RecipeLine, RecipeState}
 use Rattle.plant_base.specs.declared.rows.RecipeLine.TheVariants.{In, Out, Parameter, Phase}
-use Rattle.plant_base.proofs.FindIsFirst.{found_passes}
-use Rattle.plant_base.proofs.PutKeepsOrder.{all_weaker, sorted_put, found_put, found_same, put_there, put_kept}
-use Rattle.plant_base.proofs.KeyOrders.{same_key, key_itself, id_still}
+use Rattle.plant_view.proofs.ListLemmas.{found_passes, all_weaker, sorted_put, found_put, found_same, put_there, put_kept, same_key, key_itself, id_still, none_left, each_passes, sorted_mapped, find_mapped, all_put_apart, all_put_all, sorted_put_all, filter_past_all, filter_new_all, all_numbered, map_numbered, sorted_numbered}
 use Rattle.plant_recipe.specs.{is_well_formed, control_of}
 use Rattle.plant_view.specs.{is_defined, is_known, master_line, numbered, put_all, headers_of, header_among, rows_among, lines_among, IsWholeRecipe, AreConsistentRecipes, orders_of, order_among, is_size_of_some, AreConsistentOrders, control_of_header, control_of_order, AreConsistentBatches}
 use Rattle.plant_rules_production.specs.Recipes.{with_state}
-use Rattle.plant_view.proofs.RowsInTurn.{none_left, each_passes, sorted_mapped, find_mapped, all_put_apart, all_put_all, sorted_put_all, filter_past_all, filter_new_all, all_numbered, map_numbered, sorted_numbered}
 use Rattle.plant_view.proofs.RowKeys.{header_order, header_order_total, recipe_order_total, master_line_order_total, numbered_tie, numbered_test, master_recipe_tied, header_test, keys_apart, master_rises}
 
 -- ---- a new definition

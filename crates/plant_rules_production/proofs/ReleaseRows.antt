@@ -6,9 +6,7 @@ use Rattle.plant_base.specs.{greatest_seq, State, newest_schema, same, put, batc
 use Rattle.plant_base.specs.declared.refusal.Refusal.TheVariants.{Exists, UnknownOrder, NotApproved, OrderNotOpen, ScaledToNothing, TooMany}
 use Rattle.plant_base.specs.declared.states.RecipeState.TheVariants.{Approved}
 use Rattle.plant_base.specs.declared.states.JobState.TheVariants.{Released}
-use Rattle.plant_base.proofs.PutKeepsOrder.{put_map, all_weaker}
-use Rattle.plant_base.proofs.FindIsFirst.{found_passes, found_keeps}
-use Rattle.plant_base.proofs.KeyOrders.{same_key, id_total}
+use Rattle.plant_view.proofs.ListLemmas.{put_map, all_weaker, found_passes, found_keeps, same_key, id_total, all_of, none_left, find_mapped, filter_past_all, all_numbered}
 use Rattle.plant_recipe.specs.{is_phase, is_well_formed, is_size_of, control_of, opening_progress, progress_after}
 use Rattle.plant_view.specs.declared.change.RowChange.TheVariants as row
 use Rattle.plant_view.specs.{refuse, at_limit, control_line, numbered, put_all, headers_of, header_among, orders_of, order_among, is_size_of_some, IsWholeRecipe, is_batch_among, tables_of, changed, changed_all, row_at, batch_row, batch_row_order, phases_among, events_among}
@@ -17,7 +15,6 @@ use Rattle.plant_rules_production.specs.Orders.{with_state}
 use Rattle.plant_view.specs.DecisionInvariant.{DecisionInvariant}
 use Rattle.plant_view.specs.Tables.{Tables}
 use Rattle.plant_view.proofs.HeadersFound.{header_found}
-use Rattle.plant_view.proofs.RowsInTurn.{all_of, none_left, find_mapped, filter_past_all, all_numbered}
 use Rattle.plant_view.proofs.RowKeys.{control_line_order_total, control_batch_tied, ids_apart}
 
 -- ---- what a consistent state has of an order that is there

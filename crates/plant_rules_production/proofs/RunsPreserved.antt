@@ -9,17 +9,13 @@ use Rattle.std.proofs.lemmas.Cmp.{eq_by_cmp_equiv}
 use Rattle.plant_base.specs.{State, same, put, job_order, batch_order, batch_at, Batch, BatchEvent, BatchState, ControlLine, Event, Job, RecipeLine, Refusal, Stamp}
 use Rattle.plant_base.specs.declared.refusal.Refusal.TheVariants.{PhasesLeft, NotNextPhase, BatchClosed, WrongState, TooMany}
 use Rattle.plant_base.specs.declared.states.Event.TheVariants.{Moved, PhaseDone, Closed}
-use Rattle.plant_base.proofs.FindIsFirst.{found_passes, found_keeps}
-use Rattle.plant_base.proofs.PutKeepsOrder.{all_weaker, found_same}
-use Rattle.plant_base.proofs.KeyOrders.{same_id, same_itself}
+use Rattle.plant_view.proofs.ListLemmas.{found_passes, found_keeps, all_weaker, found_same, same_id, same_itself, all_two, all_of, all_put_apart, found_own}
 use Rattle.plant_recipe.specs.declared.progress.Progress.{Progress}
 use Rattle.plant_recipe.specs.{next_state_of, is_running, is_reset, is_phase_left, refuse_event, ends_with_phases_left, has_no_attempt_left, turn_to, turn_moved, turn_phase_done, turn, then_turn, run_of, progress_after}
 use Rattle.plant_recipe.proofs.EventFold.{run_push, progress_after_push, goes_along}
 use Rattle.plant_view.specs.{headers_of, orders_of, batch_among, job_among, has_finished, IsConsistentBatch, is_batch_among, IsConsistentRun, AreConsistentRuns, phases_among, events_among, progress_at}
 use Rattle.plant_view.specs.DecisionInvariant.{DecisionInvariant}
-use Rattle.plant_view.proofs.CommandsPreserveInvariant.{all_two}
 use Rattle.plant_view.proofs.RowKeys.{ids_apart}
-use Rattle.plant_view.proofs.RowsInTurn.{all_of, all_put_apart, found_own}
 use Rattle.plant_rules_production.specs.{turn_at, event_row}
 use Rattle.plant_rules_production.proofs.BatchRows.{own_event, other_event, batch_key, batch_consistent, put_batch_there}
 use Rattle.plant_rules_production.proofs.OrdersPreserved.{job_tied, job_order_total, batch_order_total}

@@ -8,7 +8,7 @@ use Rattle.std.specs.Ordering.{match_ordering}
 use Rattle.std.proofs.lemmas.List.Sorted.{IsPermutation-refl, IsPermutation-trans, IsPermutation-sym, IsPermutation-cons, IsPermutation-middle}
 use Rattle.sqlite_value.specs.Order.{Row}
 use Rattle.plant_base.specs.{put}
-use Rattle.plant_base.proofs.PutKeepsOrder.{all_weaker}
+use Rattle.plant_view.proofs.ListLemmas.{all_weaker}
 use Rattle.sql_tables.specs.{TableDef, meets}
 use Rattle.sql_tables.specs.Rows as rows
 

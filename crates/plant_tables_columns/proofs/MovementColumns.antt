@@ -3,7 +3,7 @@ use Rattle.std.proofs.Common.{◌≡◌, refl, ap, ◌∙◌, subst, ℕ, List, 
 use Rattle.std.proofs.lemmas.Bool.{and_parts}
 use Rattle.plant_base.specs.{Movement, MovementKind}
 use Rattle.plant_base.specs.declared.rows.MovementKind.TheVariants as kind
-use Rattle.plant_base.proofs.KeyOrders.{same_id, same_itself}
+use Rattle.plant_view.proofs.ListLemmas.{same_id, same_itself}
 use Rattle.plant_tables_columns.specs.{names_nothing, batch_named, lot_named, is_lot, sublot_named, kind_of_code, kind_from, moved_as, movement_from, code_of, other_lot, other_sublot, booked_of}
 use Rattle.plant_tables_columns.specs.Booked.{is_zero}
 use Rattle.plant_view.specs.{batch_by}

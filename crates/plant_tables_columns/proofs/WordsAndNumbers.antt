@@ -8,8 +8,7 @@ use Rattle.plant_base.specs.declared.states.JobState.TheVariants as job_state
 use Rattle.plant_base.specs.declared.states.BatchState.TheVariants as batch_state
 use Rattle.plant_base.specs.declared.states.Word.TheVariants as word
 use Rattle.plant_base.specs.declared.states.Event.TheVariants as event
-use Rattle.plant_base.proofs.FindIsFirst.{found_passes}
-use Rattle.plant_base.proofs.KeyOrders.{same_id}
+use Rattle.plant_view.proofs.ListLemmas.{found_passes, same_id}
 use Rattle.sqlite.specs.declared.types.Value.TheVariants.{Text}
 use Rattle.sql_tables.specs.{integer, text}
 use Rattle.plant_tables_columns.specs.{number, number_in, by_text, by_number, named, numbered, event_name, event_phase, all_recipe_states, all_job_states, all_batch_states, recall_state_name, all_recall_states, all_words, word_named, plain_event, event_named, line_kind_number, all_line_kind_codes, movement_kind_number, all_movement_kind_codes, all_edge_kinds, all_mark_kinds}

@@ -1,9 +1,8 @@
 -- The rows of tables, and the tables of those rows.
 use Rattle.std.proofs.Common.{◌≡◌, refl, ap, ◌∙◌, ◌≤◌, true, List, [], ◌∷◌, map, Option, Some, is_some, filter_map}
 use Rattle.std.specs.List.{AllByRecursion, cons_option}
-use Rattle.plant_base.proofs.PutKeepsOrder.{all_weaker}
+use Rattle.plant_view.proofs.ListLemmas.{all_weaker, all_mapped}
 use Rattle.plant_base.specs.{is_there}
-use Rattle.plant_view.proofs.RowsInTurn.{all_mapped}
 use Rattle.plant_view.specs.Tables.{Tables}
 use Rattle.plant_tables_columns.specs.{movement_from, booked_of, recall_from, stated_of, HasMasterLineValues, HasControlLineValues, HasMovementRowValues, HasReceiptRowValues, HasValidValues}
 use Rattle.plant_tables_read.specs.{tables_in, rows_in, AreWhole}

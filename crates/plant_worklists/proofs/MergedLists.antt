@@ -7,7 +7,7 @@ use Rattle.std.specs.Ordering.{ordering_reverse}
 use Rattle.std.specs.Set.{sorted_merge}
 use Rattle.std.proofs.lemmas.Bool.Decides.{nat_tests}
 use Rattle.std.proofs.lemmas.Cmp.{tied_itself}
-use Rattle.plant_view.proofs.RowsInTurn.{all_filtered}
+use Rattle.plant_view.proofs.ListLemmas.{all_filtered}
 use Rattle.plant_worklists.specs.{page_size, page_of}
 use Rattle.plant_worklists.specs.declared.page.Page.{Page}
 use Rattle.std.proofs.lemmas.Grind.{common_steps}

@@ -6,7 +6,7 @@ use Rattle.std.proofs.lemmas.Bool.Decides.{nat_tests}
 use Rattle.std.proofs.lemmas.Cmp.{nat_list_cmp_total}
 use Rattle.std.proofs.lemmas.Option.{get_or_from_slice_get, slice_get-get_or}
 use Rattle.plant_base.specs.{id_cmp, same}
-use Rattle.plant_base.proofs.KeyOrders.{same_id}
+use Rattle.plant_view.proofs.ListLemmas.{same_id}
 use Rattle.plant_worklists.specs.{AreRead, Rise, end_of, is_before, is_between, rows_after, rows_of, page_of, page_size, is_after}
 use Rattle.plant_worklists.specs.declared.page.Page.{Page}
 use Rattle.plant_worklists.proofs.RowsOfLot.{prefix_and_rest, is_of, none_pass, rise_prefix, rises}

@@ -1,7 +1,7 @@
 use Rattle.std.proofs.Common.{rules, ◌≡◌, ◌++◌, ◌∷◌, []}
 use Rattle.std.proofs.lemmas.Result.{IfOk-from_err}
 use Rattle.plant_trace.proofs.HoldsIfHonest.{HoldsIfHonest-then}
-use Rattle.plant_view.proofs.RowsInTurn.{map_more}
+use Rattle.plant_view.proofs.ListLemmas.{map_more}
 use Rattle.plant_answers.specs.{recipe_line}
 use Rattle.plant_answers.proofs.recipe_answers.each_with_unit.Goals as goal
 

@@ -4,7 +4,7 @@ from __future__ import annotations
 from regions import Region
 from table_words import filled, is_stored_as_read, keyed, law, many, orders, row_laws, row_types, used, uses, values
 
-DEFS, ROWS, STATE = "plant_tables.specs.DeskTableDefs", "plant_base.specs", "plant_base.specs.PlantState"
+ROWS, STATE = "plant_base.specs", "plant_base.specs.PlantState"
 BASE, OWN, LAWS = "plant_base.specs.RowValues", "plant_tables_columns.specs.ValidValues", "plant_tables_columns.proofs.RowLaws"
 
 

@@ -209,15 +209,15 @@ def lacked(desk):
     return [it for it in later(desk.tables) if it.in_state]
 
 
-def parts_of(value, count):
-    """The components of so many in pairs."""
-    return [value + ".1" * number + ("" if number + 1 == count else ".0") for number in range(count)]
+def together(items):
+    """The components of a record that has no names for them."""
+    return f"({', '.join(items)})"
 
 
 def in_states(desk):
     """The regions on the rows of a state that a schema lacks."""
     tables = lacked(desk)
-    wholes, read = parts_of("whole", len(tables)), [it for it in later(desk.tables) if it.schema > 2]
+    wholes, read = [f"whole.{number}" for number in range(len(tables))], [it for it in later(desk.tables) if it.schema > 2]
     view, checked = "plant_view/specs/Tables.antt", "plant_desk_store/proofs/CheckedStore.antt"
     kept = (filled(f"kept_on $schema version later s.$list low {whole}", it) for it, whole in zip(tables, wholes))
     return [
@@ -228,13 +228,13 @@ ${list}_in schema $list = if nat_le $schema schema then $list else []""", "\n\n"
         Region(view, "the rows that a schema may lack", "IsWholeIn k s = " + " × ".join(f"({it.rows} ≡ s.{it.list})" for it in tables)),
         Region("plant_answers/proofs/PlainTables.antt", "the rows that a schema may lack", "\n".join(
             filled(f"$list = {whole} i;", it) for it, whole in zip(tables, wholes))),
-        Region("plant_answers/proofs/PlainTables.antt", "the newest schema lacks none", f"whole_in_newest s = {nested(['refl'] * len(tables))}"),
-        Region("plant_migrate/proofs/ChangesOfState.antt", "the rows that a schema may lack", f"whole_on version later s low whole = {nested(kept)}"),
+        Region("plant_answers/proofs/PlainTables.antt", "the newest schema lacks none", f"whole_in_newest s = {together(['refl'] * len(tables))}"),
+        Region("plant_migrate/proofs/ChangesOfState.antt", "the rows that a schema may lack", f"whole_on version later s low whole = {together(kept)}"),
         Region("plant_migrate/proofs/RaisedBySteps.antt", "the tables that later schemas add", many(
             read, "$list = λ lacking. let below : nat_le $schema version ≡ false = grind (arith, nat_tests) in"
             " ap (λ (u : Tables). u.$list) stay.1 ∙ can.lacks.$list below;")),
         Region(checked, "the rows that a schema may lack", "let whole : IsWholeIn version s = subst (λ k. IsWholeIn k s) fit.reports "
-               + nested(filled("sym (ap (λ (t : Tables). t.$list) found.tables)", it) for it in tables) + " in"),
+               + together(filled("sym (ap (λ (t : Tables). t.$list) found.tables)", it) for it in tables) + " in"),
         Region("plant_check_laws/proofs/InvariantImpliesChecksPass.antt", "the rows that a schema may lack",
                "state_again = record (state_in rows) { " + "; ".join(filled("$list = s.$list", it) for it in tables) + " }"),
         Region("plant_check_laws/proofs/RowsInKeyOrder.antt", "no rows of later tables", many(tables, """\

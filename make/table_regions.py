@@ -3,7 +3,7 @@ from __future__ import annotations
 
 import re
 
-from regions import Region, camel, chain, nested, packed
+from regions import Region, chain, nested, packed
 from table_words import bracketed, filled, imports, is_stored_as_read, keyed, later, many, names, orders
 
 # ---- texts

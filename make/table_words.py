@@ -102,7 +102,7 @@ def uses(module, items):
 def used(path, items, before="use "):
     """The names that code uses of a module, in one line or in lines that are as full as they can be."""
     line = f"{before}{path}::{{{', '.join(items)}}};"
-    return line if len(line) <= 100 else packed(items, f"{before}{path}::{{", "};")
+    return line if len(line) <= 98 else packed(items, f"{before}{path}::{{", "};")
 
 
 # ---- kinds of tables

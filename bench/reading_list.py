@@ -48,15 +48,28 @@ class File:
             found = re.search(r"^(?:pub )?(?:abbrev|record|unfoldable|data)(?: pub)? (\S+)", block, re.M)
             if found:
                 block = without_reading(block) if "/plant_tables_columns/" in path else block
-                lines = [it for it in block.split("\n") if not it.startswith(("use ", "-- ----", "infix"))]
+                lines = [it for it in block.split("\n") if not it.lstrip().startswith(("use ", "-- ----", "infix"))]
                 self.defined[found[1]] = ("\n".join(lines), len(lines))
 
 
+def passed_on():
+    """The file of each name that the root of a crate's definitions passes on, by the root and the name."""
+    homes = {}
+    for path in glob.glob("crates/*/specs/Lib.antt"):
+        root = path[len("crates/") : -len("/Lib.antt")].replace("/", ".")
+        with open(path, encoding="utf-8") as it:
+            for module, names in re.findall(r"^(?:unfoldable )?pub use (?!Rattle)(\S+?)\.\{([^}]*)\}", it.read(), re.M):
+                homes.update({(root, name.strip()): f"{root}.{module}" for name in names.split(",")})
+    return homes
+
+
 def read_files():
-    files = {}
+    files, homes = {}, passed_on()
     for path in glob.glob("crates/*/specs/**/*.antt", recursive=True):
         if "/declared/" not in path and not path.endswith("/Lib.antt"):
-            files[path[len("crates/") : -len(".antt")].replace("/", ".")] = File(path)
+            file = File(path)
+            file.imports = {name: homes.get((module, name), module) for name, module in file.imports.items()}
+            files[path[len("crates/") : -len(".antt")].replace("/", ".")] = file
     return files
 
 

@@ -21,11 +21,11 @@ has_number_of r q = q.seq == r.seq
 -- a number is as often among those of receipts as they have it
 counted : (n : ℕ) (rs : List Receipt) → length (filter (λ m. m == n) (seqs_of rs)) ≡ length (filter (λ (q : Receipt). q.seq == n) rs)
 counted n [] = refl
-counted n (q ∷ qs) = at (q.seq == n) (counted n qs)
+counted n (q ∷ qs) = at (filter (λ m. m == n) (seqs_of qs)) (filter (λ (x : Receipt). x.seq == n) qs) (q.seq == n) (counted n qs)
   where
-    at : {ms : List ℕ} {rs : List Receipt} (b : Bool) → length ms ≡ length rs → length (cond b (q.seq ∷ ms) ms) ≡ length (cond b (q ∷ rs) rs)
-    at true e = ap suc e
-    at false e = e
+    at : (ms : List ℕ) (rs : List Receipt) (b : Bool) → length ms ≡ length rs → length (cond b (q.seq ∷ ms) ms) ≡ length (cond b (q ∷ rs) rs)
+    at ms rs true e = ap suc e
+    at ms rs false e = e
 
 same_number : (a b : ℕ) → (a == b) ≡ (b == a)
 same_number a b = grind (arith, nat_tests)
@@ -53,12 +53,11 @@ receipts_exact greatest rs =
     let own = λ (r : Receipt). eq-eqb r.seq r.seq refl in
     let alone = λ (r : Receipt). by_test (ap (λ k. k == 1) (counted r.seq rs)) (equal_exact (length (filter (has_number_of r) rs)) 1) in
     in_words
-    (all_exact (is_right_receipt greatest (seqs_of rs)) (λ r. IsGiven r × (IsContent r × IsAlone r)) (λ r. both (given_exact greatest r.seq) (both (passing (is_content r.content)) (alone r))) rs)
-    (λ a. let apart = all_apart IsGiven (λ r. IsContent r × IsAlone r) rs a in
-    let made = all_apart IsContent IsAlone rs apart.1 in
-    ((apart.0, made.0), none_shares rs (apart_alone has_number_of own (λ r q. same_number q.seq r.seq) rs made.1)))
+    (all_exact (is_right_receipt greatest (seqs_of rs)) (λ r. (IsGiven r × IsContent r) × IsAlone r) (λ r. both (both (given_exact greatest r.seq) (passing (is_content r.content))) (alone r)) rs)
+    (λ a. let apart = all_apart (λ r. IsGiven r × IsContent r) IsAlone rs a in
+    (all_apart IsGiven IsContent rs apart.0, none_shares rs (apart_alone has_number_of own (λ r q. same_number q.seq r.seq) rs apart.1)))
     (λ f. let alone = all_weaker _ IsAlone (λ r left. ap length left) rs (one_left has_number_of own rs (apart_both_ways rs f.1)) in
-    all_joined IsGiven (λ r. IsContent r × IsAlone r) rs f.0.0 (all_joined IsContent IsAlone rs f.0.1 alone))
+    all_joined (λ r. IsGiven r × IsContent r) IsAlone rs (all_joined IsGiven IsContent rs f.0.0 f.0.1) alone)
 
 -- contents of receipts that pass aren't empty
 pub contents_there : (greatest : ℕ) (rs : List Receipt) → are_receipts greatest rs ≡ true → AllByRecursion (λ r. is_there r.content ≡ true) rs

@@ -34,6 +34,16 @@ pub both_none : (a b : Option RowFault) (p q : Bool) → is_none a ≡ p → is_
 both_none None b p q e f = f ∙ (λ i. e i && q)
 both_none (Some x) b p q e f = λ i. e i && q
 
+-- what is reported three times
+pub each_none : (a b c : Option RowFault) (p q r : Bool) → is_none a ≡ p → is_none b ≡ q → is_none c ≡ r → is_none (or_fault a (or_fault b c)) ≡ (p && q && r)
+each_none None b c p q r e f g = both_none b c q r f g ∙ (λ i. e i && q && r)
+each_none (Some x) b c p q r e f g = λ i. e i && q && r
+
+-- what is reported, and then three times
+pub then_each : (a b c d : Option RowFault) (p q r s : Bool) → is_none a ≡ p → is_none b ≡ q → is_none c ≡ r → is_none d ≡ s → is_none (or_fault a (or_fault b (or_fault c d))) ≡ (p && q && r && s)
+then_each None b c d p q r s e f g h = each_none b c d q r s f g h ∙ (λ i. e i && q && r && s)
+then_each (Some x) b c d p q r s e f g h = λ i. e i && q && r && s
+
 -- none is reported of a list exactly where each of its elements passes
 pub first_none : {R : Type 0} (fault_of : R → Option RowFault) (passes : R → Bool) → ((r : R) → is_none (fault_of r) ≡ passes r) → (rs : List R) → is_none (first_reported fault_of rs) ≡ list_all passes rs
 first_none fault_of passes each [] = refl

@@ -13,8 +13,8 @@ use Rattle.plant_check_plans.specs.{control_asked_for, is_control, is_row_among,
 use Rattle.plant_check_stock.specs.{are_by, are_lines, are_numbers, has_right_number, is_apart, is_entered_before, is_given, is_next_line, is_right_receipt, seqs_of, is_there, is_batch_there, is_of_right_definition, is_of_right_merge, names_known, is_right_movement}
 use Rattle.plant_check.specs.{movements_in, obeys, has_right_stock, are_from_zero, sublots_among, is_lot_among, is_born, is_right_lot, is_right_sublot, Rule}
 use Rattle.plant_check.specs.declared.rule.Rule.TheVariants as rule
-use Rattle.plant_check_rows.specs.{run_found, run_fault, row_fault, is_broken_by_row, IsFoundByRow, IsFoundWhereBroken, Finding, RowFault, lot_fault, sublot_fault, naming_fault, movement_fault, size_fault, order_fault, batch_fault, line_fault, recipe_fault, stock_fault}
-use Rattle.plant_check_rows.proofs.FaultIfBroken.{reported_none, two_none, three_none, after_three, then_two, both_none, first_none, all_mapped}
+use Rattle.plant_check_rows.specs.{run_found, run_fault, row_fault, is_broken_by_row, IsFoundByRow, IsFoundWhereBroken, Finding, RowFault, lot_fault, sublot_fault, naming_fault, movement_fault, size_fault, order_fault, batch_fault, line_fault, recipe_fault, stock_fault, line_fault_in, number_fault, number_fault_in, late_fault_in}
+use Rattle.plant_check_rows.proofs.FaultIfBroken.{reported_none, two_none, three_none, after_three, then_two, both_none, each_none, then_each, first_none, all_mapped}
 
 -- ---- rows
 
@@ -81,14 +81,13 @@ number_none greatest events ms m = three_none (is_given greatest m.seq) (is_apar
 
 pub numbers_none : (greatest : ℕ) (events : List BatchEvent) (ms : List Movement) → is_none (number_fault_in greatest events ms) ≡ are_numbers greatest events ms
 numbers_none greatest events ms =
-    both_none _ _ _ _ (lines_none None ms)
-    (both_none _ _ _ _ (first_none _ (has_right_number greatest events ms) (number_none greatest events ms) ms) (first_none _ (λ e. is_given greatest e.seq) (λ e. reported_none _ _) events))
+    each_none _ _ _ _ _ _ (lines_none None ms) (first_none _ (has_right_number greatest events ms) (number_none greatest events ms) ms)
+    (first_none _ (λ (e : BatchEvent). is_given greatest e.seq) (λ e. reported_none _ _) events)
 
 pub late_none : (at : ℕ) (ms : List Movement) (es : List BatchEvent) (batches : List BatchRow) (holds : List Hold) → is_none (late_fault_in at ms es batches holds) ≡ are_by at ms es batches holds
 late_none at ms es batches holds =
-    both_none _ _ _ _ (first_none _ (λ m. nat_le m.at at) (λ m. reported_none _ _) ms)
-    (both_none _ _ _ _ (first_none _ (λ e. nat_le e.at at) (λ e. reported_none _ _) es)
-    (both_none _ _ _ _ (first_none _ (λ b. nat_le b.batch.at at) (λ b. reported_none _ _) batches) (first_none _ (λ h. nat_le h.at at) (λ h. reported_none _ _) holds)))
+    then_each _ _ _ _ _ _ _ _ (first_none _ (λ (m : Movement). nat_le m.at at) (λ m. reported_none _ _) ms) (first_none _ (λ (e : BatchEvent). nat_le e.at at) (λ e. reported_none _ _) es)
+    (first_none _ (λ (b : BatchRow). nat_le b.batch.at at) (λ b. reported_none _ _) batches) (first_none _ (λ (h : Hold). nat_le h.at at) (λ h. reported_none _ _) holds)
 
 -- ---- rules
 

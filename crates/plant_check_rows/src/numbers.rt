@@ -341,7 +341,6 @@ pub(crate) fn number_fault(alloc: Global, rows: &DeskRows) -> Result<Option<RowF
 }
 
 /// Whether numbers and lines are those of commands: whether no row breaks the rule on them. The only error is that memory was refused.
-#[tactic(auto, using(crate::proofs::FoundIfDisobeyed::numbers_none))]
 fn are_numbers(
     alloc: Global,
     greatest: u64,
@@ -350,11 +349,14 @@ fn are_numbers(
 ) -> Result<bool, AllocError>
     ensures { IfOk result (λ b. b ≡ are_numbers greatest events.now movements.now) }
 {
-    Ok(wrong_number(alloc, greatest, events, movements)?.is_none())
+    match wrong_number(alloc, greatest, events, movements) {
+        Ok(None) => Ok(true),
+        Ok(Some(_)) => Ok(false),
+        Err(refused) => Err(refused),
+    }
 }
 
 /// Whether no row is later than the desk's moment. The only error is that memory was refused.
-#[tactic(auto, using(crate::proofs::FoundIfDisobeyed::late_none))]
 fn are_by(
     alloc: Global,
     at: Moment,
@@ -365,7 +367,11 @@ fn are_by(
 ) -> Result<bool, AllocError>
     ensures { IfOk result (λ b. b ≡ are_by at movements.now events.now batches.now holds.now) }
 {
-    Ok(late_fault(alloc, at, movements, events, batches, holds)?.is_none())
+    match late_fault(alloc, at, movements, events, batches, holds) {
+        Ok(None) => Ok(true),
+        Ok(Some(_)) => Ok(false),
+        Err(refused) => Err(refused),
+    }
 }
 
 /// Whether numbers and lines are those of commands, no moment is later than the desk's, and moments don't fall. The only error is that

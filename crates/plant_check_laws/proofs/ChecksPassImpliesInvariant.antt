@@ -3,7 +3,7 @@ use Rattle.std.proofs.Common.{◌≡◌, ◌∙◌, ◌≤◌, nat_le, Bool, tru
 use Rattle.std.specs.List.{AllByRecursion}
 use Rattle.plant_base.specs.{greatest_sublot, edge_order, mark_order, batch_order, place_order, Header, Movement, OrderRow, Place}
 use Rattle.std.specs.List.Sorted.{IsStrictlySortedBy}
-use Rattle.plant_view.proofs.ListLemmas.{all_weaker, all_mapped, each_passes, sorted_mapped}
+use Rattle.plant_view.proofs.ListLemmas.{and_left, and_right, all_weaker, all_mapped, each_passes, sorted_mapped}
 use Rattle.plant_recipe.specs.{is_well_formed}
 use Rattle.plant_stock.specs.{goes_to, comes_from}
 use Rattle.plant_view.specs.{edges_among, recalls_in, marks_in, IsThere, headers_of, header_among, lines_among, orders_of, is_size_of_some, is_batch_among, tables_of, edges_in, receipts_in, place_of_row, batch_row, batch_of_row}
@@ -33,6 +33,7 @@ use Rattle.plant_check_laws.proofs.ReceiptsExact.{contents_there, valid_receipts
 use Rattle.plant_check_laws.proofs.RecipesExact as recipes
 use Rattle.plant_check_laws.proofs.RecipesExact.{classes_exact, IsListed, recipes_exact, consistent_recipes}
 use Rattle.plant_check_laws.proofs.RowsInKeyOrder.{in_order, receipts_none, recalls_none}
+use Rattle.plant_check.specs.declared.rule.Rule.TheVariants as rule
 use Rattle.plant_check_laws.proofs.RulesExact.{PassesAll, rules_passed, tables_passed}
 use Rattle.plant_check_laws.proofs.StocksExact.{IsStocked, stocks_exact, all_covered, all_small, same_sublots}
 use Rattle.plant_check_laws.proofs.ValuesSound.{HaveValues, HasSublotValues, have_values}
@@ -43,7 +44,7 @@ module _ (r : Rows) (p : PassesAll r) where
   ms = movements_in r.movements
 
   whole_movements : AllByRecursion (λ m. is_some (movement_from m) ≡ true) r.movements
-  whole_movements = each_passes (λ m. is_some (movement_from m)) r.movements p.whole
+  whole_movements = each_passes (λ m. is_some (movement_from m)) r.movements (and_left _ _ (p rule.Movements))
 
   -- the rows of table movement are those that book the movements
   booked : r.movements ≡ map booked_of ms
@@ -52,22 +53,22 @@ module _ (r : Rows) (p : PassesAll r) where
   -- ---- what the rules say
 
   formed : AllByRecursion (λ (h : Header). is_well_formed h (lines_among r.master_lines h.recipe h.version) ≡ true) (headers_of r.recipes)
-  formed = all_weaker (IsListed r.definitions r.master_lines) _ (λ h w. w.formed) (headers_of r.recipes) ((recipes_exact r.definitions r.recipes r.master_lines).0 p.recipes).0
+  formed = all_weaker (IsListed r.definitions r.master_lines) _ (λ h w. w.formed) (headers_of r.recipes) ((recipes_exact r.definitions r.recipes r.master_lines).0 (p rule.Recipes)).0
 
   sized : AllByRecursion (λ (o : OrderRow). is_size_of_some (header_among (headers_of r.recipes) o.recipe o.version) o.size ≡ true) (orders_of r.jobs)
-  sized = sized_orders r.recipes r.batches r.jobs p.orders
+  sized = sized_orders r.recipes r.batches r.jobs (p rule.Orders)
 
   runs : AllByRecursion (HasRun r.control_lines r.events) r.batches × AllByRecursion (λ e. is_batch_among (map batch_of_row r.batches) e.batch ≡ true) r.events
-  runs = (events_exact r.control_lines r.events r.batches).0 p.events
+  runs = (events_exact r.control_lines r.events r.batches).0 (p rule.Events)
 
   lots : AreRightLots r.definitions r.lots r.sublots r.holds ms
-  lots = (lots_exact r.definitions r.lots r.sublots r.holds ms).0 (subst (λ rows. are_lots r.definitions r.lots r.sublots r.holds rows ≡ true) booked p.lots)
+  lots = (lots_exact r.definitions r.lots r.sublots r.holds ms).0 (subst (λ rows. are_lots r.definitions r.lots r.sublots r.holds rows ≡ true) booked (p rule.Lots))
 
   stocked : AllByRecursion (IsStocked ms) r.sublots
-  stocked = (stocks_exact ms r.sublots).0 (subst (λ rows. are_stocks rows r.sublots ≡ true) booked p.stocks)
+  stocked = (stocks_exact ms r.sublots).0 (subst (λ rows. are_stocks rows r.sublots ≡ true) booked (p rule.Stocks))
 
   moved : AllByRecursion (IsRight (state_in r)) ms
-  moved = (movements_exact (state_in r) r.sublots r.batches lots.housed).0 p.movements
+  moved = (movements_exact (state_in r) r.sublots r.batches lots.housed).0 (and_right _ _ (p rule.Movements))
 
   -- what it says of each movement
   of_each : (P : Movement → Type 0) → ((m : Movement) → IsRight (state_in r) m → P m) → AllByRecursion P ms
@@ -78,12 +79,12 @@ module _ (r : Rows) (p : PassesAll r) where
 
   whole : AreWhole r
   whole = record {
-    master_lines = recipes.lines_numbered r.definitions r.recipes r.master_lines p.recipes;
-    control_lines = control_numbered r.recipes r.master_lines r.jobs formed sized r.batches r.control_lines p.batches;
-    movement_lines = subst (AllByRecursion (λ (m : BookedRow). 1 ≤ m.line)) (sym booked) (all_mapped (λ (m : BookedRow). 1 ≤ m.line) booked_of ms (numbers.lines_numbered r.meta.position.seq r.events ms p.numbers));
+    master_lines = recipes.lines_numbered r.definitions r.recipes r.master_lines (p rule.Recipes);
+    control_lines = control_numbered r.recipes r.master_lines r.jobs formed sized r.batches r.control_lines (p rule.Batches);
+    movement_lines = subst (AllByRecursion (λ (m : BookedRow). 1 ≤ m.line)) (sym booked) (all_mapped (λ (m : BookedRow). 1 ≤ m.line) booked_of ms (numbers.lines_numbered r.meta.position.seq r.events ms (and_left _ _ (p rule.Numbers))));
     movements = whole_movements;
-    contents = contents_there r.meta.position.seq r.receipts p.receipts;
-    recalls = each_passes (λ q. is_some (recall_from q)) r.recalls p.fitting;
+    contents = contents_there r.meta.position.seq r.receipts (p rule.Receipts);
+    recalls = each_passes (λ q. is_some (recall_from q)) r.recalls (and_left _ _ (p rule.Recalls));
   }
 
   module _ (v : HaveValues r) where
@@ -113,14 +114,14 @@ module _ (r : Rows) (p : PassesAll r) where
         catalogue = record {
           classes = o.keyed.classes;
           definitions = o.keyed.definitions;
-          classified = (classes_exact r.classes r.definitions).0 p.classes;
+          classified = (classes_exact r.classes r.definitions).0 (p rule.Classes);
           defined = lots.defined;
         };
-        recipes = consistent_recipes r.definitions r.recipes r.master_lines p.recipes v.recipes v.master_lines o.keyed.recipes o.keyed.master_lines;
+        recipes = consistent_recipes r.definitions r.recipes r.master_lines (p rule.Recipes) v.recipes v.master_lines o.keyed.recipes o.keyed.master_lines;
         production = record {
-          orders = consistent_orders r.recipes r.batches r.jobs p.orders o.keyed.jobs v.jobs;
-          batches = consistent_batches r.recipes r.master_lines r.jobs formed sized r.batches r.control_lines p.batches r.events (sorted_mapped batch_order batch_of_row r.batches o.keyed.batches) o.keyed.control_lines v.batches runs.1;
-          runs = consistent_runs r.recipes r.master_lines r.jobs formed sized r.batches r.control_lines p.batches r.events ((orders_exact r.recipes r.batches r.jobs).0 p.orders) runs.0;
+          orders = consistent_orders r.recipes r.batches r.jobs (p rule.Orders) o.keyed.jobs v.jobs;
+          batches = consistent_batches r.recipes r.master_lines r.jobs formed sized r.batches r.control_lines (p rule.Batches) r.events (sorted_mapped batch_order batch_of_row r.batches o.keyed.batches) o.keyed.control_lines v.batches runs.1;
+          runs = consistent_runs r.recipes r.master_lines r.jobs formed sized r.batches r.control_lines (p rule.Batches) r.events ((orders_exact r.recipes r.batches r.jobs).0 (p rule.Orders)) runs.0;
         };
         stock = record {
           lots = o.keyed.lots;
@@ -132,7 +133,7 @@ module _ (r : Rows) (p : PassesAll r) where
           small = all_small (state_in r) r.sublots named lots.births.each lots.small values_moved;
           covered = all_covered (state_in r) r.sublots named stocked;
         };
-        genealogy = record { batched = of_each _ (λ m h. h.batched); acyclic = (acyclic_exact (edges_among ms)).0 p.descent };
+        genealogy = record { batched = of_each _ (λ m h. h.batched); acyclic = (acyclic_exact (edges_among ms)).0 (and_left _ _ (p rule.Descent)) };
         bars = record { holds = o.keyed.holds; placed = lots.placed; recalls = o.keyed.recalls };
       }
 
@@ -142,21 +143,21 @@ module _ (r : Rows) (p : PassesAll r) where
         values = values;
         births = lots.births;
         kept = of_each _ (λ m h. h.defined.1);
-        numbers = numbers.consistent_numbers r.meta.position.seq r.events ms p.numbers o.movements o.events (of_each _ (λ m h. h.merge));
-        moments = (moments_exact r.meta.position.at ms r.events r.batches r.holds).0 p.times;
-        receipts = valid_receipts r.meta.position.seq r.receipts o.keyed.receipts v.receipts p.receipts;
-        recalls = valid_recalls r.meta.position.at r.lots r.recalls v.recalls p.recalls;
+        numbers = numbers.consistent_numbers r.meta.position.seq r.events ms (and_left _ _ (p rule.Numbers)) o.movements o.events (of_each _ (λ m h. h.merge));
+        moments = (moments_exact r.meta.position.at ms r.events r.batches r.holds).0 (and_right _ _ (p rule.Numbers));
+        receipts = valid_receipts r.meta.position.seq r.receipts o.keyed.receipts v.receipts (p rule.Receipts);
+        recalls = valid_recalls r.meta.position.at r.lots r.recalls v.recalls (and_left _ _ (and_right _ _ (p rule.Recalls)));
       }
 
   -- the edges are those of the movements
   edges : r.edges ≡ edges_in r.meta.schema ms
-  edges = (edges_exact r.meta.schema r.edges ms).0 p.edges
+  edges = (edges_exact r.meta.schema r.edges ms).0 (and_right _ _ (p rule.Descent))
 
   sorted_edges : IsStrictlySortedBy edge_order r.edges
   sorted_edges = subst (IsStrictlySortedBy edge_order) (sym edges) (edges_sorted r.meta.schema ms)
 
   marks_rise : IsStrictlySortedBy mark_order r.marks
-  marks_rise = sorted_marks (recalls_read r.recalls) ms r.marks p.marks
+  marks_rise = sorted_marks (recalls_read r.recalls) ms r.marks (and_right _ _ (and_right _ _ (p rule.Recalls)))
 
   same_tables : r.receipts ≡ receipts_in r.meta.schema r.receipts → recalls_read r.recalls ≡ recalls_in r.meta.schema (recalls_read r.recalls) → r.marks ≡ marks_in r.meta.schema (recalls_read r.recalls) ms
       → tables_in r ≡ tables_of r.meta.schema (state_in r)
@@ -183,7 +184,7 @@ unbroken_valid x r u =
       valid = valid r p (have_values x r u.read) (in_order schema x r u.rising u.read w (sorted_edges r p) (marks_rise r p));
       whole = w;
       tables = same_tables r p (kept_in (nat_le 3 schema) r.receipts no_receipts) (kept_in (nat_le 4 schema) recalls no_recalls)
-          (kept_marks recalls (movements_in r.movements) r.marks p.marks (nat_le 4 schema) no_recalls);
+          (kept_marks recalls (movements_in r.movements) r.marks (and_right _ _ (and_right _ _ (p rule.Recalls))) (nat_le 4 schema) no_recalls);
     }
 
 pub unbroken_holds : UnbrokenHolds

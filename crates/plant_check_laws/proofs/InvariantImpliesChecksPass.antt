@@ -1,6 +1,7 @@
 -- The tables of a valid state break no rule, and are read again.
 use Rattle.std.proofs.Common.{◌≡◌, ◌∙◌, ℕ, ◌≤◌, nat_le, true, List, map, Some, None, is_some, refl, sym, ap, subst, arith}
 use Rattle.std.specs.List.{AllByRecursion}
+use Rattle.std.proofs.lemmas.Bool.{and_from}
 use Rattle.sqlite.specs.Effect.{Database}
 use Rattle.plant_base.specs.{State, greatest_amount, Batch, BatchRow, Header, Movement, Place, Recall, Sublot}
 use Rattle.plant_view.proofs.ListLemmas.{all_weaker, map_back, all_two, all_of, all_mapped}
@@ -32,6 +33,7 @@ use Rattle.plant_check_laws.proofs.OrdersExact.{Closes, right_orders}
 use Rattle.plant_check_laws.proofs.RecallsExact.{recalls_pass, marks_pass}
 use Rattle.plant_check_laws.proofs.ReceiptsExact.{receipts_pass}
 use Rattle.plant_check_laws.proofs.RecipesExact.{classes_exact, listed_recipes}
+use Rattle.plant_check.specs.declared.rule.Rule.TheVariants as rule
 use Rattle.plant_check_laws.proofs.RulesExact.{PassesAll, rules_passed, tables_passed}
 use Rattle.plant_check_laws.proofs.StocksExact.{IsStocked, stocks_exact}
 
@@ -94,25 +96,22 @@ module _ (schema : ℕ) (s : State) (valid : StateInvariant s) where
   lots = (lots_exact s.definitions s.lots rows.sublots s.holds ms).1 (record { defined = sound.catalogue.defined; housed = sound.stock.housed; placed = sound.bars.placed; births = valid_again.births; small = small })
 
   passes : PassesAll rows
-  passes = record {
-    classes = (classes_exact s.classes s.definitions).1 sound.catalogue.classified;
-    recipes = listed_recipes s.definitions s.recipes s.master_lines sound.recipes;
-    orders = right_orders s.recipes rows.batches s.jobs sound.production.orders (of_batches (Closes s.jobs) (λ b run. run.finished));
-    batches = right_batches s.recipes s.master_lines s.jobs formed sound.production.orders.sized rows.batches s.control_lines s.events sound.production.batches;
-    stocks = subst (λ xs. are_stocks xs rows.sublots ≡ true) (sym booked_again) ((stocks_exact ms rows.sublots).1 stocked);
-    lots = subst (λ xs. are_lots s.definitions s.lots rows.sublots s.holds xs ≡ true) (sym booked_again) lots;
-    whole = (all_mapped_exact (λ r. is_some (movement_from r)) booked_of _ (λ m. passing _) s.movements).1 (all_of _ (λ (m : Movement). ap is_some (movement_again m)) s.movements);
-    movements = (movements_exact state_again rows.sublots rows.batches sound.stock.housed).1 moved;
-    events = (events_exact s.control_lines s.events rows.batches).1 (of_batches (HasRun s.control_lines s.events) (λ b run. record { allowed = run.allowed; kept = refl }), sound.production.batches.witnessed);
-    numbers = right_numbers s.seq s.events ms valid_again.numbers;
-    times = (moments_exact s.at ms s.events rows.batches s.holds).1 valid_again.moments;
-    descent = (acyclic_exact (edges_among ms)).1 sound.genealogy.acyclic;
-    edges = (edges_exact schema rows.edges ms).1 (ap (edges_in schema) (sym (movements_again s)));
-    receipts = receipts_pass (nat_le 3 schema) s.seq s.receipts valid.receipts;
-    fitting = (all_mapped_exact (λ r. is_some (recall_from r)) stated_of _ (λ r. passing _) (recalls_in schema s.recalls)).1 (all_of _ (λ (r : Recall). ap is_some (recall_again r)) (recalls_in schema s.recalls));
-    recalls = recalls_pass schema s valid.recalls;
-    marks = subst (λ xs. are_marks (recalls_read rows.recalls) xs rows.marks ≡ true) (sym (movements_again s)) (marks_pass schema s);
-  }
+  passes rule.Tables = refl
+  passes rule.Values = refl
+  passes rule.Classes = (classes_exact s.classes s.definitions).1 sound.catalogue.classified
+  passes rule.Recipes = listed_recipes s.definitions s.recipes s.master_lines sound.recipes
+  passes rule.Orders = right_orders s.recipes rows.batches s.jobs sound.production.orders (of_batches (Closes s.jobs) (λ b run. run.finished))
+  passes rule.Batches = right_batches s.recipes s.master_lines s.jobs formed sound.production.orders.sized rows.batches s.control_lines s.events sound.production.batches
+  passes rule.Stocks = subst (λ xs. are_stocks xs rows.sublots ≡ true) (sym booked_again) ((stocks_exact ms rows.sublots).1 stocked)
+  passes rule.Lots = subst (λ xs. are_lots s.definitions s.lots rows.sublots s.holds xs ≡ true) (sym booked_again) lots
+  passes rule.Movements = and_from _ _ ((all_mapped_exact (λ r. is_some (movement_from r)) booked_of _ (λ m. passing _) s.movements).1 (all_of _ (λ (m : Movement). ap is_some (movement_again m)) s.movements))
+      ((movements_exact state_again rows.sublots rows.batches sound.stock.housed).1 moved)
+  passes rule.Events = (events_exact s.control_lines s.events rows.batches).1 (of_batches (HasRun s.control_lines s.events) (λ b run. record { allowed = run.allowed; kept = refl }), sound.production.batches.witnessed)
+  passes rule.Numbers = and_from _ _ (right_numbers s.seq s.events ms valid_again.numbers) ((moments_exact s.at ms s.events rows.batches s.holds).1 valid_again.moments)
+  passes rule.Descent = and_from _ _ ((acyclic_exact (edges_among ms)).1 sound.genealogy.acyclic) ((edges_exact schema rows.edges ms).1 (ap (edges_in schema) (sym (movements_again s))))
+  passes rule.Receipts = receipts_pass (nat_le 3 schema) s.seq s.receipts valid.receipts
+  passes rule.Recalls = and_from _ _ ((all_mapped_exact (λ r. is_some (recall_from r)) stated_of _ (λ r. passing _) (recalls_in schema s.recalls)).1 (all_of _ (λ (r : Recall). ap is_some (recall_again r)) (recalls_in schema s.recalls)))
+      (and_from _ _ (recalls_pass schema s valid.recalls) (subst (λ xs. are_marks (recalls_read rows.recalls) xs rows.marks ≡ true) (sym (movements_again s)) (marks_pass schema s)))
 
   pub valid_unbroken : first_broken_of rows ≡ None
   valid_unbroken = (rules_passed rows).1 passes

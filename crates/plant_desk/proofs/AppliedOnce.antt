@@ -1,5 +1,5 @@
 -- Commands with references act once.
-use Rattle.std.proofs.Common.{◌≡◌, ◌∙◌, ℕ, Bool, true, false, cond, List, [], ◌∷◌, ◌++◌, Option, Some, None, refl, sym, ap, subst, find, not, IsSome, is_some, is_none, ◌||◌, nat_lt}
+use Rattle.std.proofs.Common.{◌≡◌, ◌∙◌, ◌⊎◌, inl, inr, ℕ, Bool, true, false, cond, List, [], ◌∷◌, ◌++◌, Option, Some, None, refl, sym, ap, subst, find, not, IsSome, is_some, is_none, ◌||◌, nat_lt}
 use Rattle.std.specs.List.{list_any}
 use Rattle.std.proofs.lemmas.Bool.{false≢true}
 use Rattle.plant_base.specs.{State, same, put, receipt_order, content_of, stamp_of, Envelope, Receipt, Refusal}
@@ -177,3 +177,33 @@ once_is (e ∷ es) s t v before at same =
 
 pub applied_once : AppliedOnce
 applied_once s xs p = ap but_receipts (attempts_are xs p s) ∙ once_is (answered_of xs) s s s [] refl refl
+
+-- ---- a command that was kept changes nothing later either
+
+kept_on : (s : State) (e f : Envelope) → is_kept s e ≡ true → is_kept (step s f) e ≡ true
+unfolding is_kept
+kept_on s e f k = known_is (f ∷ []) s e ∙ ap (λ b. b || list_any (λ g. is_same_reference e.reference g.reference) (accepted s (f ∷ []))) k
+
+later : (a b : List Envelope) (s : State) (e : Envelope) → is_kept s e ≡ true → fold s (a ++ e ∷ b) ≡ fold s (a ++ b)
+later [] b s e k = ap (λ t. fold t b) (stays s e k)
+later (f ∷ a) b s e k = later a b (step s f) e (kept_on s e f k)
+
+-- a command's second place in a list changes nothing
+abbrev IsIdleLater : State → Envelope → Type 0
+IsIdleLater s e = (a b : List Envelope) → fold s (a ++ e ∷ b) ≡ fold s (a ++ b)
+
+acts_by_reference : (s : State) (e : Envelope) → IsSome e.reference → (k : Option Receipt) (w : Option Refusal) → step s e ≡ unless_refused w s (taken k s e) → (step s e ≡ s) ⊎ IsIdleLater (step s e) e
+unfolding is_kept
+acts_by_reference s e r k (Some x) h = inl h
+acts_by_reference s e r (Some q) None h = inl h
+acts_by_reference s e r None None h =
+    let known : is_kept (step s e) e ≡ true = ap (λ t. is_kept t e) h ∙ noted_kept e (step_body s (stamp_of e) e.body) e.reference r in
+    inr (λ a b. later a b (step s e) e known)
+
+-- a command with a reference changes nothing, or changes nothing when it comes again, whatever came between
+pub acts_at_one_place : (s : State) (e : Envelope) → IsSome e.reference → (step s e ≡ s) ⊎ ((a b : List Envelope) → fold (step s e) (a ++ e ∷ b) ≡ fold (step s e) (a ++ b))
+acts_at_one_place s e r = acts_by_reference s e r (kept_for s e) (wrong s e) (step_is s e)
+
+-- commands lead where those lead that aren't known when they come
+pub taken_once : (s : State) (es : List Envelope) → but_receipts (fold s es) ≡ but_receipts (plain s (once_after s [] es))
+taken_once s es = once_is es s s s [] refl refl

@@ -21,7 +21,7 @@ pub use Executions.{Attempt, Execution, PossibleOutcome, StorePhase, acknowledge
 pub use Lookups.{IsDecidedAt, IsRepeat}
 pub use Parts.{HasAnswered, HasChecked, HasDecided, HasForeseen, HasMade, HasMended, HasRaised, HasStepped, HasTaken, IsCommitted, OnlyReads, PossibleOutcomes}
 pub use Runs.{Ran, RunEnds}
-pub use Resent.{AreResent, ExecutionsApplyOnce, ExecutionsAreSendings, IsNext, StoresApplyOnce, acknowledged_of, all_attempts}
+pub use Resent.{AreNextAgain, AreResent, ExecutionsApplyInOrder, ExecutionsApplyOnce, ExecutionsAreSendings, IsAcknowledged, IsLedTo, IsNext, IsOrderOf, StoresApplyOnce, acknowledged_of, all_attempts}
 pub use DeskStates.{Executed, FindsState, FindsStateOf, HasCrashStates, HasForeignTables, IsDurablyAt, KeepsForeignTables, Represents, ShowsState}
 pub use Checks.{FailsChecks, FailsChecksBy, FailsChecksOf, PassesChecks, PassesChecksOf}
 pub use declared.adopting.AdoptFault.{AdoptFault}

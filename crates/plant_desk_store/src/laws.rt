@@ -8,7 +8,7 @@ ghost use Rattle.plant_desk_store.specs.DeskLaws.{StopsAreReopened, ValidIsNotRe
 ghost use Rattle.plant_desk_store.specs.DeskLaws.{ValidIsAdoptedAgain, OpeningIsAdopted};
 ghost use Rattle.plant_desk_store.specs.DeskLaws.{UnknownTablesAreKept, MarksAreReached};
 ghost use Rattle.plant_desk_store.specs.Resent.{ExecutionsAreSendings, ExecutionsApplyOnce};
-ghost use Rattle.plant_desk_store.specs.Resent.{StoresApplyOnce};
+ghost use Rattle.plant_desk_store.specs.Resent.{ExecutionsApplyInOrder, StoresApplyOnce};
 
 use crate::stored::Desk;
 use plant_base::Envelope;
@@ -27,15 +27,19 @@ pub fn headline_law<S: Alter>()
     ensures { Headline S.Store }
 {}
 
-/// A client who gives each command a reference and sends each that was under way at a stop again, until it is acknowledged.
+/// Clients, any number of them, who give each command a reference and send each that was under way at a stop again, at any
+/// time and after whatever others, until it is acknowledged.
 ///
 /// `sendings`: wherever the commands of an execution may have led, a sending of just these commands leads, in which each
-/// was answered by the definitions' reply, or stopped before it acted or after that. `once`: such a client's commands
-/// lead, but for receipts, where the acknowledged ones lead, each taken once, in a desk without receipts. `stores`: of
-/// such a state are what the main theorem says of a store, whatever it has been through.
+/// was answered by the definitions' reply, or stopped before it acted or after that. `once`: such clients' commands
+/// lead, but for receipts, where the acknowledged ones lead, each taken once, in a desk without receipts; each is taken where
+/// it was acknowledged, or where it was stopped before that and then there alone. `in_order`: where each that was stopped is
+/// the next one of all again, each is taken where it was acknowledged. `stores`: of a state that `once` tells of are what the
+/// main theorem says of a store, whatever it has been through.
 pub fn resend_law<S: Alter>()
     ensures sendings { ExecutionsAreSendings }
     ensures once { ExecutionsApplyOnce }
+    ensures in_order { ExecutionsApplyInOrder }
     ensures stores { StoresApplyOnce S.Store }
 {}
 

@@ -1,10 +1,13 @@
 //! What is done over an opened store.
 ghost use Rattle.std.specs.Prelude.{◌≡◌, false, Err, IfErr, OnErr, OnOk};
+ghost use Rattle.sqlite.specs.Effect.{Database};
 ghost use Rattle.sqlite.specs.Held.{state};
+ghost use Rattle.sqlite.specs.State.{HasCleanDisk};
 ghost use Rattle.desk.specs.Served.{outcome_of};
 ghost use Rattle.desk.specs.Worked.{DeskServes, IsProfileOf, ServingGives, WorkGives};
 ghost use Rattle.desk_program.specs.{WasHonest};
-ghost use Rattle.desk_server.specs.{EndsServing, ServesAtMost};
+ghost use Rattle.desk_server.specs.{EndsServing, IsSameStore, ServesAtMost};
+ghost use Rattle.plant_desk_store.specs.{HasForeignTables, KeepsForeignTables};
 ghost use Rattle.plant_http_requests.specs.{Profile};
 
 use desk_cli::{Hosts, Serving, Work};
@@ -65,6 +68,9 @@ fn serve_desk<S: Alter + Drop>(
     requires { desk.is_shut ≡ false }
     ensures served { DeskServes serving (state S.Store desk.connection)
         (state S.Store result.connection) result.outcome }
+    ensures others { HasCleanDisk (state S.Store result.connection) → (before : Database)
+        → HasForeignTables (state S.Store desk.connection) desk.is_shut before
+        → KeepsForeignTables before (state S.Store result.connection) }
     ensures honest { WasHonest (state S.Store desk.connection) (state S.Store result.connection) }
 {
     let served = serve_at(rt, serving, &mut desk);
@@ -127,6 +133,7 @@ fn serve_at<S: Alter + Drop>(
     ensures ends { EndsServing desk.new.is_shut result }
     ensures serves { (profile : Profile) × IsProfileOf serving.page profile
         × ServesAtMost S.Store profile serving.count desk.old desk.new }
+    ensures same { IsSameStore S.Store desk.old desk.new }
     ensures honest { WasHonest (state S.Store desk.old.connection) (state S.Store desk.new.connection) }
 {
     let log = log_of(rt, serving.is_logged);
@@ -151,6 +158,7 @@ fn serve_listening<S: Alter + Drop>(
     ensures ends { OnOk listening (EndsServing desk.new.is_shut result) }
     ensures fault { IfErr listening (λ fault. result ≡ Err fault) }
     ensures unchanged { OnErr listening (desk.new ≡ desk.old) }
+    ensures same { IsSameStore S.Store desk.old desk.new }
     ensures serves { ServesAtMost S.Store profile.entry count desk.old desk.new }
     ensures honest { WasHonest (state S.Store desk.old.connection) (state S.Store desk.new.connection) }
 {

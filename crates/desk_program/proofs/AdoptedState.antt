@@ -5,7 +5,7 @@ use Rattle.sqlite.specs.State.{Survives}
 use Rattle.sqlite.specs.Tree.{Trees}
 use Rattle.plant_base.specs.{State, opening}
 use Rattle.plant_desk.specs.{States}
-use Rattle.plant_desk_store.specs.{IsNewlyOpened, AdoptedFrom, IsDurablyAt, Represents}
+use Rattle.plant_desk_store.specs.{IsNewlyOpened, AdoptedFrom, HasForeignTables, IsDurablyAt, KeepsForeignTables, Represents}
 use Rattle.desk_program.specs.{WasHonest}
 
 pub adopted_so : (c : store.State) → IsNewlyOpened c → (before after : States) → ((s : State) → before s → after s) → AdoptedFrom c before → AdoptedFrom c after
@@ -22,6 +22,12 @@ as_open c shut s is_open h = record { represents = h.0; crash_states = h.1 is_op
 pub adopted_at : (c : store.State) → IsNewlyOpened c → (represents : States) → AdoptedFrom c represents → (s : State) × represents s
 adopted_at c opened represents (inl h) = (opening, h.1)
 adopted_at c opened represents (inr h) = (h.1.0, h.1.2)
+
+-- the foreign tables of a store that was adopted
+pub foreign_at : (before c : store.State) (shut : Bool) → IsNewlyOpened before → AdoptedFrom before (IsDurablyAt c) × KeepsForeignTables before.now c → HasForeignTables c shut before.now
+foreign_at before c shut opened was =
+    let at = adopted_at before opened (IsDurablyAt c) was.0 in
+    record { state = at.0; represents = as_represented c shut at.0 at.1; others = was.1 }
 
 -- no fault of a disk is forgotten
 pub honest_before : (before after : store.State) (commits : Trees → Type 0) → Survives before after commits → WasHonest before after

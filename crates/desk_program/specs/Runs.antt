@@ -5,7 +5,7 @@ use Rattle.sqlite.specs.State as store
 use Rattle.sqlite.specs.State.{HasCleanDisk}
 use Rattle.plant_base.specs.{State, newest_schema}
 use Rattle.plant_desk.specs.{States}
-use Rattle.plant_desk_store.specs.{IsNewlyOpened, AdoptedFrom, HasRefused, Represents, HasCrashStates, AdoptFault}
+use Rattle.plant_desk_store.specs.{IsNewlyOpened, AdoptedFrom, HasRefused, KeepsForeignTables, Represents, HasCrashStates, AdoptFault}
 use Rattle.plant_text.specs.{Ends, CrashStatesOfRun, RunEnd}
 use Rattle.desk_program.specs.Faults.{adopt_fault, outcome_of}
 use Rattle.desk_program.specs.declared.fault.Fault.{Fault}
@@ -15,9 +15,9 @@ abbrev pub WasHonest : store.State → store.State → Type 0
 WasHonest before after = HasCleanDisk after → HasCleanDisk before
 
 -- The store had just been opened, and kept its specification until it was given back: then it was adopted, at a state of which this
--- holds.
+-- holds, and the foreign tables are as they were when it was opened, also in whatever a stop leaves.
 abbrev pub AdoptedIfHonest : store.State → store.State → States → Type 0
-AdoptedIfHonest before after holds = HasCleanDisk after → IsNewlyOpened before → AdoptedFrom before holds
+AdoptedIfHonest before after holds = HasCleanDisk after → IsNewlyOpened before → AdoptedFrom before holds × KeepsForeignTables before.now after
 
 -- The store wasn't adopted, and was given back so. The fault is that of the adoption.
 abbrev pub IsRefused : store.State → store.State → Fault → Type 0

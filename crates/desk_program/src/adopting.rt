@@ -2,10 +2,11 @@
 ghost use Rattle.std.specs.Prelude.{◌≡◌, ◌≢◌, false, Err, IfOk, IfErr, MatchResult};
 ghost use Rattle.sqlite.specs.Held.{state};
 ghost use Rattle.sqlite.specs.State.{HasCleanDisk};
-ghost use Rattle.plant_desk_store.specs.{IsNewlyOpened, AdoptedFrom, IsDurablyAt, Represents};
+ghost use Rattle.sqlite.specs.Effect.{Database};
+ghost use Rattle.plant_desk_store.specs.{HasForeignTables, IsDurablyAt, Represents};
 ghost use Rattle.plant_base.specs.{State};
 ghost use Rattle.desk_program.specs.Faults.{adopt_fault};
-ghost use Rattle.desk_program.specs.Runs.{IsRefused, WasHonest};
+ghost use Rattle.desk_program.specs.Runs.{AdoptedIfHonest, IsRefused, WasHonest};
 
 use crate::fault::Fault;
 use plant_desk_store::{AdoptRefused, Desk};
@@ -53,7 +54,7 @@ fn task_error<S: Alter + Drop>(refused: AdoptRefused<S>) -> TaskError<S>
 }
 
 /// The desk, with the indexes that its tables lacked, where they can be made: they are there for speed alone, so that it
-/// represents what it represented without them, too.
+/// represents what it represented without them, too, and the foreign tables are as they were.
 fn with_indexes<S: Alter>(mut desk: Desk<S>) -> Desk<S>
     requires { desk.is_shut ≡ false }
     ensures honest { HasCleanDisk (state S.Store result.connection)
@@ -61,22 +62,25 @@ fn with_indexes<S: Alter>(mut desk: Desk<S>) -> Desk<S>
     ensures represents { HasCleanDisk (state S.Store result.connection) → (s : State)
         → Represents (state S.Store desk.connection) false s
         → Represents (state S.Store result.connection) false s }
+    ensures others { HasCleanDisk (state S.Store result.connection) → (before : Database)
+        → HasForeignTables (state S.Store desk.connection) false before
+        → HasForeignTables (state S.Store result.connection) false before }
     ensures open { result.is_shut ≡ false }
 {
     let _added = desk.add_indexes();
     desk
 }
 
-/// Adopts a store, as [`Desk::adopt`] does, and makes the indexes that its tables lack, as [`Desk::add_indexes`] does.
+/// Adopts a store, as [`Desk::adopt`] does, and makes the indexes that its tables lack, as [`Desk::add_indexes`] does. Foreign
+/// tables are as they were.
 /// Where the store isn't adopted, `TaskError` has the fault and gives the connection back; the fault is never `Write`.
 pub fn adopt<S: Alter + Drop>(
     alloc: Global,
     connection: Connection<S>,
 ) -> Result<Desk<S>, TaskError<S>>
     requires { (state S.Store connection).in_transaction ≡ false }
-    ensures adopted { IfOk result (λ desk. HasCleanDisk (state S.Store desk.connection)
-        → IsNewlyOpened (state S.Store connection)
-        → AdoptedFrom (state S.Store connection) (IsDurablyAt (state S.Store desk.connection))) }
+    ensures adopted { IfOk result (λ desk. AdoptedIfHonest (state S.Store connection)
+        (state S.Store desk.connection) (IsDurablyAt (state S.Store desk.connection))) }
     ensures honest { MatchResult result
         (λ desk. WasHonest (state S.Store connection) (state S.Store desk.connection))
         (λ stopped. WasHonest (state S.Store connection) (state S.Store stopped.connection)) }

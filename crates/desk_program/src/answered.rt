@@ -1,12 +1,13 @@
 //! The subcommands `trace` and `record`: a question, and its answer in lines.
 ghost use Rattle.std.specs.Prelude.{◌≡◌, false, IfOk, Some, string_bytes};
+ghost use Rattle.sqlite.specs.Effect.{Database};
 ghost use Rattle.sqlite.specs.Held.{state};
 ghost use Rattle.sqlite.specs.State.{HasCleanDisk};
 ghost use Rattle.plant_base.specs.{State, newest_schema};
 ghost use Rattle.plant_trace.specs.{node_text};
 ghost use Rattle.plant_answers.specs.{answer};
 ghost use Rattle.plant_desk.specs.{IsSameDesk};
-ghost use Rattle.plant_desk_store.specs.{IsDurablyAt};
+ghost use Rattle.plant_desk_store.specs.{HasForeignTables, IsDurablyAt, KeepsForeignTables};
 ghost use Rattle.plant_text_answers.specs.{text_of_answer};
 ghost use Rattle.plant_text.specs.{with_lf};
 ghost use Rattle.desk_program.specs.AnswersWritten.{answer_lines, AnswerPrinted, AnswerWritten};
@@ -116,6 +117,9 @@ fn ask_desk<S: Alter + Drop, W: Write>(
     requires { desk.is_shut ≡ false }
     ensures honest { HasCleanDisk (state S.Store result.connection)
         → HasCleanDisk (state S.Store desk.connection) }
+    ensures others { HasCleanDisk (state S.Store result.connection) → (before : Database)
+        → HasForeignTables (state S.Store desk.connection) desk.is_shut before
+        → KeepsForeignTables before (state S.Store result.connection) }
     ensures reported { HasCleanDisk (state S.Store result.connection)
         → (s : State) → IsDurablyAt (state S.Store desk.connection) s
         → IsDurablyAt (state S.Store result.connection) s

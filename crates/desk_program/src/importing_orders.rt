@@ -1,10 +1,12 @@
 //! The subcommand `import`: an order file, executed as one command.
 ghost use Rattle.std.specs.Prelude.{◌≡◌, Bool, false, IfSome};
+ghost use Rattle.sqlite.specs.Effect.{Database};
 ghost use Rattle.sqlite.specs.Held.{state};
 ghost use Rattle.sqlite.specs.State.{HasCleanDisk};
 ghost use Rattle.plant_base.specs.{State, newest_schema};
 ghost use Rattle.plant_desk.specs.{IsSameDesk};
-ghost use Rattle.plant_desk_store.specs.{IsDurablyAt, HasCrashStates, Represents};
+ghost use Rattle.plant_desk_store.specs.{HasCrashStates, HasForeignTables, IsDurablyAt};
+ghost use Rattle.plant_desk_store.specs.{KeepsForeignTables, Represents};
 ghost use Rattle.plant_orders.specs.{orders_of};
 ghost use Rattle.desk_program.specs.ImportOutcomes.{CsvFaultWritten, FileEnds, ImportEnds};
 ghost use Rattle.desk_program.specs.ImportOutcomes.{ImportGives, MemoryFaultWritten};
@@ -119,6 +121,9 @@ fn import_into<S: Alter + Drop, R: Read, W: Write>(
     requires { desk.is_shut ≡ false }
     ensures honest { HasCleanDisk (state S.Store result.connection)
         → HasCleanDisk (state S.Store desk.connection) }
+    ensures others { HasCleanDisk (state S.Store result.connection) → (before : Database)
+        → HasForeignTables (state S.Store desk.connection) desk.is_shut before
+        → KeepsForeignTables before (state S.Store result.connection) }
     ensures taken { HasCleanDisk (state S.Store result.connection)
         → (s : State) → IsDurablyAt (state S.Store desk.connection) s
         → (shut : Bool) × FileEnds newest_schema s import_metadata (R.remaining reader.old)

@@ -5,13 +5,13 @@ ghost use Rattle.sqlite.specs.Held.{state};
 ghost use Rattle.sqlite.specs.State.{HasCleanDisk};
 ghost use Rattle.plant_base.specs.{State, newest_schema};
 ghost use Rattle.plant_desk.specs.{IsSameDesk};
-ghost use Rattle.plant_desk_store.specs.{IsNewlyOpened, AdoptedFrom, IsDurablyAt};
+ghost use Rattle.plant_desk_store.specs.{IsNewlyOpened, IsDurablyAt};
 ghost use Rattle.plant_text.specs.{with_lf};
 ghost use Rattle.desk_program.specs.Texts.{ready_text};
 ghost use Rattle.desk_program.specs.Faults.{IsPrintFault};
 ghost use Rattle.desk_program.specs.Performs.{IsReady, Printed, Unprinted};
 ghost use Rattle.desk_program.specs.Reports.{LineStops, ReportStops, ready_line};
-ghost use Rattle.desk_program.specs.Runs.{WasHonest};
+ghost use Rattle.desk_program.specs.Runs.{AdoptedIfHonest, WasHonest};
 
 use crate::adopting::{TaskError, adopt};
 use crate::fault::Fault;
@@ -56,9 +56,8 @@ pub fn init<S: Alter + Drop, W: Write>(
     writer: &mut W,
 ) -> Result<Desk<S>, TaskError<S>>
     requires { (state S.Store connection).in_transaction ≡ false }
-    ensures adopted { IfOk result (λ desk. HasCleanDisk (state S.Store desk.connection)
-        → IsNewlyOpened (state S.Store connection)
-        → AdoptedFrom (state S.Store connection) (IsDurablyAt (state S.Store desk.connection))) }
+    ensures adopted { IfOk result (λ desk. AdoptedIfHonest (state S.Store connection)
+        (state S.Store desk.connection) (IsDurablyAt (state S.Store desk.connection))) }
     ensures ready { IfOk result (λ desk. HasCleanDisk (state S.Store desk.connection)
         → IsNewlyOpened (state S.Store connection)
         → Appends (W.contents writer.old) (W.contents writer.new) (with_lf (ready_text newest_schema))) }

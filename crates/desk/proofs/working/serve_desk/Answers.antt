@@ -20,3 +20,6 @@ returns-clause-served g c =
 
 pub returns-clause-honest : goal.returns-clause-honest
 returns-clause-honest g c = rw c.close.ensures c.serve_at-served.ensures.honest
+
+pub returns-clause-others : goal.returns-clause-others
+returns-clause-others g c = rw c.close.ensures (λ clean before at. (c.serve_at-served.ensures.same.foreign_tables clean before at).others)

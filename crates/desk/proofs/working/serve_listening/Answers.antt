@@ -1,5 +1,6 @@
 use Rattle.std.proofs.Common.{[], arith}
 use Rattle.sqlite.specs.Held.{state}
+use Rattle.plant_desk.proofs.SameDesk.{same_itself}
 use Rattle.plant_desk_store.specs.{HasCrashStates, Represents}
 use Rattle.desk_server.proofs.ServedRequests.{open_served}
 use Rattle.desk.proofs.working.serve_listening.Goals as goal
@@ -13,3 +14,6 @@ returns-in-Err-clause-serves g c = λ clean s represented.
     let shut = c.args.desk.now.is_shut in
     open_served c.args.profile c.args.count s (Represents shown shut) shut (λ states. HasCrashStates shown states) [] c.requires (omega arith)
     (represented, represented.1 c.requires)
+
+pub returns-in-Err-clause-same : goal.returns-in-Err-clause-same
+returns-in-Err-clause-same g c = same_itself _ _ _ _

@@ -1,5 +1,5 @@
 use Rattle.std.proofs.Common.{inl, inr}
-use Rattle.desk_program.proofs.AdoptedState.{adopted_so}
+use Rattle.desk_program.proofs.AdoptedState.{adopted_so, foreign_at}
 use Rattle.desk.proofs.working.serve_store.Goals as goal
 
 pub returns-in-Ok-clause-gives : goal.returns-in-Ok-clause-gives
@@ -14,7 +14,8 @@ returns-in-Ok-clause-gives g c =
         did.served.4.0,
         did.served.4.1,
         λ clean opened.
-            adopted_so _ opened _ _ (λ s at. did.served.4.2 clean s at) (c.in-Ok.ensures.adopted (did.honest clean) opened),
+            let was = c.in-Ok.ensures.adopted (did.honest clean) opened in
+            (adopted_so _ opened _ _ (λ s at. did.served.4.2 clean s at) was.0, did.others clean _ (foreign_at _ _ _ opened was)),
       ),
     )
 

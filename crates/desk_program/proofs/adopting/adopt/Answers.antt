@@ -1,7 +1,7 @@
 use Rattle.std.proofs.Common.{false, refl}
 use Rattle.sqlite.specs.Held.{state}
-use Rattle.plant_desk_store.specs.{Adopts, IsDurablyAt}
-use Rattle.desk_program.proofs.AdoptedState.{adopted_so, as_represented, as_open, honest_before}
+use Rattle.plant_desk_store.specs.{AdoptedFrom, Adopts, IsDurablyAt, KeepsForeignTables}
+use Rattle.desk_program.proofs.AdoptedState.{adopted_so, as_represented, as_open, foreign_at, honest_before}
 use Rattle.desk_program.proofs.FaultOrigins.{reported_write_error}
 use Rattle.desk_program.proofs.adopting.adopt.Goals as goal
 
@@ -28,5 +28,7 @@ returns-in-Ok-clause-adopted g c clean newly =
     let mid = state g.S.Store c.in-Ok.desk.connection in
     let new = state g.S.Store c.with_indexes.result.connection in
     let did = c.with_indexes.ensures in
-    adopted_so old newly (IsDurablyAt mid) (IsDurablyAt new) (λ s at. as_open new false s refl (did.represents clean s (as_represented mid false s at)))
-    (c.in-Ok.ensures.adopted.adopted (did.honest clean) newly)
+    let was : AdoptedFrom old (IsDurablyAt mid) × KeepsForeignTables old.now mid = (c.in-Ok.ensures.adopted.adopted (did.honest clean) newly, c.in-Ok.ensures.adopted.others (did.honest clean) newly) in (
+      adopted_so old newly (IsDurablyAt mid) (IsDurablyAt new) (λ s at. as_open new false s refl (did.represents clean s (as_represented mid false s at))) was.0,
+      (did.others clean old.now (foreign_at old mid false newly was)).others,
+    )

@@ -6,7 +6,8 @@ pub returns-in-Ok-clause-gives : goal.returns-in-Ok-clause-gives
 returns-in-Ok-clause-gives g c = rw c.close.ensures (
   refl,
   λ clean opened.
-      adopted_so _ opened _ _ (λ s at. (at, c.in-Ok.ensures.ready clean opened)) (c.in-Ok.ensures.adopted clean opened),
+      let was = c.in-Ok.ensures.adopted clean opened in
+      (adopted_so _ opened _ _ (λ s at. (at, c.in-Ok.ensures.ready clean opened)) was.0, was.1),
 )
 
 pub returns-in-Ok-clause-honest : goal.returns-in-Ok-clause-honest

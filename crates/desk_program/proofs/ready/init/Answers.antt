@@ -1,15 +1,18 @@
 use Rattle.std.proofs.Common.{inl}
-use Rattle.desk_program.proofs.AdoptedState.{adopted_so, adopted_at, as_represented, as_open}
+use Rattle.desk_program.proofs.AdoptedState.{adopted_so, adopted_at, as_represented, as_open, foreign_at}
 use Rattle.desk_program.proofs.ready.init.Goals as goal
 
 pub returns-in-Ok-clause-adopted : goal.returns-in-Ok-clause-adopted
 returns-in-Ok-clause-adopted g c = λ h opened.
     let before = c.in_ok-desk.ensures.adopted (c.write_ready.ensures.same.honest h) opened in
-    adopted_so _ opened _ _ (λ s at. as_open _ _ s c.write_ready.ensures.open (c.write_ready.ensures.stays h s (as_represented _ _ s at))) before
+    (
+      adopted_so _ opened _ _ (λ s at. as_open _ _ s c.write_ready.ensures.open (c.write_ready.ensures.stays h s (as_represented _ _ s at))) before.0,
+      (c.write_ready.ensures.same.foreign_tables h _ (foreign_at _ _ _ opened before)).others,
+    )
 
 pub returns-in-Ok-clause-ready : goal.returns-in-Ok-clause-ready
 returns-in-Ok-clause-ready g c = λ h opened.
-    let represented = adopted_at _ opened _ (c.in_ok-desk.ensures.adopted (c.write_ready.ensures.same.honest h) opened) in
+    let represented = adopted_at _ opened _ (c.in_ok-desk.ensures.adopted (c.write_ready.ensures.same.honest h) opened).0 in
     c.in-Ok.ensures.reported h represented.0 (as_represented _ _ represented.0 represented.1)
 
 pub returns-in-Ok-clause-honest : goal.returns-in-Ok-clause-honest
@@ -20,9 +23,12 @@ returns-in-Err-clause-stopped g c = rw c.close.ensures (inl (
   c.in-Err.ensures.fault,
   λ h opened.
       let before = c.in_ok-desk.ensures.adopted (c.write_ready.ensures.same.honest h) opened in
-      adopted_so _ opened _ _ (λ s at.
-      let represented = as_represented _ _ s at in
-      (as_open _ _ s c.write_ready.ensures.open (c.write_ready.ensures.stays h s represented), c.in-Err.ensures.stopped h s represented)) before,
+      (
+        adopted_so _ opened _ _ (λ s at.
+        let represented = as_represented _ _ s at in
+        (as_open _ _ s c.write_ready.ensures.open (c.write_ready.ensures.stays h s represented), c.in-Err.ensures.stopped h s represented)) before.0,
+        (c.write_ready.ensures.same.foreign_tables h _ (foreign_at _ _ _ opened before)).others,
+      ),
 ))
 
 pub returns-in-Err-clause-honest : goal.returns-in-Err-clause-honest

@@ -33,7 +33,7 @@ abbrev pub IsNext : List Waiter → ℕ → Bool → Step → Type 0
 IsNext waiters now may_take (step.Serve index) = first_with_bytes waiters ≡ Some index
 IsNext waiters now may_take step.Drop =
     (first_with_bytes waiters ≡ None) × (0 < length waiters) × ((10_000 ≤ waited waiters now) ⊎ (64 < length waiters))
-IsNext waiters now may_take step.Take = (first_with_bytes waiters ≡ None) × (length waiters ≤ 64) × (may_take ≡ true)
+IsNext waiters now may_take step.Take = (first_with_bytes waiters ≡ None) × (length waiters ≤ 64) × (waited waiters now < 10_000) × (may_take ≡ true)
 IsNext waiters now may_take (step.Wait None) = (length waiters ≡ 0) × (may_take ≡ false)
 IsNext waiters now may_take (step.Wait (Some most)) =
     (first_with_bytes waiters ≡ None) × (0 < length waiters) × (length waiters ≤ 64) × (may_take ≡ false) × (0 < most) × (waited waiters now + most ≡ 10_000)

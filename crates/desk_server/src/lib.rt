@@ -10,7 +10,7 @@ mod log;
 mod reception;
 mod waiting;
 
-pub use address::{listen_at, local_at};
+pub use address::{ListenLocally, Local, listen_at, local_at};
 pub use fault::ServingFault;
 pub use listening::serve_listener;
 pub use log::AccessLog;

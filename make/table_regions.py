@@ -553,12 +553,12 @@ def variant(column):
 def in_check(desk):
     """The regions of plant_check_rows and desk_check."""
     rows = desk.tables[1:]
-    rules, fault = "plant_check_rows/src/column_rules.rt", "plant_check_rows/src/fault.rt"
+    rules, fault = "plant_check_rows/src/column_rules.rt", "plant_faults/src/fault.rt"
     all_tables = f"all_tables = {chain('table.' + filled('$Name', it) for it in rows)}"
     return [
         Region(fault, "the tables", many(rows, "$Name,")),
         Region(fault, "their names", many(rows, "Table::$Name => \"$name\",")),
-        Region("plant_check_rows/specs/Naming.antt", "the names of tables", many(rows, "table_name table.$Name = codes \"$name\"")),
+        Region("plant_faults/specs/Naming.antt", "the names of tables", many(rows, "table_name table.$Name = codes \"$name\"")),
         Region(rules, "the rules of each table", "\n".join(map(rules_in_code, rows))),
         Region("plant_check_rows/specs/ColumnRules.antt", "the rules of each table", "\n".join(
             filled(f"rules_of table.$Name = {chain(f'(column.{variant(column)}, {rule(column, False)})' for column in it.columns)}", it)

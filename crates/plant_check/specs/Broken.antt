@@ -1,11 +1,11 @@
 -- The rules that tables obey which a desk has written, and the first that is broken.
-use Rattle.std.specs.Prelude.{ℕ, Bool, true, not, ◌&&◌, if◌then◌else◌, List, [], ◌∷◌, find, Option, Some, None, is_some, filter_map}
+use Rattle.std.specs.Prelude.{ℕ, Bool, true, not, ◌&&◌, if◌then◌else◌, List, [], ◌∷◌, find, Option, Some, None, is_none, is_some, filter_map}
 use Rattle.std.specs.List.{list_all}
 use Rattle.std.specs.Cmp.Lexicographic.{pointwise}
 use Rattle.plant_base.specs.{edge_eq, EdgeRow, Movement, Recall}
 use Rattle.plant_trace.specs.{leads, Node}
 use Rattle.plant_view.specs.{edges_among, edges_in}
-use Rattle.plant_check_plans.specs.{are_classified, are_recipes, are_orders, are_batches, are_events}
+use Rattle.plant_check_plans.specs.{are_recipes, are_events, batch_fault_in, class_fault_in, order_fault_in}
 use Rattle.plant_check_stock.specs.{are_marks, are_movements, are_numbers, are_recalls, are_receipts, are_times}
 use Rattle.plant_tables_read.specs.{contents_loaded, Loaded, Rows, rows_from}
 use Rattle.plant_tables_columns.specs.{movement_from, recall_from, only_meta, BookedRow, StatedRecall}
@@ -63,10 +63,10 @@ are_right_recalls r = are_fitting r.recalls && are_kept_recalls r (recalls_read 
 abbrev pub obeys : Rule → Rows → Bool
 obeys rule.Tables r = true
 obeys rule.Values r = true
-obeys rule.Classes r = are_classified r.classes r.definitions
+obeys rule.Classes r = is_none (class_fault_in r.classes r.definitions)
 obeys rule.Recipes r = are_recipes r.definitions r.recipes r.master_lines
-obeys rule.Orders r = are_orders r.recipes r.batches r.jobs
-obeys rule.Batches r = are_batches r.recipes r.master_lines r.jobs r.batches r.control_lines
+obeys rule.Orders r = is_none (order_fault_in r.recipes r.batches r.jobs)
+obeys rule.Batches r = is_none (batch_fault_in r.recipes r.master_lines r.jobs r.batches r.control_lines)
 obeys rule.Stocks r = are_stocks r.movements r.sublots
 obeys rule.Lots r = are_lots r.definitions r.lots r.sublots r.holds r.movements
 obeys rule.Movements r = are_right_movements r (movements_in r.movements)

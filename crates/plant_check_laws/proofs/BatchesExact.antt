@@ -1,5 +1,5 @@
 -- The rule on batches: each is the only one of its order, and its numbered lines are the control recipe that the order asks for.
-use Rattle.std.proofs.Common.{◌≡◌, ◌∙◌, ℕ, ◌≤◌, Bool, true, false, List, [], ◌∷◌, map, filter, length, Option, Some, None, option_map, refl, sym, ap, subst, ◌&&◌, ◌==◌, cond, IfSome, Decides, Less}
+use Rattle.std.proofs.Common.{◌≡◌, ◌∙◌, ℕ, ◌≤◌, Bool, true, false, List, [], ◌∷◌, map, filter, length, Option, Some, None, is_none, option_map, refl, sym, ap, subst, ◌&&◌, ◌==◌, cond, IfSome, Decides, Less}
 use Rattle.std.specs.List.{AllByRecursion}
 use Rattle.std.specs.List.Sorted.{IsStrictlySortedBy}
 use Rattle.std.proofs.lemmas.Bool.{false≢true}
@@ -11,9 +11,10 @@ use Rattle.plant_view.proofs.ListLemmas.{found_passes, found_keeps, same_id, sam
 use Rattle.plant_recipe.specs.{is_well_formed, is_size_of, control_of}
 use Rattle.plant_view.specs.{headers_of, header_among, lines_among, orders_of, order_among, batch_among, control_line, control_among, control_of_header, control_of_order, is_batch_among, is_size_of_some, HasBatchValues, IsConsistentBatch, AreConsistentBatches, IsConsistentRun, AreConsistentRuns, job_among, has_finished, numbered, batch_of_row}
 use Rattle.plant_view.proofs.HeadersFound.{header_found}
-use Rattle.plant_check_plans.specs.{control_sized, control_of_found, control_asked_for, is_control, is_row_among, is_right_batch, are_batches, recipe_among, row_of_order, are_numbered}
+use Rattle.plant_check_plans.specs.{control_sized, control_of_found, control_asked_for, is_control, is_row_among, of_batch, batch_fault, control_line_fault, batch_fault_in, recipe_among, row_of_order, are_numbered}
 use Rattle.plant_check.proofs.BookedRowsMove.{filter_mapped}
-use Rattle.plant_check_laws.proofs.ExactTests.{equal_exact, both, in_words, all_exact, any_exact}
+use Rattle.plant_faults.proofs.NoFault.{met_exact, no_more, or_exact, unless_exact, rows_exact as each_row}
+use Rattle.plant_check_laws.proofs.ExactTests.{equal_exact, both, in_words, any_exact}
 use Rattle.plant_check_laws.proofs.EqualIsSame.{control_is}
 use Rattle.plant_check_laws.proofs.EventsExact.{row_exact, HasRun}
 use Rattle.plant_check_laws.proofs.NumberedRows.{rows_exact, owned_numbers}
@@ -103,31 +104,36 @@ module _ (recipes : List Recipe) (rows : List MasterLine) (jobs : List Job)
         let own = λ (l : ControlLine). same l.batch id in
         rows_exact (control_line id) (λ l. l.number) (λ l. l.line) (λ l. own l ≡ true) (λ l is. let key = same_id l.batch id is in λ i. record l { batch = sym key i }) (λ k l. refl) 1 (filter own control) (filtered_passes own control)
 
-    batch_exact : (b : BatchRow) → Decides (is_right_batch recipes rows jobs batches control b) (IsRight b)
-    unfolding is_right_batch
+    batch_exact : (b : BatchRow) → Decides (is_none (batch_fault recipes rows jobs batches control b)) (IsRight b)
     batch_exact b =
-        let lines = map (λ (l : ControlLine). l.line) (control_among control b.batch.id) in
+        let own = control_among control b.batch.id in
+        let lines = map (λ (l : ControlLine). l.line) own in
         let asked = asked_is_ordered b.batch.job in
-        in_words (both (both (equal_exact (length (filter (λ (x : BatchRow). same x.batch.job b.batch.job) batches)) 1) (numbers_exact b.batch.id)) (control_exact (control_asked_for recipes rows (job_among jobs b.batch.job)) lines))
-        (λ p. record { alone = p.0.0; numbered = p.0.1; scaled = sym asked ∙ p.1 })
-        (λ w. ((w.alone, w.numbered), asked ∙ w.scaled))
+        let alone = equal_exact (length (filter (λ (x : BatchRow). same x.batch.job b.batch.job) batches)) 1 in
+        in_words (met_exact (of_batch recipes rows jobs batches own b) (both alone (both (numbers_exact b.batch.id) (both (control_exact (control_asked_for recipes rows (job_among jobs b.batch.job)) lines) no_more))))
+        (λ p. record { alone = p.0; numbered = p.1.0; scaled = sym asked ∙ p.1.1.0 })
+        (λ w. (w.alone, (w.numbered, (asked ∙ w.scaled, tt))))
 
-    pub batches_exact : Decides (are_batches recipes rows jobs batches control) (AllByRecursion IsRight batches × AllByRecursion (λ l. is_batch_among (map batch_of_row batches) l.batch ≡ true) control)
-    batches_exact = both
-        (all_exact (is_right_batch recipes rows jobs batches control) IsRight batch_exact batches)
-        (all_exact (λ (l : ControlLine). is_row_among batches l.batch) _ (λ l. row_exact batches l.batch) control)
+    -- no batch and no control line has a fault
+    abbrev AreFaultless : Type 0
+    AreFaultless = is_none (batch_fault_in recipes rows jobs batches control) ≡ true
+
+    pub batches_exact : Decides (is_none (batch_fault_in recipes rows jobs batches control)) (AllByRecursion IsRight batches × AllByRecursion (λ l. is_batch_among (map batch_of_row batches) l.batch ≡ true) control)
+    batches_exact = or_exact _ _
+        (each_row (batch_fault recipes rows jobs batches control) IsRight batch_exact batches)
+        (each_row (control_line_fault batches) _ (λ l. unless_exact (is_row_among batches l.batch) _ (row_exact batches l.batch)) control)
 
     abbrev IsConsistent : Batch → Type 0
     IsConsistent = IsConsistentBatch (headers_of recipes) rows (orders_of jobs) (map batch_of_row batches) control
 
     -- consistent batches keep to the rule
-    pub right_batches : (events : List BatchEvent) → AreConsistentBatches (headers_of recipes) rows (orders_of jobs) (map batch_of_row batches) control events → are_batches recipes rows jobs batches control ≡ true
+    pub right_batches : (events : List BatchEvent) → AreConsistentBatches (headers_of recipes) rows (orders_of jobs) (map batch_of_row batches) control events → AreFaultless
     right_batches events c =
         let alone = alone_each batches c.sorted (all_weaker IsConsistent _ (λ b its. its.alone) (map batch_of_row batches) c.each) in
         let each = all_unmapped IsConsistent batch_of_row batches c.each in
         batches_exact.1 (all_two (IsAlone batches) (λ (b : BatchRow). IsConsistent b.batch) IsRight (λ b alone its. record { alone = alone; numbered = its.numbered; scaled = its.scaled }) batches alone each, c.controlled)
 
-    module _ (tests : are_batches recipes rows jobs batches control ≡ true) where
+    module _ (tests : AreFaultless) where
       -- each control line has a number
       pub control_numbered : AllByRecursion (λ l. 1 ≤ l.number) control
       control_numbered =

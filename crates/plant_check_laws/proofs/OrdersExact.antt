@@ -1,5 +1,5 @@
 -- The rule on orders: their sizes are sizes of their recipes, and they have batches where they were released, closed where they are finished.
-use Rattle.std.proofs.Common.{◌≡◌, ◌∙◌, ℕ, true, List, map, Option, Some, None, is_some, option_map, refl, sym, ap, IfSome, not, Decides}
+use Rattle.std.proofs.Common.{◌≡◌, ◌∙◌, ℕ, true, List, map, Option, Some, None, is_none, is_some, option_map, refl, sym, ap, IfSome, not, Decides}
 use Rattle.std.specs.List.{AllByRecursion}
 use Rattle.std.specs.List.Sorted.{IsStrictlySortedBy}
 use Rattle.std.proofs.lemmas.Bool.{false≢true}
@@ -8,8 +8,9 @@ use Rattle.plant_base.specs.declared.states.JobState.TheVariants.{Open, Cancelle
 use Rattle.plant_view.proofs.ListLemmas.{found_passes, found_keeps, same_id, same_itself, all_weaker, all_two, all_mapped, all_unmapped, find_mapped, some_mapped, not_true}
 use Rattle.plant_view.specs.{headers_of, header_among, orders_of, batch_among, job_among, is_size_of_some, has_batch, is_finished, has_finished, HasValidOrder, AreConsistentOrders, batch_of_row}
 use Rattle.plant_view.proofs.HeadersFound.{header_found, size_of_recipe}
-use Rattle.plant_check_plans.specs.{recipe_among, row_of_order, is_started, is_right_order, are_orders}
-use Rattle.plant_check_laws.proofs.ExactTests.{passing, both, in_words, by_test, all_exact}
+use Rattle.plant_check_plans.specs.{recipe_among, row_of_order, is_started, of_order, order_fault, order_fault_in}
+use Rattle.plant_faults.proofs.NoFault.{met_exact, no_more, rows_exact as each_row}
+use Rattle.plant_check_laws.proofs.ExactTests.{passing, both, in_words, by_test}
 use Rattle.plant_check_laws.proofs.KeysApart.{one_found, apart_sorted, ids_apart}
 
 -- the batch that is found is that of the row
@@ -37,26 +38,30 @@ abbrev pub Closes : List Job → BatchRow → Type 0
 Closes jobs b = b.closed ≡ has_finished (job_among jobs b.batch.job)
 
 module _ (recipes : List Recipe) (batches : List BatchRow) (jobs : List Job) where
-  order_exact : (j : Job) → Decides (is_right_order recipes batches j) (IsRightJob recipes batches j)
-  unfolding is_right_order
+  order_exact : (j : Job) → Decides (is_none (order_fault recipes batches j)) (IsRightJob recipes batches j)
   order_exact j =
       let recipe = recipe_among recipes j.order.recipe j.order.version in
+      let batch = row_of_order batches j.order.order in
       let header = ap (λ o. is_size_of_some o j.order.size) (header_found recipes j.order.recipe j.order.version) in
-      let found = ap is_some (batch_found batches j.order.order) ∙ some_mapped batch_of_row (row_of_order batches j.order.order) in
-      in_words (both (by_test (sym (header ∙ size_of_recipe recipe j.order.size)) (passing _)) (started_exact j.state (row_of_order batches j.order.order)))
-      (λ p. record { sized = p.0; started = found ∙ p.1.0; closed = p.1.1 })
-      (λ w. (w.sized, (sym found ∙ w.started, w.closed)))
+      let found = ap is_some (batch_found batches j.order.order) ∙ some_mapped batch_of_row batch in
+      in_words (met_exact (of_order recipe batch j) (both (by_test (sym (header ∙ size_of_recipe recipe j.order.size)) (passing _)) (both (started_exact j.state batch) no_more)))
+      (λ p. record { sized = p.0; started = found ∙ p.1.0.0; closed = p.1.0.1 })
+      (λ w. (w.sized, ((sym found ∙ w.started, w.closed), tt)))
 
-  pub orders_exact : Decides (are_orders recipes batches jobs) (AllByRecursion (IsRightJob recipes batches) jobs)
-  orders_exact = all_exact (is_right_order recipes batches) (IsRightJob recipes batches) order_exact jobs
+  -- no order has a fault
+  abbrev AreFaultless : Type 0
+  AreFaultless = is_none (order_fault_in recipes batches jobs) ≡ true
+
+  pub orders_exact : Decides (is_none (order_fault_in recipes batches jobs)) (AllByRecursion (IsRightJob recipes batches) jobs)
+  orders_exact = each_row (order_fault recipes batches) (IsRightJob recipes batches) order_exact jobs
 
   abbrev IsSized : OrderRow → Type 0
   IsSized o = is_size_of_some (header_among (headers_of recipes) o.recipe o.version) o.size ≡ true
 
-  pub sized_orders : are_orders recipes batches jobs ≡ true → AllByRecursion IsSized (orders_of jobs)
+  pub sized_orders : AreFaultless → AllByRecursion IsSized (orders_of jobs)
   sized_orders tests = all_mapped IsSized (λ j. j.order) jobs (all_weaker (IsRightJob recipes batches) (λ j. IsSized j.order) (λ j w. w.sized) jobs (orders_exact.0 tests))
 
-  pub consistent_orders : are_orders recipes batches jobs ≡ true → IsStrictlySortedBy job_order jobs → AllByRecursion (λ (j : Job). HasValidOrder j.order) jobs → AreConsistentOrders (headers_of recipes) jobs (map batch_of_row batches)
+  pub consistent_orders : AreFaultless → IsStrictlySortedBy job_order jobs → AllByRecursion (λ (j : Job). HasValidOrder j.order) jobs → AreConsistentOrders (headers_of recipes) jobs (map batch_of_row batches)
   consistent_orders tests sorted values = record {
     sorted = sorted;
     values = all_mapped HasValidOrder (λ j. j.order) jobs values;
@@ -72,7 +77,7 @@ module _ (recipes : List Recipe) (batches : List BatchRow) (jobs : List Job) whe
       found_keeps (Closes jobs) of_order batches b closes found ∙ ap (λ id. has_finished (job_among jobs id)) key ∙ ap has_finished own
 
   -- consistent orders whose batches are closed where they are finished keep to the rule
-  pub right_orders : AreConsistentOrders (headers_of recipes) jobs (map batch_of_row batches) → AllByRecursion (Closes jobs) batches → are_orders recipes batches jobs ≡ true
+  pub right_orders : AreConsistentOrders (headers_of recipes) jobs (map batch_of_row batches) → AllByRecursion (Closes jobs) batches → AreFaultless
   right_orders c closes =
       let has_id_of = λ (k j : Job). same j.order.order k.order.order in
       let found = one_found has_id_of (λ j. same_itself j.order.order) jobs

@@ -1,19 +1,20 @@
 -- The rules on classes and recipes: each definition's class is there, recipes are well formed, and their lines are numbered and listed.
-use Rattle.std.proofs.Common.{◌≡◌, ◌∙◌, ℕ, ◌≤◌, true, List, map, filter, find, is_some, refl, sym, ap, ◌&&◌, ◌==◌, Decides}
+use Rattle.std.proofs.Common.{◌≡◌, ◌∙◌, ℕ, ◌≤◌, true, List, map, filter, find, is_none, is_some, refl, sym, ap, ◌&&◌, ◌==◌, Decides}
 use Rattle.std.specs.List.{AllByRecursion}
 use Rattle.std.specs.List.Sorted.{IsStrictlySortedBy}
 use Rattle.plant_base.specs.{HasLineValues, same, recipe_order, master_line_order, Class, Definition, Header, MasterLine, Recipe, RecipeLine}
 use Rattle.plant_view.proofs.ListLemmas.{same_key, key_itself, all_weaker, all_two, all_mapped, all_filtered, filtered_passes}
 use Rattle.plant_recipe.specs.{is_well_formed}
 use Rattle.plant_view.specs.{is_defined, is_known, headers_of, header_among, rows_among, lines_among, master_line, IsWholeRecipe, AreConsistentRecipes, numbered}
-use Rattle.plant_check_plans.specs.{is_class_among, are_classified, are_numbered, is_whole_recipe, is_recipe_among, are_recipes}
+use Rattle.plant_check_plans.specs.{class_fault, class_fault_in, is_class_among, are_numbered, is_whole_recipe, is_recipe_among, are_recipes}
 use Rattle.plant_invariant.specs.{HasMasterValues}
+use Rattle.plant_faults.proofs.NoFault.{unless_exact, rows_exact as each_row}
 use Rattle.plant_check_laws.proofs.ExactTests.{passing, both, in_words, all_exact, any_exact, any_mapped_exact, of_mapped}
 use Rattle.plant_check_laws.proofs.NumberedRows.{rows_exact, owned_numbers}
 use Rattle.plant_check_laws.proofs.ValuesSound.{IsValidHeader}
 
-pub classes_exact : (classes : List Class) (definitions : List Definition) → Decides (are_classified classes definitions) (AllByRecursion (λ d. is_some (find (λ c. same c.id d.class) classes) ≡ true) definitions)
-classes_exact classes = all_exact (λ (d : Definition). is_class_among classes d.class) _ (λ (d : Definition). any_exact (λ (c : Class). same c.id d.class) classes)
+pub classes_exact : (classes : List Class) (definitions : List Definition) → Decides (is_none (class_fault_in classes definitions)) (AllByRecursion (λ d. is_some (find (λ c. same c.id d.class) classes) ≡ true) definitions)
+classes_exact classes = each_row (class_fault classes) _ (λ (d : Definition). unless_exact (is_class_among classes d.class) _ (any_exact (λ (c : Class). same c.id d.class) classes))
 
 -- what the rule says of a recipe
 pub record IsListed (definitions : List Definition) (rows : List MasterLine) (h : Header) : Type 0 where

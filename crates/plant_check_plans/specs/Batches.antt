@@ -1,11 +1,16 @@
 -- Batches and their control recipes.
-use Rattle.std.specs.Prelude.{ℕ, Bool, false, ◌&&◌, ◌==◌, if◌then◌else◌, List, Option, Some, None, filter, map, length}
-use Rattle.std.specs.List.{list_any, list_all}
+use Rattle.std.specs.Prelude.{ℕ, Bool, false, ◌==◌, if◌then◌else◌, List, [], ◌∷◌, Option, Some, None, filter, map, length}
+use Rattle.std.specs.List.{list_any}
 use Rattle.std.specs.Cmp.Lexicographic.{pointwise}
 use Rattle.plant_base.specs.{same, BatchRow, ControlLine, Header, Job, MasterLine, Recipe, RecipeLine}
 use Rattle.plant_base.specs.contracts.rows.RecipeLinePartialEq.TheImpl.{ghosts as equal}
 use Rattle.plant_recipe.specs.{is_well_formed, is_size_of, control_of}
 use Rattle.plant_view.specs.{lines_among, control_among, job_among}
+use Rattle.plant_faults.specs.{Requirement, RowFault, as_a_whole, control_line_key, fault_unless, first_reported, first_unmet, id_key, in_column, names_none, or_fault}
+use Rattle.plant_faults.specs.declared.fault.Table.TheVariants as table
+use Rattle.plant_faults.specs.declared.fault.Column.TheVariants as column
+use Rattle.plant_faults.specs.declared.fault.Found.TheVariants as found
+use Rattle.plant_faults.specs.declared.fault.Wanted.TheVariants as wanted
 use Rattle.plant_check_plans.specs.Orders.{recipe_among}
 use Rattle.plant_check_plans.specs.Recipes.{are_numbered}
 
@@ -35,14 +40,20 @@ abbrev pub is_row_among : List BatchRow → List ℕ → Bool
 is_row_among batches id = list_any (λ b. same b.batch.id id) batches
 
 -- the batch is the only one of its order, and its lines, numbered from 1 on, are the control recipe that it asks for
-unfoldable pub is_right_batch : List Recipe → List MasterLine → List Job → List BatchRow → List ControlLine → BatchRow → Bool
-is_right_batch recipes rows jobs batches control b =
-    length (filter (λ x. same x.batch.job b.batch.job) batches) == 1
-    && are_numbered 1 (map (λ l. l.number) (control_among control b.batch.id))
-    && is_control (control_asked_for recipes rows (job_among jobs b.batch.job)) (map (λ l. l.line) (control_among control b.batch.id))
+abbrev pub of_batch : List Recipe → List MasterLine → List Job → List BatchRow → List ControlLine → BatchRow → List Requirement
+of_batch recipes rows jobs batches own b =
+    (length (filter (λ x. same x.batch.job b.batch.job) batches) == 1, in_column (table.Batch, id_key b.batch.id) column.Job (found.Id b.batch.job) wanted.OneBatch)
+    ∷ (are_numbered 1 (map (λ l. l.number) own), as_a_whole (table.Batch, id_key b.batch.id) (wanted.NumberedFrom table.ControlLine 1))
+    ∷ (is_control (control_asked_for recipes rows (job_among jobs b.batch.job)) (map (λ l. l.line) own), as_a_whole (table.Batch, id_key b.batch.id) wanted.Control)
+    ∷ []
 
--- and no control line is without its batch
-abbrev pub are_batches : List Recipe → List MasterLine → List Job → List BatchRow → List ControlLine → Bool
-are_batches recipes rows jobs batches control =
-    list_all (is_right_batch recipes rows jobs batches control) batches
-    && list_all (λ l. is_row_among batches l.batch) control
+abbrev pub batch_fault : List Recipe → List MasterLine → List Job → List BatchRow → List ControlLine → BatchRow → Option RowFault
+batch_fault recipes rows jobs batches control b = first_unmet (of_batch recipes rows jobs batches (control_among control b.batch.id) b)
+
+-- the line's batch is there
+abbrev pub control_line_fault : List BatchRow → ControlLine → Option RowFault
+control_line_fault batches l = fault_unless (is_row_among batches l.batch) (names_none (table.ControlLine, control_line_key l) column.Batch l.batch table.Batch)
+
+abbrev pub batch_fault_in : List Recipe → List MasterLine → List Job → List BatchRow → List ControlLine → Option RowFault
+batch_fault_in recipes rows jobs batches control =
+    or_fault (first_reported (batch_fault recipes rows jobs batches control) batches) (first_reported (control_line_fault batches) control)

@@ -1,9 +1,13 @@
 -- Orders and the batches that they were released as.
-use Rattle.std.specs.Prelude.{ℕ, Bool, false, not, ◌&&◌, ◌==◌, List, Option, Some, None, find, is_none}
-use Rattle.std.specs.List.{list_all}
+use Rattle.std.specs.Prelude.{ℕ, Bool, false, not, ◌&&◌, ◌==◌, List, [], ◌∷◌, Option, Some, None, find, is_none}
 use Rattle.plant_base.specs.{same, BatchRow, Job, JobState, Recipe}
 use Rattle.plant_base.specs.declared.states.JobState.TheVariants.{Open, Cancelled, Released, Finished}
 use Rattle.plant_view.specs.{is_size_of_recipe}
+use Rattle.plant_faults.specs.{Requirement, RowFault, Wanted, first_reported, first_unmet, id_key, in_column, names_none}
+use Rattle.plant_faults.specs.declared.fault.Table.TheVariants as table
+use Rattle.plant_faults.specs.declared.fault.Column.TheVariants as column
+use Rattle.plant_faults.specs.declared.fault.Found.TheVariants as found
+use Rattle.plant_faults.specs.declared.fault.Wanted.TheVariants as wanted
 
 abbrev pub recipe_among : List Recipe → List ℕ → ℕ → Option Recipe
 recipe_among recipes id version = find (λ r. same r.header.recipe id && r.header.version == version) recipes
@@ -27,11 +31,25 @@ is_started Cancelled b = is_none b
 is_started Released b = is_left_open b
 is_started Finished b = is_closed b
 
--- the order's recipe is there with its size, and it has a batch where it was released
-unfoldable pub is_right_order : List Recipe → List BatchRow → Job → Bool
-is_right_order recipes batches j =
-    is_size_of_recipe (recipe_among recipes j.order.recipe j.order.version) j.order.size
-    && is_started j.state (row_of_order batches j.order.order)
+abbrev pub batch_wanted : JobState → Wanted
+batch_wanted Open = wanted.NoBatch
+batch_wanted Cancelled = wanted.NoBatch
+batch_wanted Released = wanted.OpenBatch
+batch_wanted Finished = wanted.ClosedBatch
 
-abbrev pub are_orders : List Recipe → List BatchRow → List Job → Bool
-are_orders recipes batches jobs = list_all (is_right_order recipes batches) jobs
+abbrev pub wrong_size : Option Recipe → Job → RowFault
+wrong_size None j = names_none (table.Job, id_key j.order.order) column.Recipe j.order.recipe table.Recipe
+wrong_size (Some r) j = in_column (table.Job, id_key j.order.order) column.Size (found.Number j.order.size) (wanted.Size r.header.least r.header.greatest)
+
+-- the order's recipe is there with its size, and it has a batch as its state says
+abbrev pub of_order : Option Recipe → Option BatchRow → Job → List Requirement
+of_order r b j =
+    (is_size_of_recipe r j.order.size, wrong_size r j)
+    ∷ (is_started j.state b, in_column (table.Job, id_key j.order.order) column.State (found.Order j.state) (batch_wanted j.state))
+    ∷ []
+
+abbrev pub order_fault : List Recipe → List BatchRow → Job → Option RowFault
+order_fault recipes batches j = first_unmet (of_order (recipe_among recipes j.order.recipe j.order.version) (row_of_order batches j.order.order) j)
+
+abbrev pub order_fault_in : List Recipe → List BatchRow → List Job → Option RowFault
+order_fault_in recipes batches jobs = first_reported (order_fault recipes batches) jobs

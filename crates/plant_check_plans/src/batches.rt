@@ -4,28 +4,37 @@ ghost use Rattle.std.specs.Prelude.{◌≡◌, IfOk, ◌==◌, map};
 ghost use Rattle.plant_view.specs.{lines_among};
 ghost use Rattle.plant_check_plans.specs.Batches.{control_sized, control_if_well_formed};
 ghost use Rattle.plant_check_plans.specs.Batches.{control_of_found, control_asked_for, is_control};
+ghost use Rattle.plant_check_plans.specs.Batches.{batch_fault, batch_fault_in};
+ghost use Rattle.plant_faults.specs.{first_reported};
 
-use crate::keys::{Orders, RecipeLines, Recipes, lines_of, recipe_at};
+use crate::keys::{Batches, BatchesOfOrders, ControlLines, Orders, RecipeLines, Recipes};
+use crate::keys::{control_of, has_batch, has_one_batch, job_at, lines_of, recipe_at};
+use crate::numbered::are_numbered;
 use grouped_rows::Grouped;
-use plant_base::{Amount, ControlLine, Header, Items, Job, MasterLine, Recipe, RecipeLine};
+use plant_base::{
+    Amount, BatchRow, ControlLine, Header, Items, Job, MasterLine, Recipe, RecipeLine,
+};
+use plant_faults::first::{RowRule, as_a_whole, first_fault, in_column, names_none};
+use plant_faults::keys::{control_line_key, id_key};
+use plant_faults::{Column, Found, RowFault, Table, Wanted};
 use plant_recipe::{Master, RecipeFault, control, is_size_of};
 use plant_view::lines_in;
 use std::alloc::{AllocError, Global};
 
 /// What the control recipes of batches come from.
 #[derive(Drop)]
-pub struct Plans<'a> {
+struct Plans<'a> {
     /// The recipes by id and version.
-    pub recipes: Grouped<'a, Recipes>,
+    recipes: Grouped<'a, Recipes>,
     /// The lines of master recipes by recipe and version.
-    pub lines: Grouped<'a, RecipeLines>,
+    lines: Grouped<'a, RecipeLines>,
     /// The orders by id.
-    pub jobs: Grouped<'a, Orders>,
+    jobs: Grouped<'a, Orders>,
 }
 
 impl<'a> Plans<'a> {
     /// Groups the recipes, their lines and the orders by their keys. The only error is that memory was refused.
-    pub fn new(
+    fn new(
         alloc: Global,
         recipes: &'a [Recipe],
         rows: &'a [MasterLine],
@@ -46,7 +55,7 @@ impl<'a> Plans<'a> {
 
     /// The control recipe that an order asks for, where it and its recipe are there and it comes to one. The only error is that
     /// memory was refused.
-    pub fn control_asked_for(
+    fn control_asked_for(
         &self,
         alloc: Global,
         job: Option<Job>,
@@ -116,18 +125,113 @@ fn control_of_master(
 }
 
 /// The lines of the rows. The only error is that memory was refused.
-pub fn lines_among(alloc: Global, rows: &[ControlLine]) -> Result<Vec<RecipeLine>, AllocError>
+fn lines_among(alloc: Global, rows: &[ControlLine]) -> Result<Vec<RecipeLine>, AllocError>
     ensures { IfOk result (λ lines. lines.items ≡ map (λ r. r.line) rows.now) }
 {
     rows.iter().map(|r| r.line).collect(alloc)
 }
 
 /// Whether the lines are those of the control recipe that is wanted.
-pub fn is_control(wanted: &Option<Items<RecipeLine>>, lines: &[RecipeLine]) -> bool
+fn is_control(wanted: &Option<Items<RecipeLine>>, lines: &[RecipeLine]) -> bool
     ensures { result ≡ is_control wanted.now lines.now }
 {
     match wanted {
         None => false,
         Some(control) => control.as_slice() == lines,
     }
+}
+
+/// That a batch is the only one of its order, and that its lines are the control recipe that this asks for.
+#[derive(Drop)]
+struct Released<'a> {
+    plans: Plans<'a>,
+    batches: Grouped<'a, BatchesOfOrders>,
+    controls: Grouped<'a, ControlLines>,
+}
+
+impl<'a> RowRule<BatchRow> for Released<'a> {
+    ghost use Rattle.plant_check_plans.specs.Batches.{batch_fault};
+
+    ghost fault_of = { λ t b. batch_fault t.plans.recipes.rows.now t.plans.lines.rows.now
+        t.plans.jobs.rows.now t.batches.rows.now t.controls.rows.now b };
+
+    fn fault(&self, alloc: Global, row: &BatchRow) -> Result<Option<RowFault>, AllocError> {
+        let (id, order) = (row.batch.id, row.batch.job);
+        let place = (Table::Batch, id_key(id));
+        if !has_one_batch(&self.batches, order) {
+            let fault = in_column(place, Column::Job, Found::Id(order), Wanted::OneBatch);
+            return Ok(Some(fault));
+        }
+        let lines = control_of(&self.controls, id);
+        if !are_numbered(1, lines) {
+            let numbering = Wanted::NumberedFrom(Table::ControlLine, 1);
+            return Ok(Some(as_a_whole(place, numbering)));
+        }
+        let job = job_at(&self.plans.jobs, order);
+        let wanted = self.plans.control_asked_for(alloc, job)?;
+        if is_control(&wanted, lines_among(alloc, lines)?.as_slice()) {
+            return Ok(None);
+        }
+        Ok(Some(as_a_whole(place, Wanted::Control)))
+    }
+}
+
+/// That the batch of a line is there.
+#[derive(Drop)]
+struct OfBatches<'a> {
+    batches: Grouped<'a, Batches>,
+}
+
+impl<'a> RowRule<ControlLine> for OfBatches<'a> {
+    ghost use Rattle.plant_check_plans.specs.Batches.{control_line_fault};
+
+    ghost fault_of = { λ t l. control_line_fault t.batches.rows.now l };
+
+    fn fault(&self, _alloc: Global, row: &ControlLine) -> Result<Option<RowFault>, AllocError> {
+        if has_batch(&self.batches, row.batch) {
+            return Ok(None);
+        }
+        let place = (Table::ControlLine, control_line_key(row));
+        Ok(Some(names_none(place, Column::Batch, row.batch, Table::Batch)))
+    }
+}
+
+fn wrong_batch(
+    alloc: Global,
+    recipes: &[Recipe],
+    lines: &[MasterLine],
+    jobs: &[Job],
+    batches: &[BatchRow],
+    control: &[ControlLine],
+) -> Result<Option<RowFault>, AllocError>
+    ensures { IfOk result (λ reported. reported ≡ first_reported
+        (batch_fault recipes.now lines.now jobs.now batches.now control.now) batches.now) }
+{
+    let released = Released {
+        plans: Plans::new(alloc, recipes, lines, jobs)?,
+        batches: Grouped::<BatchesOfOrders>::new(alloc, batches)?,
+        controls: Grouped::<ControlLines>::new(alloc, control)?,
+    };
+    first_fault(alloc, &released, batches)
+}
+
+/// The first batch that breaks its rule, or else the first line of a control recipe without its batch. The only error is that
+/// memory was refused.
+pub fn batch_fault_in(
+    alloc: Global,
+    recipes: &[Recipe],
+    lines: &[MasterLine],
+    jobs: &[Job],
+    batches: &[BatchRow],
+    control: &[ControlLine],
+) -> Result<Option<RowFault>, AllocError>
+    ensures { IfOk result
+        (λ reported. reported ≡ batch_fault_in recipes.now lines.now jobs.now batches.now control.now) }
+{
+    let wrong = wrong_batch(alloc, recipes, lines, jobs, batches, control)?;
+    if let Some(fault) = wrong {
+        return Ok(Some(fault));
+    }
+    let batches = Grouped::<Batches>::new(alloc, batches)?;
+    first_fault(alloc, &OfBatches { batches }, control)
 }

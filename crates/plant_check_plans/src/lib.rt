@@ -1,9 +1,10 @@
-//! What the rules on classes, recipes, orders and batches ask of each row of tables that a desk has written.
+//! The rules on classes, recipes, orders, batches and events: what is reported of the first row that breaks them.
 //!
-//! Other rows are looked up by their key. plant_check_rows goes over the rows.
+//! Other rows are looked up by their key.
 #![tactic(auto)]
 
 pub mod batches;
+pub mod catalogue;
 pub mod events;
 pub mod keys;
 pub mod numbered;

@@ -1,13 +1,22 @@
 //! Orders.
 
-ghost use Rattle.std.specs.Prelude.{◌≡◌};
-ghost use Rattle.plant_check_plans.specs.Orders.{is_left_open, is_closed, is_started};
+ghost use Rattle.std.specs.Prelude.{◌≡◌, IfOk};
+ghost use Rattle.plant_check_plans.specs.Orders.{batch_wanted, is_closed, is_left_open};
+ghost use Rattle.plant_check_plans.specs.Orders.{is_started, of_order, order_fault_in};
+ghost use Rattle.plant_faults.specs.{first_unmet};
 
-use plant_base::{BatchRow, JobState};
+use crate::keys::{BatchesOfOrders, Recipes, batch_of, recipe_at};
+use grouped_rows::Grouped;
+use plant_base::{BatchRow, Job, JobState, Recipe};
+use plant_faults::first::{RowRule, first_fault, in_column, names_none};
+use plant_faults::keys::id_key;
+use plant_faults::{Column, Found, RowFault, Table, Wanted};
+use plant_recipe::is_size_of;
+use std::alloc::{AllocError, Global};
 
 /// Whether an order in this state has such a batch: an open one where it was released, a closed one where it is finished, and
 /// else none.
-pub fn is_started(state: JobState, batch: Option<BatchRow>) -> bool
+fn is_started(state: JobState, batch: Option<BatchRow>) -> bool
     ensures { result ≡ is_started state batch }
 {
     match state {
@@ -33,4 +42,68 @@ fn is_closed(batch: Option<BatchRow>) -> bool
         None => false,
         Some(batch) => batch.closed,
     }
+}
+
+/// The batch that an order in this state has.
+fn batch_wanted(state: JobState) -> Wanted
+    ensures { result ≡ batch_wanted state }
+{
+    match state {
+        JobState::Open | JobState::Cancelled => Wanted::NoBatch,
+        JobState::Released => Wanted::OpenBatch,
+        JobState::Finished => Wanted::ClosedBatch,
+    }
+}
+
+/// What is wrong with an order that asks for this recipe and has this batch.
+fn order_fault(recipe: Option<Recipe>, batch: Option<BatchRow>, job: &Job) -> Option<RowFault>
+    ensures { result ≡ first_unmet (of_order recipe batch job.now) }
+{
+    let (order, place) = (job.order, (Table::Job, id_key(job.order.order)));
+    let Some(recipe) = recipe else {
+        return Some(names_none(place, Column::Recipe, order.recipe, Table::Recipe));
+    };
+    let header = recipe.header;
+    if !is_size_of(&header, order.size) {
+        let (least, greatest) = (header.least, header.greatest);
+        let (found, wanted) = (Found::Number(order.size.get()), Wanted::Size { least, greatest });
+        return Some(in_column(place, Column::Size, found, wanted));
+    }
+    if !is_started(job.state, batch) {
+        let (found, wanted) = (Found::Order(job.state), batch_wanted(job.state));
+        return Some(in_column(place, Column::State, found, wanted));
+    }
+    None
+}
+
+/// That an order's recipe is there with its size, and that it has a batch as its state says.
+#[derive(Drop)]
+struct Ordered<'a> {
+    recipes: Grouped<'a, Recipes>,
+    batches: Grouped<'a, BatchesOfOrders>,
+}
+
+impl<'a> RowRule<Job> for Ordered<'a> {
+    ghost use Rattle.plant_check_plans.specs.Orders.{order_fault};
+
+    ghost fault_of = { λ t j. order_fault t.recipes.rows.now t.batches.rows.now j };
+
+    fn fault(&self, _alloc: Global, row: &Job) -> Result<Option<RowFault>, AllocError> {
+        let recipe = recipe_at(&self.recipes, row.order.recipe, row.order.version);
+        Ok(order_fault(recipe, batch_of(&self.batches, row.order.order), row))
+    }
+}
+
+/// The first order that breaks its rule. The only error is that memory was refused.
+pub fn order_fault_in(
+    alloc: Global,
+    recipes: &[Recipe],
+    batches: &[BatchRow],
+    jobs: &[Job],
+) -> Result<Option<RowFault>, AllocError>
+    ensures { IfOk result (λ reported. reported ≡ order_fault_in recipes.now batches.now jobs.now) }
+{
+    let recipes = Grouped::<Recipes>::new(alloc, recipes)?;
+    let batches = Grouped::<BatchesOfOrders>::new(alloc, batches)?;
+    first_fault(alloc, &Ordered { recipes, batches }, jobs)
 }

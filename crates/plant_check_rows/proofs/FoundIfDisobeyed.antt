@@ -2,18 +2,18 @@
 use Rattle.std.proofs.Common.{◌≡◌, ◌∙◌, ℕ, Bool, true, false, nat_le, List, [], ◌∷◌, length, map, Option, Some, None, is_some, Result, Ok, Err, refl, ap, ◌==◌, filter, is_none, if◌then◌else◌}
 use Rattle.std.proofs.lemmas.Bool.{false≢true}
 use Rattle.std.specs.List.{list_all}
-use Rattle.plant_base.specs.{is_content, same, BatchEvent, BatchRow, ControlLine, Definition, Hold, Job, Lot, MasterLine, Movement, Recipe, Refusal, Sublot}
+use Rattle.plant_base.specs.{is_content, BatchEvent, BatchRow, ControlLine, Definition, Hold, Lot, MasterLine, Movement, Recipe, Refusal, Sublot}
 use Rattle.plant_recipe.specs.{is_well_formed, run_of}
 use Rattle.plant_recipe.specs.declared.progress.Progress.{Progress}
 use Rattle.plant_stock.specs.{goes_to, comes_from}
-use Rattle.plant_view.specs.{batch_by, is_defined, is_known, is_size_of_recipe, rows_among, lines_among, control_among, job_among, phases_among, events_among}
+use Rattle.plant_view.specs.{batch_by, is_defined, is_known, rows_among, lines_among, phases_among, events_among}
 use Rattle.plant_tables_columns.specs.{movement_from, BookedRow}
 use Rattle.plant_tables_read.specs.{Rows}
-use Rattle.plant_check_plans.specs.{control_asked_for, is_control, is_row_among, is_right_batch, is_class_among, is_run, kept_progress, has_right_run, recipe_among, row_of_order, is_started, is_right_order, are_numbered, is_recipe_among, is_whole_recipe}
+use Rattle.plant_check_plans.specs.{is_row_among, is_run, kept_progress, has_right_run, are_numbered, is_recipe_among, is_whole_recipe}
 use Rattle.plant_check_stock.specs.{are_by, are_lines, are_numbers, has_right_number, is_apart, is_entered_before, is_given, is_next_line, is_right_receipt, seqs_of, is_there, is_batch_there, is_of_right_definition, is_of_right_merge, names_known, is_right_movement}
 use Rattle.plant_check.specs.{movements_in, obeys, has_right_stock, are_from_zero, sublots_among, is_lot_among, is_born, is_right_lot, is_right_sublot, Rule}
 use Rattle.plant_check.specs.declared.rule.Rule.TheVariants as rule
-use Rattle.plant_check_rows.specs.{run_found, run_fault, row_fault, is_broken_by_row, IsFoundByRow, IsFoundWhereBroken, Finding, RowFault, lot_fault, sublot_fault, naming_fault, movement_fault, size_fault, order_fault, batch_fault, line_fault, recipe_fault, stock_fault, line_fault_in, number_fault, number_fault_in, late_fault_in}
+use Rattle.plant_check_rows.specs.{run_found, run_fault, row_fault, is_broken_by_row, IsFoundByRow, IsFoundWhereBroken, Finding, RowFault, lot_fault, sublot_fault, naming_fault, movement_fault, line_fault, recipe_fault, stock_fault, line_fault_in, number_fault, number_fault_in, late_fault_in}
 use Rattle.plant_check_rows.proofs.FaultIfBroken.{reported_none, two_none, three_none, after_three, then_two, both_none, each_none, then_each, first_none, all_mapped}
 
 -- ---- rows
@@ -25,22 +25,6 @@ recipe_none definitions rows r =
     let lines = lines_among rows r.header.recipe r.header.version in
     let named = first_none (line_fault definitions) (λ l. is_known definitions l.line) (λ l. reported_none _ _) own ∙ all_mapped (is_known definitions) (λ l. l.line) own in
     after_three (is_well_formed r.header lines) (are_numbered 1 (map (λ l. l.number) own)) (is_defined definitions r.header.product) (list_all (is_known definitions) lines) _ _ _ _ named
-
-size_none : (r : Option Recipe) (j : Job) → is_none (size_fault r j) ≡ is_size_of_recipe r j.order.size
-size_none None j = refl
-size_none (Some r) j = reported_none _ _
-
-order_none : (recipes : List Recipe) (batches : List BatchRow) (j : Job) → is_none (order_fault recipes batches j) ≡ is_right_order recipes batches j
-unfolding is_right_order
-order_none recipes batches j = both_none _ _ _ _ (size_none (recipe_among recipes j.order.recipe j.order.version) j) (reported_none (is_started j.state (row_of_order batches j.order.order)) _)
-
-batch_none : (recipes : List Recipe) (rows : List MasterLine) (jobs : List Job) (batches : List BatchRow) (control : List ControlLine) (b : BatchRow)
-    → is_none (batch_fault recipes rows jobs batches control b) ≡ is_right_batch recipes rows jobs batches control b
-unfolding is_right_batch
-batch_none recipes rows jobs batches control b =
-    let own = control_among control b.batch.id in
-    three_none (length (filter (λ x. same x.batch.job b.batch.job) batches) == 1) (are_numbered 1 (map (λ l. l.number) own))
-    (is_control (control_asked_for recipes rows (job_among jobs b.batch.job)) (map (λ l. l.line) own)) _ _ _
 
 stock_none : (rows : List BookedRow) (s : Sublot) → is_none (stock_fault rows rows s) ≡ has_right_stock rows s
 unfolding has_right_stock
@@ -94,14 +78,12 @@ late_none at ms es batches holds =
 pub found_by_row : IsFoundByRow
 found_by_row rule.Tables r by_row = refl
 found_by_row rule.Values r by_row = refl
-found_by_row rule.Classes r by_row = first_none _ (λ d. is_class_among r.classes d.class) (λ d. reported_none _ _) r.definitions
+found_by_row rule.Classes r by_row = refl
 found_by_row rule.Recipes r by_row =
     both_none _ _ _ _ (first_none _ (is_whole_recipe r.definitions r.master_lines) (recipe_none r.definitions r.master_lines) r.recipes)
     (first_none _ (λ l. is_recipe_among r.recipes l.recipe l.version) (λ l. reported_none _ _) r.master_lines)
-found_by_row rule.Orders r by_row = first_none _ (is_right_order r.recipes r.batches) (order_none r.recipes r.batches) r.jobs
-found_by_row rule.Batches r by_row =
-    both_none _ _ _ _ (first_none _ (is_right_batch r.recipes r.master_lines r.jobs r.batches r.control_lines) (batch_none r.recipes r.master_lines r.jobs r.batches r.control_lines) r.batches)
-    (first_none _ (λ l. is_row_among r.batches l.batch) (λ l. reported_none _ _) r.control_lines)
+found_by_row rule.Orders r by_row = refl
+found_by_row rule.Batches r by_row = refl
 found_by_row rule.Stocks r by_row = first_none _ (has_right_stock r.movements) (stock_none r.movements) r.sublots
 found_by_row rule.Lots r by_row =
     both_none _ _ _ _ (first_none _ (is_right_lot r.definitions r.sublots) (lot_none r.definitions r.sublots) r.lots)

@@ -1,8 +1,3 @@
-pub mod Naming
-pub mod Texts
-pub mod First
-pub mod Keys
-pub mod Plans
 pub mod Recipes
 pub mod Stocks
 pub mod Lots
@@ -18,10 +13,7 @@ pub mod ColumnRules
 pub mod Stored
 pub mod Values
 pub mod Findings
-pub use Naming.{column_name, table_name}
-pub use Texts.{fault_text, found_text, wanted_text}
-pub use First.{Column, Found, Key, RowFault, Table, Wanted, fault_unless, first_reported, or_fault}
-pub use Plans.{batch_fault, order_fault, size_fault}
+pub use Rattle.plant_faults.specs.{column_name, table_name, fault_text, found_text, wanted_text, Column, Found, Key, RowFault, Table, Wanted, ValueRule, fault_unless, first_reported, or_fault}
 pub use Recipes.{line_fault, recipe_fault}
 pub use Stocks.{stock_fault}
 pub use Lots.{lot_fault, sublot_fault}
@@ -34,4 +26,3 @@ pub use Values.{AreUnreadIfBad, bad_value, first_bad_value, first_unread, first_
 pub use Findings.{AreFindingsOf, IsFirstFound, IsFoundByRow, IsFoundWhereBroken, finding_of, first_rule, head, is_broken_by_row, row_fault, rule_text}
 pub use declared.finding.Finding.{Finding}
 pub use declared.finding.Tested.{Tested}
-pub use declared.value_rule.ValueRule.{ValueRule}

@@ -2,12 +2,12 @@
 use Rattle.std.specs.Prelude.{ℕ, ◌==◌, List, length, filter, Option}
 use Rattle.plant_base.specs.{is_content, Receipt}
 use Rattle.plant_check_stock.specs.{is_given, seqs_of}
-use Rattle.plant_check_rows.specs.Keys.{id_key}
-use Rattle.plant_check_rows.specs.First.{in_column, fault_unless, or_fault, first_reported, Column, Found, RowFault, Wanted}
-use Rattle.plant_check_rows.specs.declared.fault.Table.TheVariants as table
-use Rattle.plant_check_rows.specs.declared.fault.Column.TheVariants as column
-use Rattle.plant_check_rows.specs.declared.fault.Found.TheVariants as found
-use Rattle.plant_check_rows.specs.declared.fault.Wanted.TheVariants as wanted
+use Rattle.plant_faults.specs.{id_key}
+use Rattle.plant_faults.specs.{in_column, fault_unless, or_fault, first_reported, Column, Found, RowFault, Wanted}
+use Rattle.plant_faults.specs.declared.fault.Table.TheVariants as table
+use Rattle.plant_faults.specs.declared.fault.Column.TheVariants as column
+use Rattle.plant_faults.specs.declared.fault.Found.TheVariants as found
+use Rattle.plant_faults.specs.declared.fault.Wanted.TheVariants as wanted
 
 -- the fault of the receipt: this is in a column, where that is wanted
 abbrev pub receipt_as : Receipt → Column → Found → Wanted → RowFault

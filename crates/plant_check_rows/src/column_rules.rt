@@ -2,8 +2,8 @@
 ghost use Rattle.std.specs.Prelude.{◌≡◌};
 ghost use Rattle.plant_check_rows.specs.ColumnRules.{rules_of};
 
-use crate::fault::{Column, Table};
-use crate::value_rule::ValueRule;
+use plant_faults::{Column, Table};
+use plant_faults::ValueRule;
 use plant_base::{
     GREATEST_AMOUNT, GREATEST_MOMENT, GREATEST_PHASE, GREATEST_PRIORITY, GREATEST_SEQ,
     GREATEST_SUBLOT, GREATEST_VERSION,

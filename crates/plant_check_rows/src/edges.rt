@@ -3,11 +3,11 @@ ghost use Rattle.std.specs.Prelude.{◌≡◌, IfOk, Option};
 ghost use Rattle.plant_check.specs.{movements_in};
 ghost use Rattle.plant_check_rows.specs.Edges.{edge_fault_in, is_edge_among, missing_edge};
 ghost use Rattle.plant_check_rows.specs.Edges.{missing_edge_fault, stray_edge_fault};
-ghost use Rattle.plant_check_rows.specs.First.{first_reported};
+ghost use Rattle.plant_faults.specs.{first_reported};
 
-use crate::fault::{Found, RowFault, Table, Wanted};
-use crate::first::{RowRule, as_a_whole, fault_unless, first_fault, or_fault};
-use crate::keys::edge_key;
+use plant_faults::{Found, RowFault, Table, Wanted};
+use plant_faults::first::{RowRule, as_a_whole, fault_unless, first_fault, or_fault};
+use plant_faults::keys::edge_key;
 use grouped_rows::{Grouped, Grouping};
 use plant_base::{EdgeRow, Movement};
 use plant_check::edges::edges_in;
@@ -41,12 +41,17 @@ fn has_edge(edges: &Grouped<Kept>, edge: EdgeRow) -> bool
 }
 
 /// That an edge is one that a movement makes.
-impl<'a> RowRule<EdgeRow> for Grouped<'a, Kept> {
-    ghost fault_of = { λ t e. stray_edge_fault t.rows.now e };
+#[derive(Drop)]
+struct Made<'a> {
+    made: Grouped<'a, Kept>,
+}
+
+impl<'a> RowRule<EdgeRow> for Made<'a> {
+    ghost fault_of = { λ t e. stray_edge_fault t.made.rows.now e };
 
     fn fault(&self, _alloc: Global, row: &EdgeRow) -> Result<Option<RowFault>, AllocError> {
         let fault = as_a_whole((Table::Edge, edge_key(row)), Wanted::NoRow);
-        Ok(fault_unless(has_edge(self, *row), fault))
+        Ok(fault_unless(has_edge(&self.made, *row), fault))
     }
 }
 
@@ -96,7 +101,7 @@ fn stray_edge(
     ensures { IfOk result (λ reported. reported ≡ first_reported (stray_edge_fault made.now) rows.now) }
 {
     let made = Grouped::<Kept>::new(alloc, made)?;
-    first_fault(alloc, &made, rows)
+    first_fault(alloc, &Made { made }, rows)
 }
 
 fn unkept_edge(

@@ -3,11 +3,11 @@ ghost use Rattle.std.specs.Prelude.{◌≡◌, IfOk, Result};
 ghost use Rattle.plant_check_rows.specs.Events.{batch_as, closed_number, differ, event_fault};
 ghost use Rattle.plant_check_rows.specs.Events.{event_fault_in, number_as, progress_fault};
 ghost use Rattle.plant_check_rows.specs.Events.{run_fault, run_found};
-ghost use Rattle.plant_check_rows.specs.First.{first_reported};
+ghost use Rattle.plant_faults.specs.{first_reported};
 
-use crate::fault::{Column, Found, RowFault, Table, Wanted};
-use crate::first::{RowRule, first_fault, in_column, names_none};
-use crate::keys::{id_key, number_key};
+use plant_faults::{Column, Found, RowFault, Table, Wanted};
+use plant_faults::first::{RowRule, first_fault, in_column, names_none};
+use plant_faults::keys::{id_key, number_key};
 use grouped_rows::Grouped;
 use plant_base::{BatchEvent, BatchRow, Refusal};
 use plant_check_plans::events::{events_in, kept_progress, phases_of};
@@ -98,11 +98,16 @@ impl<'a> RowRule<BatchRow> for Runs<'a> {
 }
 
 /// That the batch of an event is there.
-impl<'a> RowRule<BatchEvent> for Grouped<'a, Batches> {
-    ghost fault_of = { λ t e. event_fault t.rows.now e };
+#[derive(Drop)]
+struct OfBatches<'a> {
+    batches: Grouped<'a, Batches>,
+}
+
+impl<'a> RowRule<BatchEvent> for OfBatches<'a> {
+    ghost fault_of = { λ t e. event_fault t.batches.rows.now e };
 
     fn fault(&self, _alloc: Global, row: &BatchEvent) -> Result<Option<RowFault>, AllocError> {
-        if has_batch(self, row.batch) {
+        if has_batch(&self.batches, row.batch) {
             return Ok(None);
         }
         let place = (Table::BatchEvent, number_key(row.seq));
@@ -131,5 +136,5 @@ pub(crate) fn event_fault(alloc: Global, rows: &DeskRows) -> Result<Option<RowFa
         return Ok(Some(fault));
     }
     let batches = Grouped::<Batches>::new(alloc, rows.batches.as_slice())?;
-    first_fault(alloc, &batches, rows.events.as_slice())
+    first_fault(alloc, &OfBatches { batches }, rows.events.as_slice())
 }

@@ -9,11 +9,9 @@ ghost use Rattle.plant_check_rows.specs.Findings.{IsFoundWhereBroken, IsTestOf};
 
 use crate::edges::edge_fault;
 use crate::events::event_fault;
-use crate::fault::RowFault;
 use crate::lots::lot_fault;
 use crate::movements::movement_fault;
 use crate::numbers::{are_right_numbers, number_fault};
-use crate::plans::{batch_fault, class_fault, order_fault};
 use crate::recalls::recall_fault;
 use crate::receipts::receipt_fault;
 use crate::recipes::recipe_fault;
@@ -21,6 +19,10 @@ use crate::stocks::stock_fault;
 use crate::values::value_fault_in;
 use plant_check::Rule;
 use plant_check::checking::{are_edges_of, are_right_recalls};
+use plant_check_plans::batches::batch_fault_in;
+use plant_check_plans::catalogue::class_fault_in;
+use plant_check_plans::orders::order_fault_in;
+use plant_faults::RowFault;
 use plant_tables_read::{DeskRows, Loaded, has_meta, rows_of};
 use std::alloc::{AllocError, Global};
 
@@ -92,10 +94,24 @@ fn row_fault(alloc: Global, rule: Rule, rows: &DeskRows) -> Result<Option<RowFau
 {
     match rule {
         Rule::Tables | Rule::Values => Ok(None),
-        Rule::Classes => class_fault(alloc, rows),
+        Rule::Classes => {
+            class_fault_in(alloc, rows.classes.as_slice(), rows.definitions.as_slice())
+        }
         Rule::Recipes => recipe_fault(alloc, rows),
-        Rule::Orders => order_fault(alloc, rows),
-        Rule::Batches => batch_fault(alloc, rows),
+        Rule::Orders => order_fault_in(
+            alloc,
+            rows.recipes.as_slice(),
+            rows.batches.as_slice(),
+            rows.jobs.as_slice(),
+        ),
+        Rule::Batches => batch_fault_in(
+            alloc,
+            rows.recipes.as_slice(),
+            rows.master_lines.as_slice(),
+            rows.jobs.as_slice(),
+            rows.batches.as_slice(),
+            rows.control_lines.as_slice(),
+        ),
         Rule::Stocks => stock_fault(alloc, rows),
         Rule::Lots => lot_fault(alloc, rows),
         Rule::Movements => movement_fault(alloc, rows),

@@ -1,11 +1,11 @@
 //! Lots, sublots and holds that break a rule.
 ghost use Rattle.std.specs.Prelude.{◌≡◌, IfOk};
 ghost use Rattle.plant_check_rows.specs.Lots.{hold_fault, lot_fault, lot_fault_in, sublot_fault};
-ghost use Rattle.plant_check_rows.specs.First.{first_reported};
+ghost use Rattle.plant_faults.specs.{first_reported};
 
-use crate::fault::{Column, RowFault, Table, Wanted};
-use crate::first::{RowRule, as_a_whole, first_fault, names_none, or_fault};
-use crate::keys::{hold_key, id_key, sublot_key};
+use plant_faults::{Column, RowFault, Table, Wanted};
+use plant_faults::first::{RowRule, as_a_whole, first_fault, names_none, or_fault};
+use plant_faults::keys::{hold_key, id_key, sublot_key};
 use grouped_rows::Grouped;
 use plant_base::{Hold, Lot, Sublot};
 use plant_check::ends::BySublotEntered;
@@ -64,13 +64,18 @@ impl<'a> RowRule<Sublot> for Born<'a> {
 }
 
 /// That a hold's lot is there.
-impl<'a> RowRule<Hold> for Grouped<'a, Lots> {
+#[derive(Drop)]
+struct OfLots<'a> {
+    lots: Grouped<'a, Lots>,
+}
+
+impl<'a> RowRule<Hold> for OfLots<'a> {
     ghost use Rattle.plant_check_rows.specs.Lots.{hold_fault};
 
-    ghost fault_of = { λ t h. hold_fault t.rows.now h };
+    ghost fault_of = { λ t h. hold_fault t.lots.rows.now h };
 
     fn fault(&self, _alloc: Global, row: &Hold) -> Result<Option<RowFault>, AllocError> {
-        if has_lot(self, row.lot) {
+        if has_lot(&self.lots, row.lot) {
             return Ok(None);
         }
         let place = (Table::Hold, hold_key(row));
@@ -104,7 +109,7 @@ fn stray_hold(alloc: Global, rows: &DeskRows) -> Result<Option<RowFault>, AllocE
     ensures { IfOk result (λ reported. reported ≡ first_reported (hold_fault rows.now.lots.items) rows.now.holds.items) }
 {
     let lots = Grouped::<Lots>::new(alloc, rows.lots.as_slice())?;
-    first_fault(alloc, &lots, rows.holds.as_slice())
+    first_fault(alloc, &OfLots { lots }, rows.holds.as_slice())
 }
 
 /// The first lot that breaks its rule, or else the first sublot, or else the first hold. The only error is that memory was

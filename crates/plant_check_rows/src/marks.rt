@@ -1,13 +1,13 @@
 //! Marks of what no open recall reaches, and marks that are missing.
 ghost use Rattle.std.specs.Prelude.{◌≡◌, IfOk};
 ghost use Rattle.plant_view.specs.{edges_among, marks};
-ghost use Rattle.plant_check_rows.specs.First.{first_reported};
+ghost use Rattle.plant_faults.specs.{first_reported};
 ghost use Rattle.plant_check_rows.specs.Marks.{is_mark_among, mark_fault, mark_fault_among};
 ghost use Rattle.plant_check_rows.specs.Marks.{mark_fault_in};
 
-use crate::fault::{Found, RowFault, Table, Wanted};
-use crate::first::{RowRule, fault_unless, first_fault, or_fault};
-use crate::keys::mark_key;
+use plant_faults::{Found, RowFault, Table, Wanted};
+use plant_faults::first::{RowRule, fault_unless, first_fault, or_fault};
+use plant_faults::keys::mark_key;
 use grouped_rows::{Grouped, Grouping};
 use plant_base::{Mark, Movement, Recall};
 use plant_check_stock::marks_within;

@@ -3,11 +3,11 @@ ghost use Rattle.std.specs.Prelude.{◌≡◌, IfOk};
 ghost use Rattle.plant_check_rows.specs.Movements.{id_found, movement_as, movement_fault};
 ghost use Rattle.plant_check_rows.specs.Movements.{movement_fault_in, naming_fault};
 ghost use Rattle.plant_check.specs.{movements_in};
-ghost use Rattle.plant_check_rows.specs.First.{first_reported};
+ghost use Rattle.plant_faults.specs.{first_reported};
 
-use crate::fault::{Column, Found, RowFault, Table, Wanted};
-use crate::first::{RowRule, first_fault, in_column};
-use crate::keys::booked_key;
+use plant_faults::{Column, Found, RowFault, Table, Wanted};
+use plant_faults::first::{RowRule, first_fault, in_column};
+use plant_faults::keys::booked_key;
 use grouped_rows::Grouped;
 use plant_base::{BatchRow, ControlLine, Id, Lot, Movement, Sublot};
 use plant_check::history::movements_in;

@@ -1,7 +1,7 @@
 //! Movements, events, batches and holds whose number or moment breaks a rule.
 ghost use Rattle.std.specs.Prelude.{◌≡◌, ℕ, ◌++◌, List, false, IfOk, IfSome, None, map};
 ghost use Rattle.plant_check_stock.specs.{are_by, are_numbers, is_no_later, never_fall};
-ghost use Rattle.plant_check_rows.specs.First.{first_reported};
+ghost use Rattle.plant_faults.specs.{first_reported};
 ghost use Rattle.plant_check_rows.specs.Numbers.{event_as, fall_fault_in, late_fault_in};
 ghost use Rattle.plant_check_rows.specs.Numbers.{line_fault, line_fault_in, moment_fault};
 ghost use Rattle.plant_check_rows.specs.Numbers.{number_as, number_fault, number_fault_in};
@@ -10,9 +10,9 @@ ghost use Rattle.plant_tables_read.specs.{rows_listed};
 ghost use Rattle.plant_check.specs.{movements_in, obeys};
 ghost use Rattle.plant_check.specs.declared.rule.Rule.TheVariants as rule;
 
-use crate::fault::{Column, Found, Key, RowFault, Table, Wanted};
-use crate::first::{RowRule, fault_unless, first_fault, in_column, or_fault};
-use crate::keys::{booked_key, hold_key, id_key, number_key};
+use plant_faults::{Column, Found, Key, RowFault, Table, Wanted};
+use plant_faults::first::{RowRule, fault_unless, first_fault, in_column, or_fault};
+use plant_faults::keys::{booked_key, hold_key, id_key, number_key};
 use crate::movements::movement_as;
 use grouped_rows::Grouped;
 use plant_base::{BatchEvent, BatchRow, Hold, Moment, Movement};
@@ -243,7 +243,7 @@ fn is_no_later(before: (u64, u64), row: (u64, u64)) -> bool
 /// A row with a number and a moment.
 trait Marked {
     ghost use Rattle.std.specs.Prelude.{◌≡◌, ℕ};
-    ghost use Rattle.plant_check_rows.specs.First.{RowFault as Reported};
+    ghost use Rattle.plant_faults.specs.{RowFault as Reported};
 
     /// Its number and its moment.
     ghost mark_of: { Self → ℕ × ℕ };

@@ -5,9 +5,9 @@ ghost use Rattle.plant_check.specs.{movements_in, recalls_read};
 ghost use Rattle.plant_check_rows.specs.Findings.{recalled_fault_in};
 ghost use Rattle.plant_check_rows.specs.Recalls.{recall_as, recall_fault_in};
 
-use crate::fault::{Column, Found, RowFault, Table, Wanted};
-use crate::first::{RowRule, fault_unless, first_fault, in_column, or_fault};
-use crate::keys::id_key;
+use plant_faults::{Column, Found, RowFault, Table, Wanted};
+use plant_faults::first::{RowRule, fault_unless, first_fault, in_column, or_fault};
+use plant_faults::keys::id_key;
 use crate::marks::mark_fault;
 use grouped_rows::Grouped;
 use plant_base::{Id, Lot, Moment, Recall};

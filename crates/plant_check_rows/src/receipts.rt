@@ -3,9 +3,9 @@ ghost use Rattle.std.specs.Prelude.{◌≡◌, ◌==◌, IfOk, filter, length};
 ghost use Rattle.plant_check_stock.specs.{seqs_of};
 ghost use Rattle.plant_check_rows.specs.Receipts.{receipt_as, receipt_fault_in};
 
-use crate::fault::{Column, Found, RowFault, Table, Wanted};
-use crate::first::{RowRule, fault_unless, first_fault, in_column, or_fault};
-use crate::keys::id_key;
+use plant_faults::{Column, Found, RowFault, Table, Wanted};
+use plant_faults::first::{RowRule, fault_unless, first_fault, in_column, or_fault};
+use plant_faults::keys::id_key;
 use grouped_rows::{Grouped, Grouping};
 use plant_base::Receipt;
 use plant_check_stock::numbering::is_given;

@@ -2,11 +2,11 @@
 ghost use Rattle.std.specs.Prelude.{◌≡◌, IfOk};
 ghost use Rattle.plant_check_rows.specs.Recipes.{definition_found, ill_formed_fault, line_fault};
 ghost use Rattle.plant_check_rows.specs.Recipes.{recipe_fault, recipe_fault_in, stray_line_fault};
-ghost use Rattle.plant_check_rows.specs.First.{first_reported};
+ghost use Rattle.plant_faults.specs.{first_reported};
 
-use crate::fault::{Column, Found, RowFault, Table, Wanted};
-use crate::first::{RowRule, as_a_whole, first_fault, in_column, names_none};
-use crate::keys::{recipe_key, recipe_line_key};
+use plant_faults::{Column, Found, RowFault, Table, Wanted};
+use plant_faults::first::{RowRule, as_a_whole, first_fault, in_column, names_none};
+use plant_faults::keys::{recipe_key, recipe_line_key};
 use grouped_rows::Grouped;
 use plant_base::{Header, MasterLine, Recipe, RecipeLine};
 use plant_check_plans::keys::{
@@ -30,11 +30,16 @@ fn definition_found(line: &RecipeLine) -> Found
 }
 
 /// That the definition that a line names is there.
-impl<'a> RowRule<MasterLine> for Grouped<'a, Definitions> {
-    ghost fault_of = { λ t l. line_fault t.rows.now l };
+#[derive(Drop)]
+struct Known<'a> {
+    definitions: Grouped<'a, Definitions>,
+}
+
+impl<'a> RowRule<MasterLine> for Known<'a> {
+    ghost fault_of = { λ t l. line_fault t.definitions.rows.now l };
 
     fn fault(&self, _alloc: Global, row: &MasterLine) -> Result<Option<RowFault>, AllocError> {
-        if is_known(self, &row.line) {
+        if is_known(&self.definitions, &row.line) {
             return Ok(None);
         }
         let place = (Table::RecipeLine, recipe_line_key(row));
@@ -47,12 +52,12 @@ impl<'a> RowRule<MasterLine> for Grouped<'a, Definitions> {
 /// on, or what it names isn't there. The only error is that memory was refused.
 fn ill_formed_fault(
     alloc: Global,
-    definitions: &Grouped<Definitions>,
+    known: &Known,
     header: &Header,
     rows: &[MasterLine],
     lines: &[RecipeLine],
 ) -> Result<Option<RowFault>, AllocError>
-    ensures { IfOk result (λ reported. reported ≡ ill_formed_fault definitions.now.rows.now header.now rows.now lines.now) }
+    ensures { IfOk result (λ reported. reported ≡ ill_formed_fault known.now.definitions.rows.now header.now rows.now lines.now) }
 {
     let place = (Table::Recipe, recipe_key(header));
     let product = header.product;
@@ -63,36 +68,41 @@ fn ill_formed_fault(
         let numbering = Wanted::NumberedFrom(Table::RecipeLine, 1);
         return Ok(Some(as_a_whole(place, numbering)));
     }
-    if !has_definition(definitions, product) {
+    if !has_definition(&known.definitions, product) {
         return Ok(Some(names_none(place, Column::Product, product, Table::Definition)));
     }
-    first_fault(alloc, definitions, rows)
+    first_fault(alloc, known, rows)
 }
 
 /// That a recipe is whole.
 #[derive(Drop)]
 struct Whole<'a> {
-    definitions: Grouped<'a, Definitions>,
+    known: Known<'a>,
     lines: Grouped<'a, RecipeLines>,
 }
 
 impl<'a> RowRule<Recipe> for Whole<'a> {
-    ghost fault_of = { λ t r. recipe_fault t.definitions.rows.now t.lines.rows.now r };
+    ghost fault_of = { λ t r. recipe_fault t.known.definitions.rows.now t.lines.rows.now r };
 
     fn fault(&self, alloc: Global, row: &Recipe) -> Result<Option<RowFault>, AllocError> {
         let header = row.header;
         let rows = lines_of(&self.lines, header.recipe, header.version);
         let lines = lines_in(alloc, rows)?;
-        ill_formed_fault(alloc, &self.definitions, &header, rows, lines.as_slice())
+        ill_formed_fault(alloc, &self.known, &header, rows, lines.as_slice())
     }
 }
 
 /// That the recipe of a line is there.
-impl<'a> RowRule<MasterLine> for Grouped<'a, Recipes> {
-    ghost fault_of = { λ t l. stray_line_fault t.rows.now l };
+#[derive(Drop)]
+struct OfRecipes<'a> {
+    recipes: Grouped<'a, Recipes>,
+}
+
+impl<'a> RowRule<MasterLine> for OfRecipes<'a> {
+    ghost fault_of = { λ t l. stray_line_fault t.recipes.rows.now l };
 
     fn fault(&self, _alloc: Global, row: &MasterLine) -> Result<Option<RowFault>, AllocError> {
-        if has_recipe(self, row.recipe, row.version) {
+        if has_recipe(&self.recipes, row.recipe, row.version) {
             return Ok(None);
         }
         let place = (Table::RecipeLine, recipe_line_key(row));
@@ -106,7 +116,8 @@ fn broken_recipe(alloc: Global, rows: &DeskRows) -> Result<Option<RowFault>, All
 {
     let definitions = Grouped::<Definitions>::new(alloc, rows.definitions.as_slice())?;
     let lines = Grouped::<RecipeLines>::new(alloc, rows.master_lines.as_slice())?;
-    let whole = Whole { definitions, lines };
+    let known = Known { definitions };
+    let whole = Whole { known, lines };
     first_fault(alloc, &whole, rows.recipes.as_slice())
 }
 
@@ -120,5 +131,5 @@ pub(crate) fn recipe_fault(alloc: Global, rows: &DeskRows) -> Result<Option<RowF
         return Ok(Some(fault));
     }
     let recipes = Grouped::<Recipes>::new(alloc, rows.recipes.as_slice())?;
-    first_fault(alloc, &recipes, rows.master_lines.as_slice())
+    first_fault(alloc, &OfRecipes { recipes }, rows.master_lines.as_slice())
 }

@@ -2,9 +2,9 @@
 ghost use Rattle.std.specs.Prelude.{◌≡◌, IfOk};
 ghost use Rattle.plant_check_rows.specs.Stocks.{stock_fault_in};
 
-use crate::fault::{Column, Found, RowFault, Table, Wanted};
-use crate::first::{RowRule, first_fault, in_column};
-use crate::keys::sublot_key;
+use plant_faults::{Column, Found, RowFault, Table, Wanted};
+use plant_faults::first::{RowRule, first_fault, in_column};
+use plant_faults::keys::sublot_key;
 use grouped_rows::Grouped;
 use plant_base::Sublot;
 use plant_check::ends::{BySublotEntered, BySublotLeft, entries, exits, total_booked};

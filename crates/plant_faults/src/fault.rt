@@ -1,10 +1,10 @@
 //! A row that breaks a rule.
 ghost use Rattle.std.specs.Prelude.{◌≡◌};
-ghost use Rattle.plant_check_rows.specs.Naming.{column_name, table_name};
+ghost use Rattle.plant_faults.specs.Naming.{column_name, table_name};
 
 use crate::value_rule::ValueRule;
 use plant_base::{Amount, BatchState, Id, JobState, Refusal, Text};
-use plant_tables_read::MovementKindCode;
+use plant_tables_columns::MovementKindCode;
 
 /// A table of the desk.
 #[derive(Clone, Copy, Debug, PartialEq, Eq)]

@@ -1,13 +1,13 @@
 -- What is reported of a row, and the first fault that is reported.
 use Rattle.std.specs.Prelude.{ℕ, Bool, true, false, List, [], ◌∷◌, Option, Some, None}
-pub use Rattle.plant_check_rows.specs.declared.fault.Column.{Column}
-pub use Rattle.plant_check_rows.specs.declared.fault.Found.{Found}
-pub use Rattle.plant_check_rows.specs.declared.fault.Key.{Key}
-pub use Rattle.plant_check_rows.specs.declared.fault.RowFault.{RowFault}
-pub use Rattle.plant_check_rows.specs.declared.fault.Table.{Table}
-pub use Rattle.plant_check_rows.specs.declared.fault.Wanted.{Wanted}
-use Rattle.plant_check_rows.specs.declared.fault.Found.TheVariants as found
-use Rattle.plant_check_rows.specs.declared.fault.Wanted.TheVariants as wanted
+pub use Rattle.plant_faults.specs.declared.fault.Column.{Column}
+pub use Rattle.plant_faults.specs.declared.fault.Found.{Found}
+pub use Rattle.plant_faults.specs.declared.fault.Key.{Key}
+pub use Rattle.plant_faults.specs.declared.fault.RowFault.{RowFault}
+pub use Rattle.plant_faults.specs.declared.fault.Table.{Table}
+pub use Rattle.plant_faults.specs.declared.fault.Wanted.{Wanted}
+use Rattle.plant_faults.specs.declared.fault.Found.TheVariants as found
+use Rattle.plant_faults.specs.declared.fault.Wanted.TheVariants as wanted
 
 -- the fault of the row of this table and key: this is in a column, where that is wanted
 abbrev pub in_column : Table × Key → Column → Found → Wanted → RowFault
@@ -42,6 +42,15 @@ fault_unless false f = Some f
 abbrev pub or_fault : Option RowFault → Option RowFault → Option RowFault
 or_fault None rest = rest
 or_fault (Some f) rest = Some f
+
+-- what a row has to meet: whether it does, and what is reported where it doesn't
+abbrev pub Requirement : Type 0
+Requirement = Bool × RowFault
+
+-- what is reported of the first that isn't met
+abbrev pub first_unmet : List Requirement → Option RowFault
+first_unmet [] = None
+first_unmet (r ∷ rs) = or_fault (fault_unless r.0 r.1) (first_unmet rs)
 
 -- the fault of the first of the rows that have one
 abbrev pub first_reported : {R : Type 0} → (R → Option RowFault) → List R → Option RowFault

@@ -1,6 +1,7 @@
 use Rattle.std.proofs.Common.{◌≡◌, IfOk}
-use Rattle.plant_check_rows.specs.{first_reported, batch_fault}
-use Rattle.plant_check_rows.proofs.plans.wrong_batch.Goals as goal
+use Rattle.plant_faults.specs.{first_reported}
+use Rattle.plant_check_plans.specs.{batch_fault}
+use Rattle.plant_check_plans.proofs.batches.wrong_batch.Goals as goal
 
 pub returns : goal.returns
 returns c =

@@ -4,13 +4,13 @@ use Rattle.std.specs.Fmt.{signed_decimal}
 use Rattle.plant_base.specs.{name_of, batch_state_name, job_state_name}
 use Rattle.plant_tables_columns.specs.{MovementKindCode}
 use Rattle.plant_tables_columns.specs.declared.booked.MovementKindCode.TheVariants as kind_code
-use Rattle.plant_check_rows.specs.Naming.{table_name, column_name}
-use Rattle.plant_check_rows.specs.declared.value_rule.ValueRule.{ValueRule}
-use Rattle.plant_check_rows.specs.First.{Column, Found, Key, RowFault, Wanted}
-use Rattle.plant_check_rows.specs.declared.fault.Key.TheVariants as key
-use Rattle.plant_check_rows.specs.declared.fault.Found.TheVariants as found
-use Rattle.plant_check_rows.specs.declared.fault.Wanted.TheVariants as wanted
-use Rattle.plant_check_rows.specs.declared.value_rule.ValueRule.TheVariants as rule
+use Rattle.plant_faults.specs.Naming.{table_name, column_name}
+use Rattle.plant_faults.specs.declared.value_rule.ValueRule.{ValueRule}
+use Rattle.plant_faults.specs.First.{Column, Found, Key, RowFault, Wanted}
+use Rattle.plant_faults.specs.declared.fault.Key.TheVariants as key
+use Rattle.plant_faults.specs.declared.fault.Found.TheVariants as found
+use Rattle.plant_faults.specs.declared.fault.Wanted.TheVariants as wanted
+use Rattle.plant_faults.specs.declared.value_rule.ValueRule.TheVariants as rule
 
 abbrev pub key_text : Key → List ℕ
 key_text (key.Id id) = id

@@ -1,16 +1,16 @@
 //! What is reported of a row, and the first row that breaks a rule.
 ghost use Rattle.std.specs.Prelude.{◌≡◌, IfOk};
-ghost use Rattle.plant_check_rows.specs.First.{as_a_whole, first_reported, in_column, names_none};
-ghost use Rattle.plant_check_rows.specs.First.{or_fault, fault_unless};
+ghost use Rattle.plant_faults.specs.First.{as_a_whole, first_reported, in_column, names_none};
+ghost use Rattle.plant_faults.specs.First.{or_fault, fault_unless};
 
 use crate::fault::{Column, Found, Key, RowFault, Table, Wanted};
 use plant_base::Id;
 use std::alloc::{AllocError, Global};
 
 /// What each row of a table has to obey by itself, given the rows that it is compared with.
-pub(crate) trait RowRule<R> {
+pub trait RowRule<R> {
     ghost use Rattle.std.specs.Prelude.{◌≡◌, Option, IfOk};
-    ghost use Rattle.plant_check_rows.specs.First.{RowFault as Reported};
+    ghost use Rattle.plant_faults.specs.First.{RowFault as Reported};
 
     /// What is wrong with a row.
     ghost fault_of: { Self → R → Option Reported };
@@ -21,7 +21,7 @@ pub(crate) trait RowRule<R> {
 }
 
 /// The fault of the row of this table and key: this is in a column, where that is wanted.
-pub(crate) fn in_column(
+pub fn in_column(
     place: (Table, Key),
     column: Column,
     found: Found,
@@ -39,14 +39,14 @@ pub(crate) fn in_column(
 }
 
 /// The row of this table and key, where the id in its column is that of no row of the other table.
-pub(crate) fn names_none(place: (Table, Key), column: Column, id: Id, other: Table) -> RowFault
+pub fn names_none(place: (Table, Key), column: Column, id: Id, other: Table) -> RowFault
     ensures { result ≡ names_none place column id other }
 {
     in_column(place, column, Found::Id(id), Wanted::Key(other))
 }
 
 /// The row of this table and key, where this is wanted of it as a whole.
-pub(crate) fn as_a_whole(place: (Table, Key), wanted: Wanted) -> RowFault
+pub fn as_a_whole(place: (Table, Key), wanted: Wanted) -> RowFault
     ensures { result ≡ as_a_whole place wanted }
 {
     RowFault {
@@ -59,14 +59,14 @@ pub(crate) fn as_a_whole(place: (Table, Key), wanted: Wanted) -> RowFault
 }
 
 /// The fault, where the rule isn't obeyed.
-pub(crate) fn fault_unless(obeyed: bool, fault: RowFault) -> Option<RowFault>
+pub fn fault_unless(obeyed: bool, fault: RowFault) -> Option<RowFault>
     ensures { result ≡ fault_unless obeyed fault }
 {
     if obeyed { None } else { Some(fault) }
 }
 
 /// The one, where there is one, and else the other.
-pub(crate) fn or_fault(first: Option<RowFault>, rest: Option<RowFault>) -> Option<RowFault>
+pub fn or_fault(first: Option<RowFault>, rest: Option<RowFault>) -> Option<RowFault>
     ensures { result ≡ or_fault first rest }
 {
     match first {
@@ -76,7 +76,7 @@ pub(crate) fn or_fault(first: Option<RowFault>, rest: Option<RowFault>) -> Optio
 }
 
 /// The fault of the first of the rows that have one. The only error is that memory was refused.
-pub(crate) fn first_fault<R, T: RowRule<R>>(
+pub fn first_fault<R, T: RowRule<R>>(
     alloc: Global,
     rule: &T,
     rows: &[R],

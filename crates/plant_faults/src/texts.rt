@@ -1,11 +1,11 @@
 //! The texts of rows that break rules.
 ghost use Rattle.std.specs.Prelude.{◌≡◌, Some};
-ghost use Rattle.plant_check_rows.specs.Texts.{fault_text, found_text, key_text, plain_wanted};
-ghost use Rattle.plant_check_rows.specs.Texts.{kind_code_name, rule_text, stock_text, wanted_text};
+ghost use Rattle.plant_faults.specs.Texts.{fault_text, found_text, key_text, plain_wanted};
+ghost use Rattle.plant_faults.specs.Texts.{kind_code_name, rule_text, stock_text, wanted_text};
 
 use crate::fault::{Found, Key, RowFault, Wanted};
 use crate::value_rule::ValueRule;
-use plant_tables_read::MovementKindCode;
+use plant_tables_columns::MovementKindCode;
 use std::fmt;
 
 impl fmt::Display for Key {
@@ -31,7 +31,7 @@ impl fmt::Display for Key {
 }
 
 /// The name of a movement's kind.
-pub(crate) fn kind_code_name(kind_code: MovementKindCode) -> &'static str
+pub fn kind_code_name(kind_code: MovementKindCode) -> &'static str
     ensures { result.now ≡ kind_code_name kind_code }
 {
     match kind_code {

@@ -1,6 +1,6 @@
 use Rattle.std.proofs.Common.{◌≡◌, drop}
-use Rattle.plant_check_rows.specs.{first_reported}
-use Rattle.plant_check_rows.proofs.first.first_fault.Given as goal
+use Rattle.plant_faults.specs.{first_reported}
+use Rattle.plant_faults.proofs.first.first_fault.Given as goal
 
 -- the rows so far have no fault: the first is one of those that are left
 abbrev pub invariant-loop-row : goal.invariant-loop-row

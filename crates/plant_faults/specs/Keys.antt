@@ -1,8 +1,8 @@
 -- The keys of rows.
 use Rattle.std.specs.Prelude.{ℕ, List}
 use Rattle.plant_base.specs.{edge_kind_number, mark_kind_number, ControlLine, EdgeRow, Header, Hold, Mark, MasterLine, Sublot}
-use Rattle.plant_check_rows.specs.First.{Key}
-use Rattle.plant_check_rows.specs.declared.fault.Key.TheVariants as key
+use Rattle.plant_faults.specs.First.{Key}
+use Rattle.plant_faults.specs.declared.fault.Key.TheVariants as key
 
 abbrev pub id_key : List ℕ → Key
 id_key id = key.Id id

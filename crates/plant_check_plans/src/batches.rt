@@ -4,7 +4,7 @@ ghost use Rattle.std.specs.Prelude.{◌≡◌, IfOk, ◌==◌, map};
 ghost use Rattle.plant_view.specs.{lines_among};
 ghost use Rattle.plant_check_plans.specs.Batches.{control_sized, control_if_well_formed};
 ghost use Rattle.plant_check_plans.specs.Batches.{control_of_found, control_asked_for, is_control};
-ghost use Rattle.plant_check_plans.specs.Batches.{batch_fault, batch_fault_in};
+ghost use Rattle.plant_check_plans.specs.Batches.{batch_fault, batch_fault_in, control_line_fault};
 ghost use Rattle.plant_faults.specs.{first_reported};
 
 use crate::keys::{Batches, BatchesOfOrders, ControlLines, Orders, RecipeLines, Recipes};
@@ -14,7 +14,9 @@ use grouped_rows::Grouped;
 use plant_base::{
     Amount, BatchRow, ControlLine, Header, Items, Job, MasterLine, Recipe, RecipeLine,
 };
-use plant_faults::first::{RowRule, as_a_whole, first_fault, in_column, names_none};
+use plant_faults::first::{
+    RowRule, as_a_whole, first_fault, first_of, in_column, names_none,
+};
 use plant_faults::keys::{control_line_key, id_key};
 use plant_faults::{Column, Found, RowFault, Table, Wanted};
 use plant_recipe::{Master, RecipeFault, control, is_size_of};
@@ -176,24 +178,14 @@ impl<'a> RowRule<BatchRow> for Released<'a> {
     }
 }
 
-/// That the batch of a line is there.
-#[derive(Drop)]
-struct OfBatches<'a> {
-    batches: Grouped<'a, Batches>,
-}
-
-impl<'a> RowRule<ControlLine> for OfBatches<'a> {
-    ghost use Rattle.plant_check_plans.specs.Batches.{control_line_fault};
-
-    ghost fault_of = { λ t l. control_line_fault t.batches.rows.now l };
-
-    fn fault(&self, _alloc: Global, row: &ControlLine) -> Result<Option<RowFault>, AllocError> {
-        if has_batch(&self.batches, row.batch) {
-            return Ok(None);
-        }
-        let place = (Table::ControlLine, control_line_key(row));
-        Ok(Some(names_none(place, Column::Batch, row.batch, Table::Batch)))
+fn control_line_fault(batches: &Grouped<Batches>, line: &ControlLine) -> Option<RowFault>
+    ensures { result ≡ control_line_fault batches.now.rows.now line.now }
+{
+    if has_batch(batches, line.batch) {
+        return None;
     }
+    let place = (Table::ControlLine, control_line_key(line));
+    Some(names_none(place, Column::Batch, line.batch, Table::Batch))
 }
 
 fn wrong_batch(
@@ -233,5 +225,5 @@ pub fn batch_fault_in(
         return Ok(Some(fault));
     }
     let batches = Grouped::<Batches>::new(alloc, batches)?;
-    first_fault(alloc, &OfBatches { batches }, control)
+    Ok(first_of(control, |line| control_line_fault(&batches, line)))
 }

@@ -2,13 +2,12 @@
 
 ghost use Rattle.std.specs.Prelude.{◌≡◌, IfOk};
 ghost use Rattle.plant_check_plans.specs.Orders.{batch_wanted, is_closed, is_left_open};
-ghost use Rattle.plant_check_plans.specs.Orders.{is_started, of_order, order_fault_in};
-ghost use Rattle.plant_faults.specs.{first_unmet};
+ghost use Rattle.plant_check_plans.specs.Orders.{is_started, order_fault, order_fault_in};
 
 use crate::keys::{BatchesOfOrders, Recipes, batch_of, recipe_at};
 use grouped_rows::Grouped;
 use plant_base::{BatchRow, Job, JobState, Recipe};
-use plant_faults::first::{RowRule, first_fault, in_column, names_none};
+use plant_faults::first::{first_of, in_column, names_none};
 use plant_faults::keys::id_key;
 use plant_faults::{Column, Found, RowFault, Table, Wanted};
 use plant_recipe::is_size_of;
@@ -55,12 +54,16 @@ fn batch_wanted(state: JobState) -> Wanted
     }
 }
 
-/// What is wrong with an order that asks for this recipe and has this batch.
-fn order_fault(recipe: Option<Recipe>, batch: Option<BatchRow>, job: &Job) -> Option<RowFault>
-    ensures { result ≡ first_unmet (of_order recipe batch job.now) }
+/// What is wrong with an order: its recipe isn't there, or hasn't its size, or it has another batch than its state says.
+fn order_fault(
+    recipes: &Grouped<Recipes>,
+    batches: &Grouped<BatchesOfOrders>,
+    job: &Job,
+) -> Option<RowFault>
+    ensures { result ≡ order_fault recipes.now.rows.now batches.now.rows.now job.now }
 {
     let (order, place) = (job.order, (Table::Job, id_key(job.order.order)));
-    let Some(recipe) = recipe else {
+    let Some(recipe) = recipe_at(recipes, order.recipe, order.version) else {
         return Some(names_none(place, Column::Recipe, order.recipe, Table::Recipe));
     };
     let header = recipe.header;
@@ -69,29 +72,11 @@ fn order_fault(recipe: Option<Recipe>, batch: Option<BatchRow>, job: &Job) -> Op
         let (found, wanted) = (Found::Number(order.size.get()), Wanted::Size { least, greatest });
         return Some(in_column(place, Column::Size, found, wanted));
     }
-    if !is_started(job.state, batch) {
+    if !is_started(job.state, batch_of(batches, order.order)) {
         let (found, wanted) = (Found::Order(job.state), batch_wanted(job.state));
         return Some(in_column(place, Column::State, found, wanted));
     }
     None
-}
-
-/// That an order's recipe is there with its size, and that it has a batch as its state says.
-#[derive(Drop)]
-struct Ordered<'a> {
-    recipes: Grouped<'a, Recipes>,
-    batches: Grouped<'a, BatchesOfOrders>,
-}
-
-impl<'a> RowRule<Job> for Ordered<'a> {
-    ghost use Rattle.plant_check_plans.specs.Orders.{order_fault};
-
-    ghost fault_of = { λ t j. order_fault t.recipes.rows.now t.batches.rows.now j };
-
-    fn fault(&self, _alloc: Global, row: &Job) -> Result<Option<RowFault>, AllocError> {
-        let recipe = recipe_at(&self.recipes, row.order.recipe, row.order.version);
-        Ok(order_fault(recipe, batch_of(&self.batches, row.order.order), row))
-    }
 }
 
 /// The first order that breaks its rule. The only error is that memory was refused.
@@ -105,5 +90,5 @@ pub fn order_fault_in(
 {
     let recipes = Grouped::<Recipes>::new(alloc, recipes)?;
     let batches = Grouped::<BatchesOfOrders>::new(alloc, batches)?;
-    first_fault(alloc, &Ordered { recipes, batches }, jobs)
+    Ok(first_of(jobs, |job| order_fault(&recipes, &batches, job)))
 }

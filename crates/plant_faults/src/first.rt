@@ -1,7 +1,9 @@
 //! What is reported of a row, and the first row that breaks a rule.
-ghost use Rattle.std.specs.Prelude.{◌≡◌, IfOk};
+ghost use Rattle.std.specs.Prelude.{◌≡◌, IfOk, Option};
+ghost use Rattle.std.specs.Fn.{FnReturnsAt};
 ghost use Rattle.plant_faults.specs.First.{as_a_whole, first_reported, in_column, names_none};
 ghost use Rattle.plant_faults.specs.First.{or_fault, fault_unless};
+ghost use Rattle.plant_faults.specs.First.{RowFault as Reported};
 
 use crate::fault::{Column, Found, Key, RowFault, Table, Wanted};
 use plant_base::Id;
@@ -89,4 +91,19 @@ pub fn first_fault<R, T: RowRule<R>>(
         }
     }
     Ok(None)
+}
+
+/// The fault of the first of the rows that have one, by a test that gives what a definition does.
+pub fn first_of<R, F: Fn(&R) -> Option<RowFault>>(rows: &[R], fault: F) -> Option<RowFault>
+    requires { F.IsAlwaysCallable fault }
+    ensures { (fault_of : R → Option Reported) → ((x : R) (r : Option Reported) → FnReturnsAt F.Fn fault x r → r ≡ fault_of x)
+        → result ≡ first_reported fault_of rows.now }
+{
+    for row in rows {
+        match fault(row) {
+            None => {}
+            Some(found) => return Some(found),
+        }
+    }
+    None
 }

@@ -6,7 +6,7 @@ use Rattle.plant_base.specs.{edge_eq, EdgeRow, Movement, Recall}
 use Rattle.plant_trace.specs.{leads, Node}
 use Rattle.plant_view.specs.{edges_among, edges_in}
 use Rattle.plant_check_plans.specs.{are_recipes, are_events, batch_fault_in, class_fault_in, order_fault_in}
-use Rattle.plant_check_stock.specs.{are_marks, are_movements, are_numbers, are_recalls, are_receipts, are_times}
+use Rattle.plant_check_stock.specs.{are_marks, are_movements, are_numbers, are_recalls, are_times, receipt_fault_in}
 use Rattle.plant_tables_read.specs.{contents_loaded, Loaded, Rows, rows_from}
 use Rattle.plant_tables_columns.specs.{movement_from, recall_from, only_meta, BookedRow, StatedRecall}
 use Rattle.plant_check.specs.Ends.{are_stocks}
@@ -73,7 +73,7 @@ obeys rule.Movements r = are_right_movements r (movements_in r.movements)
 obeys rule.Events r = are_events r.control_lines r.events r.batches
 obeys rule.Numbers r = are_right_numbers r (movements_in r.movements)
 obeys rule.Descent r = are_right_edges r (movements_in r.movements)
-obeys rule.Receipts r = are_receipts r.meta.position.seq r.receipts
+obeys rule.Receipts r = is_none (receipt_fault_in r.meta.position.seq r.receipts)
 obeys rule.Recalls r = are_right_recalls r
 
 -- the rules that such rows are tested by, in their order

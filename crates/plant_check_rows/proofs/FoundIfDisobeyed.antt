@@ -2,7 +2,7 @@
 use Rattle.std.proofs.Common.{◌≡◌, ◌∙◌, ℕ, Bool, true, false, nat_le, List, [], ◌∷◌, length, map, Option, Some, None, is_some, Result, Ok, Err, refl, ap, ◌==◌, filter, is_none, if◌then◌else◌}
 use Rattle.std.proofs.lemmas.Bool.{false≢true}
 use Rattle.std.specs.List.{list_all}
-use Rattle.plant_base.specs.{is_content, BatchEvent, BatchRow, ControlLine, Definition, Hold, Lot, MasterLine, Movement, Recipe, Refusal, Sublot}
+use Rattle.plant_base.specs.{BatchEvent, BatchRow, ControlLine, Definition, Hold, Lot, MasterLine, Movement, Recipe, Refusal, Sublot}
 use Rattle.plant_recipe.specs.{is_well_formed, run_of}
 use Rattle.plant_recipe.specs.declared.progress.Progress.{Progress}
 use Rattle.plant_stock.specs.{goes_to, comes_from}
@@ -10,7 +10,7 @@ use Rattle.plant_view.specs.{batch_by, is_defined, is_known, rows_among, lines_a
 use Rattle.plant_tables_columns.specs.{movement_from, BookedRow}
 use Rattle.plant_tables_read.specs.{Rows}
 use Rattle.plant_check_plans.specs.{is_row_among, is_run, kept_progress, has_right_run, are_numbered, is_recipe_among, is_whole_recipe}
-use Rattle.plant_check_stock.specs.{are_by, are_lines, are_numbers, has_right_number, is_apart, is_entered_before, is_given, is_next_line, is_right_receipt, seqs_of, is_there, is_batch_there, is_of_right_definition, is_of_right_merge, names_known, is_right_movement}
+use Rattle.plant_check_stock.specs.{are_by, are_lines, are_numbers, has_right_number, is_apart, is_entered_before, is_given, is_next_line, is_there, is_batch_there, is_of_right_definition, is_of_right_merge, names_known, is_right_movement}
 use Rattle.plant_check.specs.{movements_in, obeys, has_right_stock, are_from_zero, sublots_among, is_lot_among, is_born, is_right_lot, is_right_sublot, Rule}
 use Rattle.plant_check.specs.declared.rule.Rule.TheVariants as rule
 use Rattle.plant_check_rows.specs.{run_found, run_fault, row_fault, is_broken_by_row, IsFoundByRow, IsFoundWhereBroken, Finding, RowFault, lot_fault, sublot_fault, naming_fault, movement_fault, line_fault, recipe_fault, stock_fault, line_fault_in, number_fault, number_fault_in, late_fault_in}
@@ -98,10 +98,7 @@ found_by_row rule.Events r by_row =
     (first_none _ (λ e. is_row_among r.batches e.batch) (λ e. reported_none _ _) r.events)
 found_by_row rule.Numbers r by_row = absurd (false≢true by_row)
 found_by_row rule.Descent r by_row = absurd (false≢true by_row)
-found_by_row rule.Receipts r by_row =
-    let seqs = seqs_of r.receipts in
-    let given = r.meta.position.seq in
-    first_none _ (is_right_receipt given seqs) (λ x. three_none (is_given given x.seq) (is_content x.content) (length (filter (λ n. n == x.seq) seqs) == 1) _ _ _) r.receipts
+found_by_row rule.Receipts r by_row = refl
 found_by_row rule.Recalls r by_row = absurd (false≢true by_row)
 
 -- of what was reported

@@ -4,7 +4,7 @@ use Rattle.plant_base.specs.{Movement, Recall}
 use Rattle.plant_tables_columns.specs.{only_meta}
 use Rattle.plant_tables_read.specs.{contents_loaded, DeskRows, Loaded, Rows, rows_from, rows_listed}
 use Rattle.plant_check_plans.specs.{batch_fault_in, class_fault_in, order_fault_in}
-use Rattle.plant_check_stock.specs.{row_mark_of, row_mark_of_event}
+use Rattle.plant_check_stock.specs.{receipt_fault_in, row_mark_of, row_mark_of_event}
 use Rattle.plant_check.specs.{movements_in, recalls_read, obeys, tested_rules, first_broken, Rule}
 use Rattle.plant_check.specs.declared.rule.Rule.TheVariants as rule
 use Rattle.plant_faults.specs.{or_fault, RowFault}
@@ -15,7 +15,6 @@ use Rattle.plant_check_rows.specs.Marks.{mark_fault_in}
 use Rattle.plant_check_rows.specs.Movements.{movement_fault_in}
 use Rattle.plant_check_rows.specs.Numbers.{number_fault_in, late_fault_in, movement_before, event_before, fall_fault_in}
 use Rattle.plant_check_rows.specs.Recalls.{recall_fault_in}
-use Rattle.plant_check_rows.specs.Receipts.{receipt_fault_in}
 use Rattle.plant_check_rows.specs.Recipes.{recipe_fault_in}
 use Rattle.plant_check_rows.specs.Stocks.{stock_fault_in}
 use Rattle.plant_check_rows.specs.Values.{value_fault_in}

@@ -6,7 +6,6 @@ pub mod Movements
 pub mod Events
 pub mod Numbers
 pub mod Edges
-pub mod Receipts
 pub mod Recalls
 pub mod ValueRules
 pub mod ColumnRules

@@ -13,7 +13,6 @@ use crate::lots::lot_fault;
 use crate::movements::movement_fault;
 use crate::numbers::{are_right_numbers, number_fault};
 use crate::recalls::recall_fault;
-use crate::receipts::receipt_fault;
 use crate::recipes::recipe_fault;
 use crate::stocks::stock_fault;
 use crate::values::value_fault_in;
@@ -22,6 +21,7 @@ use plant_check::checking::{are_edges_of, are_right_recalls};
 use plant_check_plans::batches::batch_fault_in;
 use plant_check_plans::catalogue::class_fault_in;
 use plant_check_plans::orders::order_fault_in;
+use plant_check_stock::receipts::receipt_fault_in;
 use plant_faults::RowFault;
 use plant_tables_read::{DeskRows, Loaded, has_meta, rows_of};
 use std::alloc::{AllocError, Global};
@@ -118,7 +118,9 @@ fn row_fault(alloc: Global, rule: Rule, rows: &DeskRows) -> Result<Option<RowFau
         Rule::Events => event_fault(alloc, rows),
         Rule::Numbers => number_fault(alloc, rows),
         Rule::Descent => edge_fault(alloc, rows),
-        Rule::Receipts => receipt_fault(alloc, rows),
+        Rule::Receipts => {
+            receipt_fault_in(alloc, rows.meta.position.seq, rows.receipts.as_slice())
+        }
         Rule::Recalls => recall_fault(alloc, rows),
     }
 }

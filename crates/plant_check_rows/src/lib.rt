@@ -10,7 +10,6 @@ mod marks;
 mod movements;
 mod numbers;
 mod recalls;
-mod receipts;
 mod recipes;
 mod stocks;
 mod stored;

@@ -1,15 +1,30 @@
 -- The numbers and the contents of receipts.
-use Rattle.std.specs.Prelude.{ℕ, Bool, ◌&&◌, ◌==◌, List, map, length, filter}
-use Rattle.std.specs.List.{list_all}
+use Rattle.std.specs.Prelude.{ℕ, ◌==◌, List, [], ◌∷◌, map, length, filter, Option}
 use Rattle.plant_base.specs.{is_content, Receipt}
+use Rattle.plant_faults.specs.{Column, Found, Requirement, RowFault, Wanted, first_reported, first_unmet, id_key, in_column}
+use Rattle.plant_faults.specs.declared.fault.Table.TheVariants as table
+use Rattle.plant_faults.specs.declared.fault.Column.TheVariants as column
+use Rattle.plant_faults.specs.declared.fault.Found.TheVariants as found
+use Rattle.plant_faults.specs.declared.fault.Wanted.TheVariants as wanted
 use Rattle.plant_check_stock.specs.Numbering.{is_given}
 
 abbrev pub seqs_of : List Receipt → List ℕ
 seqs_of rs = map (λ r. r.seq) rs
 
--- the number is that of an accepted command, and is once among these; and the content is made of what contents are made of
-abbrev pub is_right_receipt : ℕ → List ℕ → Receipt → Bool
-is_right_receipt greatest seqs r = is_given greatest r.seq && is_content r.content && length (filter (λ n. n == r.seq) seqs) == 1
+-- the fault of the receipt: this is in a column, where that is wanted
+abbrev pub receipt_as : Receipt → Column → Found → Wanted → RowFault
+receipt_as r c f w = in_column (table.Receipt, id_key r.reference) c f w
 
-abbrev pub are_receipts : ℕ → List Receipt → Bool
-are_receipts greatest rs = list_all (is_right_receipt greatest (seqs_of rs)) rs
+-- the number is that of an accepted command, the content is made of what contents are made of, and the number is once among these
+abbrev pub of_receipt : ℕ → List ℕ → Receipt → List Requirement
+of_receipt greatest seqs r =
+    (is_given greatest r.seq, receipt_as r column.Seq (found.Number r.seq) (wanted.Given greatest))
+    ∷ (is_content r.content, receipt_as r column.Content found.Row wanted.Content)
+    ∷ (length (filter (λ n. n == r.seq) seqs) == 1, receipt_as r column.Seq (found.Number r.seq) wanted.OwnNumber)
+    ∷ []
+
+abbrev pub receipt_fault : ℕ → List ℕ → Receipt → Option RowFault
+receipt_fault greatest seqs r = first_unmet (of_receipt greatest seqs r)
+
+abbrev pub receipt_fault_in : ℕ → List Receipt → Option RowFault
+receipt_fault_in greatest rs = first_reported (receipt_fault greatest (seqs_of rs)) rs

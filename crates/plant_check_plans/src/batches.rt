@@ -7,16 +7,16 @@ ghost use Rattle.plant_check_plans.specs.Batches.{control_of_found, control_aske
 ghost use Rattle.plant_check_plans.specs.Batches.{batch_fault, batch_fault_in, control_line_fault};
 ghost use Rattle.plant_faults.specs.{first_reported};
 
-use crate::keys::{Batches, BatchesOfOrders, ControlLines, Orders, RecipeLines, Recipes};
-use crate::keys::{control_of, has_batch, has_one_batch, job_at, lines_of, recipe_at};
+use crate::keys::{
+    Batches, BatchesOfOrders, ControlLines, Orders, RecipeLines, Recipes, control_of, has_batch,
+    has_one_batch, job_at, lines_of, recipe_at,
+};
 use crate::numbered::are_numbered;
 use grouped_rows::Grouped;
 use plant_base::{
     Amount, BatchRow, ControlLine, Header, Items, Job, MasterLine, Recipe, RecipeLine,
 };
-use plant_faults::first::{
-    RowRule, as_a_whole, first_fault, first_of, in_column, names_none,
-};
+use plant_faults::first::{RowRule, as_a_whole, first_fault, first_of, in_column, names_none};
 use plant_faults::keys::{control_line_key, id_key};
 use plant_faults::{Column, Found, RowFault, Table, Wanted};
 use plant_recipe::{Master, RecipeFault, control, is_size_of};

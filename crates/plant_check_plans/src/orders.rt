@@ -69,7 +69,10 @@ fn order_fault(
     let header = recipe.header;
     if !is_size_of(&header, order.size) {
         let (least, greatest) = (header.least, header.greatest);
-        let (found, wanted) = (Found::Number(order.size.get()), Wanted::Size { least, greatest });
+        let (found, wanted) = (
+            Found::Number(order.size.get()),
+            Wanted::Size { least, greatest },
+        );
         return Some(in_column(place, Column::Size, found, wanted));
     }
     if !is_started(job.state, batch_of(batches, order.order)) {

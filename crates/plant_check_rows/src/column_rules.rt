@@ -2,12 +2,11 @@
 ghost use Rattle.std.specs.Prelude.{◌≡◌};
 ghost use Rattle.plant_check_rows.specs.ColumnRules.{rules_of};
 
-use plant_faults::{Column, Table};
-use plant_faults::ValueRule;
 use plant_base::{
     GREATEST_AMOUNT, GREATEST_MOMENT, GREATEST_PHASE, GREATEST_PRIORITY, GREATEST_SEQ,
     GREATEST_SUBLOT, GREATEST_VERSION,
 };
+use plant_faults::{Column, Table, ValueRule};
 use plant_recipe::GREATEST_ATTEMPT;
 
 const VERSION: ValueRule = ValueRule::Number(1, GREATEST_VERSION as u64);

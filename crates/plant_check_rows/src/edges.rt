@@ -5,13 +5,13 @@ ghost use Rattle.plant_check_rows.specs.Edges.{edge_fault_in, is_edge_among, mis
 ghost use Rattle.plant_check_rows.specs.Edges.{missing_edge_fault, stray_edge_fault};
 ghost use Rattle.plant_faults.specs.{first_reported};
 
-use plant_faults::{Found, RowFault, Table, Wanted};
-use plant_faults::first::{RowRule, as_a_whole, fault_unless, first_fault, or_fault};
-use plant_faults::keys::edge_key;
 use grouped_rows::{Grouped, Grouping};
 use plant_base::{EdgeRow, Movement};
 use plant_check::edges::edges_in;
 use plant_check::history::movements_in;
+use plant_faults::first::{RowRule, as_a_whole, fault_unless, first_fault, or_fault};
+use plant_faults::keys::edge_key;
+use plant_faults::{Found, RowFault, Table, Wanted};
 use plant_tables_read::DeskRows;
 use plant_view::edge_row;
 use std::alloc::{AllocError, Global};

@@ -5,13 +5,13 @@ ghost use Rattle.plant_check_rows.specs.Events.{event_fault_in, number_as, progr
 ghost use Rattle.plant_check_rows.specs.Events.{run_fault, run_found};
 ghost use Rattle.plant_faults.specs.{first_reported};
 
-use plant_faults::{Column, Found, RowFault, Table, Wanted};
-use plant_faults::first::{RowRule, first_fault, in_column, names_none};
-use plant_faults::keys::{id_key, number_key};
 use grouped_rows::Grouped;
 use plant_base::{BatchEvent, BatchRow, Refusal};
 use plant_check_plans::events::{events_in, kept_progress, phases_of};
 use plant_check_plans::keys::{Batches, ControlLines, Events, events_of, has_batch};
+use plant_faults::first::{RowRule, first_fault, in_column, names_none};
+use plant_faults::keys::{id_key, number_key};
+use plant_faults::{Column, Found, RowFault, Table, Wanted};
 use plant_recipe::Progress;
 use plant_tables_read::DeskRows;
 use std::alloc::{AllocError, Global};

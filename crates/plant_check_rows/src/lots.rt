@@ -3,15 +3,15 @@ ghost use Rattle.std.specs.Prelude.{◌≡◌, IfOk};
 ghost use Rattle.plant_check_rows.specs.Lots.{hold_fault, lot_fault, lot_fault_in, sublot_fault};
 ghost use Rattle.plant_faults.specs.{first_reported};
 
-use plant_faults::{Column, RowFault, Table, Wanted};
-use plant_faults::first::{RowRule, as_a_whole, first_fault, names_none, or_fault};
-use plant_faults::keys::{hold_key, id_key, sublot_key};
 use grouped_rows::Grouped;
 use plant_base::{Hold, Lot, Sublot};
 use plant_check::ends::BySublotEntered;
 use plant_check::lots::{SublotsOfLots, are_from_zero, has_lot, is_born, sublots_of};
 use plant_check_plans::keys::{Definitions, has_definition};
 use plant_check_stock::keys::Lots;
+use plant_faults::first::{RowRule, as_a_whole, first_fault, names_none, or_fault};
+use plant_faults::keys::{hold_key, id_key, sublot_key};
+use plant_faults::{Column, RowFault, Table, Wanted};
 use plant_tables_read::DeskRows;
 use std::alloc::{AllocError, Global};
 

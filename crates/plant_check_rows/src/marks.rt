@@ -5,12 +5,12 @@ ghost use Rattle.plant_faults.specs.{first_reported};
 ghost use Rattle.plant_check_rows.specs.Marks.{is_mark_among, mark_fault, mark_fault_among};
 ghost use Rattle.plant_check_rows.specs.Marks.{mark_fault_in};
 
-use plant_faults::{Found, RowFault, Table, Wanted};
-use plant_faults::first::{RowRule, fault_unless, first_fault, or_fault};
-use plant_faults::keys::mark_key;
 use grouped_rows::{Grouped, Grouping};
 use plant_base::{Mark, Movement, Recall};
 use plant_check_stock::marks_within;
+use plant_faults::first::{RowRule, fault_unless, first_fault, or_fault};
+use plant_faults::keys::mark_key;
+use plant_faults::{Found, RowFault, Table, Wanted};
 use plant_view::edges;
 use std::alloc::{AllocError, Global};
 

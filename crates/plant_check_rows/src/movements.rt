@@ -5,14 +5,14 @@ ghost use Rattle.plant_check_rows.specs.Movements.{movement_fault_in, naming_fau
 ghost use Rattle.plant_check.specs.{movements_in};
 ghost use Rattle.plant_faults.specs.{first_reported};
 
-use plant_faults::{Column, Found, RowFault, Table, Wanted};
-use plant_faults::first::{RowRule, first_fault, in_column};
-use plant_faults::keys::booked_key;
 use grouped_rows::Grouped;
 use plant_base::{BatchRow, ControlLine, Id, Lot, Movement, Sublot};
 use plant_check::history::movements_in;
 use plant_check_stock::keys::{Parts, is_there};
 use plant_check_stock::movements::{Named, batch_by, is_of_right_merge};
+use plant_faults::first::{RowRule, first_fault, in_column};
+use plant_faults::keys::booked_key;
+use plant_faults::{Column, Found, RowFault, Table, Wanted};
 use plant_stock::{source, target};
 use plant_tables_read::{BookedRow, DeskRows};
 use std::alloc::{AllocError, Global};

@@ -5,9 +5,6 @@ ghost use Rattle.plant_check.specs.{movements_in, recalls_read};
 ghost use Rattle.plant_check_rows.specs.Findings.{recalled_fault_in};
 ghost use Rattle.plant_check_rows.specs.Recalls.{recall_as, recall_fault_in};
 
-use plant_faults::{Column, Found, RowFault, Table, Wanted};
-use plant_faults::first::{RowRule, fault_unless, first_fault, in_column, or_fault};
-use plant_faults::keys::id_key;
 use crate::marks::mark_fault;
 use grouped_rows::Grouped;
 use plant_base::{Id, Lot, Moment, Recall};
@@ -15,6 +12,9 @@ use plant_check::history::movements_in;
 use plant_check::recalls::recalls_read;
 use plant_check_stock::keys::{Lots, lot_at};
 use plant_check_stock::recalls::is_timely;
+use plant_faults::first::{RowRule, fault_unless, first_fault, in_column, or_fault};
+use plant_faults::keys::id_key;
+use plant_faults::{Column, Found, RowFault, Table, Wanted};
 use plant_tables_read::{DeskRows, StatedRecall};
 use std::alloc::{AllocError, Global};
 

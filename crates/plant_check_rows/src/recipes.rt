@@ -4,9 +4,6 @@ ghost use Rattle.plant_check_rows.specs.Recipes.{definition_found, ill_formed_fa
 ghost use Rattle.plant_check_rows.specs.Recipes.{recipe_fault, recipe_fault_in, stray_line_fault};
 ghost use Rattle.plant_faults.specs.{first_reported};
 
-use plant_faults::{Column, Found, RowFault, Table, Wanted};
-use plant_faults::first::{RowRule, as_a_whole, first_fault, in_column, names_none};
-use plant_faults::keys::{recipe_key, recipe_line_key};
 use grouped_rows::Grouped;
 use plant_base::{Header, MasterLine, Recipe, RecipeLine};
 use plant_check_plans::keys::{
@@ -14,6 +11,9 @@ use plant_check_plans::keys::{
 };
 use plant_check_plans::numbered::are_numbered;
 use plant_check_plans::recipes::is_known;
+use plant_faults::first::{RowRule, as_a_whole, first_fault, in_column, names_none};
+use plant_faults::keys::{recipe_key, recipe_line_key};
+use plant_faults::{Column, Found, RowFault, Table, Wanted};
 use plant_recipe::is_well_formed;
 use plant_tables_read::DeskRows;
 use plant_view::lines_in;

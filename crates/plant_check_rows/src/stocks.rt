@@ -2,12 +2,12 @@
 ghost use Rattle.std.specs.Prelude.{◌≡◌, IfOk};
 ghost use Rattle.plant_check_rows.specs.Stocks.{stock_fault_in};
 
-use plant_faults::{Column, Found, RowFault, Table, Wanted};
-use plant_faults::first::{RowRule, first_fault, in_column};
-use plant_faults::keys::sublot_key;
 use grouped_rows::Grouped;
 use plant_base::Sublot;
 use plant_check::ends::{BySublotEntered, BySublotLeft, entries, exits, total_booked};
+use plant_faults::first::{RowRule, first_fault, in_column};
+use plant_faults::keys::sublot_key;
+use plant_faults::{Column, Found, RowFault, Table, Wanted};
 use plant_tables_read::DeskRows;
 use std::alloc::{AllocError, Global};
 

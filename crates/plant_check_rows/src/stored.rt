@@ -4,8 +4,8 @@ ghost use Rattle.sqlite.specs.Order.{column};
 ghost use Rattle.sqlite_value.specs.Value.{owned};
 ghost use Rattle.plant_check_rows.specs.Stored as spec;
 
-use plant_faults::{Found, Key, Table};
 use plant_base::{Id, Text};
+use plant_faults::{Found, Key, Table};
 use sqlite::Row;
 use sqlite::types::ValueRef;
 

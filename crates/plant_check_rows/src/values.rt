@@ -3,14 +3,14 @@ ghost use Rattle.std.specs.Prelude.{◌≡◌, IfOk};
 ghost use Rattle.plant_check_rows.specs.Values as spec;
 
 use crate::column_rules::rules_of;
-use plant_faults::{Column, Found, Key, RowFault, Table, ValueRule, Wanted};
-use plant_faults::first::{as_a_whole, in_column};
 use crate::stored::{found_in, key_or_place, value};
 use crate::value_rule::obeys;
 use plant_base::{
     BatchEvent, BatchRow, Class, ControlLine, Definition, EdgeRow, Hold, Job, Lot, Mark,
     MasterLine, Recipe, Sublot,
 };
+use plant_faults::first::{as_a_whole, in_column};
+use plant_faults::{Column, Found, Key, RowFault, Table, ValueRule, Wanted};
 use plant_tables_columns::{Decoded, decode_receipts};
 use plant_tables_read::{BookedRow, Loaded, StatedRecall};
 use sqlite::Row;

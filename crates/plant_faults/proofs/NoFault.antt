@@ -17,7 +17,6 @@ pub none_unmet : (rs : List Requirement) → is_none (first_unmet rs) ≡ list_a
 none_unmet [] = refl
 none_unmet (r ∷ rs) = none_of_two (fault_unless r.0 r.1) (first_unmet rs) ∙ (λ i. none_unless r.0 r.1 i && none_unmet rs i)
 
-
 by_none : {a : Bool} {b : Bool} {P : Type 0} → a ≡ b → Decides b P → Decides a P
 by_none e d = ((λ h. d.0 (sym e ∙ h)), (λ p. e ∙ d.1 p))
 

@@ -23,12 +23,7 @@ pub trait RowRule<R> {
 }
 
 /// The fault of the row of this table and key: this is in a column, where that is wanted.
-pub fn in_column(
-    place: (Table, Key),
-    column: Column,
-    found: Found,
-    wanted: Wanted,
-) -> RowFault
+pub fn in_column(place: (Table, Key), column: Column, found: Found, wanted: Wanted) -> RowFault
     ensures { result ≡ in_column place column found wanted }
 {
     RowFault {

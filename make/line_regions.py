@@ -174,10 +174,10 @@ def in_checks(desk):
     """The regions of the checks, and of the state invariant."""
     masters, rows = plain(desk), desk.tables[1:]
     by_id = [it for it in rows if len(it.keys[0]) == 1 and not it.keys[0][0].kind.is_number]
-    stored, sound = "plant_check_rows/specs/Stored.antt", "plant_check_laws/proofs/ValuesSound.antt"
+    stored, sound = "plant_check/specs/Stored.antt", "plant_check_laws/proofs/ValuesSound.antt"
     return [
         Region(stored, "the key of a row of each table", "\n".join(map(stored_key, rows))),
-        Region("plant_check_rows/src/stored.rt", "tables whose key is an id", many(by_id, "Table::$Name", "\n| ") + " => Key::Id(id(row, 0)?),"),
+        Region("plant_check/src/stored.rt", "tables whose key is an id", many(by_id, "Table::$Name", "\n| ") + " => Key::Id(id(row, 0)?),"),
         Region(sound, "rows that one id finds", many(masters, "pub $list : AllByRecursion $values r.$list")),
         Region(sound, "why they are valid", many(
             masters, "$list = all_valid $values ${one}_reads (λ r h. h) _ r.$list read.$list;")),

@@ -528,7 +528,7 @@ ${list}_here = abstraction_again $order ($key_total) row_of_$one $read $values $
     ]
 
 
-# ---- the check of rows: plant_check_rows
+# ---- the check of rows: plant_check
 
 
 def rule(column, code):
@@ -551,28 +551,28 @@ def variant(column):
 
 
 def in_check(desk):
-    """The regions of plant_check_rows and desk_check."""
+    """The regions of plant_check and desk_check."""
     rows = desk.tables[1:]
-    rules, fault = "plant_check_rows/src/column_rules.rt", "plant_faults/src/fault.rt"
+    rules, fault = "plant_check/src/column_rules.rt", "plant_faults/src/fault.rt"
     all_tables = f"all_tables = {chain('table.' + filled('$Name', it) for it in rows)}"
     return [
         Region(fault, "the tables", many(rows, "$Name,")),
         Region(fault, "their names", many(rows, "Table::$Name => \"$name\",")),
         Region("plant_faults/specs/Naming.antt", "the names of tables", many(rows, "table_name table.$Name = codes \"$name\"")),
         Region(rules, "the rules of each table", "\n".join(map(rules_in_code, rows))),
-        Region("plant_check_rows/specs/ColumnRules.antt", "the rules of each table", "\n".join(
+        Region("plant_check/specs/ColumnRules.antt", "the rules of each table", "\n".join(
             filled(f"rules_of table.$Name = {chain(f'(column.{variant(column)}, {rule(column, False)})' for column in it.columns)}", it)
             for it in rows)),
-        Region("plant_check_rows/src/values.rt", "all tables", f"""\
+        Region("plant_check/src/values.rt", "all tables", f"""\
 const TABLES: [Table; {len(rows)}] = [
 {many(rows, '    Table::$Name,')}
 ];"""),
-        Region("plant_check_rows/src/values.rt", "whether a row of each table can be decoded", many(
+        Region("plant_check/src/values.rt", "whether a row of each table can be decoded", many(
             [it for it in rows if it.name != "receipt"], "Table::$Name => $stored_row::decode(row).is_some(),")),
-        Region("plant_check_rows/specs/Values.antt", "all tables", all_tables),
-        Region("plant_check_rows/specs/Values.antt", "whether a row of each table can be decoded", many(
+        Region("plant_check/specs/Values.antt", "all tables", all_tables),
+        Region("plant_check/specs/Values.antt", "whether a row of each table can be decoded", many(
             rows, "is_read table.$Name row = is_some (${stored}_from row)")),
-        Region("plant_check_rows/proofs/ObeyedColumns.antt", "rows that have a field for each column", "\n".join(
+        Region("plant_check/proofs/ObeyedColumns.antt", "rows that have a field for each column", "\n".join(
             filled(f"all_unread table.$Name = unread ${{one}}_columns (rules_of table.$Name) (same_for _ _ ({' ⊞ '.join(f'single {column.kind.obeyed}' for column in it.columns)}))", it)
             for it in rows if it.plain)),
         Region("desk_check/src/bound.rt", "all tables", f"""\

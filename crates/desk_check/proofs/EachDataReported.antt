@@ -5,8 +5,8 @@ use Rattle.serde_json.specs.Data.{Data, array}
 use Rattle.serde_json.specs.View.{view, items_of}
 use Rattle.serde_json.specs.declared.value.Value.{Value, Array}
 use Rattle.serde_json.proofs.Views.{view-Array}
-use Rattle.plant_check.specs.{Rule}
-use Rattle.plant_check_rows.specs.{Tested}
+use Rattle.plant_check_rules.specs.{Rule}
+use Rattle.plant_check.specs.{Tested}
 use Rattle.desk_check.specs.{each_data, found_data, found_in}
 
 -- what is reported of one rule more

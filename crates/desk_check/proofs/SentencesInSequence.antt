@@ -4,8 +4,8 @@ use Rattle.std.specs.Io.KnownBytes.{Appends}
 use Rattle.std.proofs.KnownBytes.{Appends-trans}
 use Rattle.std.proofs.lemmas.List.{take_more}
 use Rattle.plant_text.specs.{with_lf}
-use Rattle.plant_check.specs.{Rule}
-use Rattle.plant_check_rows.specs.{Tested}
+use Rattle.plant_check_rules.specs.{Rule}
+use Rattle.plant_check.specs.{Tested}
 use Rattle.desk_check.specs.declared.open_error.OpenError.{OpenError}
 use Rattle.desk_check.specs.{IsErrorText, error_of, opening_text, IsFirstSentence, WritesOpening, found_text, found_in, each_text, open_error_text}
 

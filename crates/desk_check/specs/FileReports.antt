@@ -8,10 +8,10 @@ use Rattle.plant_tables.specs.{desk_table_defs}
 use Rattle.plant_tables_columns.specs.{only_meta}
 use Rattle.plant_tables_read.specs.{AreLoaded, contents_loaded, IsVersion, HasTablesOf, FoundTables, Loaded}
 use Rattle.plant_tables_read.specs.declared.finding.FoundTables.TheVariants as tables
-use Rattle.plant_check.specs.{IsDamaged, Rule}
-use Rattle.plant_check.specs.declared.rule.Rule.TheVariants as rule
-use Rattle.plant_check_rows.specs.{AreFindingsOf, first_rule}
-use Rattle.plant_check_rows.specs.declared.finding.Findings.{Findings}
+use Rattle.plant_check_rules.specs.{IsDamaged, Rule}
+use Rattle.plant_check_rules.specs.declared.rule.Rule.TheVariants as rule
+use Rattle.plant_check.specs.{AreFindingsOf, first_rule}
+use Rattle.plant_check.specs.declared.finding.Findings.{Findings}
 use Rattle.desk_check.specs.Barred.{barred_index}
 use Rattle.desk_check.specs.declared.barred.DeskIndex.{DeskIndex}
 use Rattle.desk_check.specs.declared.file_report.Held.{Held}

@@ -2,12 +2,12 @@
 use Rattle.std.specs.Prelude.{ℕ, Bool, List, [], ◌∷◌, ◌++◌, codes, Option, Some, None, is_none}
 use Rattle.serde_json.specs.Data.{Data, Members, null, boolean, number, unsigned, string, array, object, member, no_members}
 use Rattle.serde_json.specs.View.{items_of}
-use Rattle.plant_check.specs.{rule_number, Rule}
-use Rattle.plant_check.specs.declared.rule.Rule.TheVariants as rule
-use Rattle.plant_check_rows.specs.{rule_text, column_name, table_name, found_text, wanted_text, Column, Finding, Key, RowFault, Tested}
+use Rattle.plant_check_rules.specs.{rule_number, Rule}
+use Rattle.plant_check_rules.specs.declared.rule.Rule.TheVariants as rule
+use Rattle.plant_check.specs.{rule_text, column_name, table_name, found_text, wanted_text, Column, Finding, Key, RowFault, Tested}
 use Rattle.plant_faults.specs.declared.fault.Key.TheVariants as key
-use Rattle.plant_check_rows.specs.declared.finding.Findings.{Findings}
-use Rattle.plant_check_rows.specs.declared.finding.Findings.TheVariants as findings
+use Rattle.plant_check.specs.declared.finding.Findings.{Findings}
+use Rattle.plant_check.specs.declared.finding.Findings.TheVariants as findings
 use Rattle.desk_check.specs.Barred.{index_name}
 use Rattle.desk_check.specs.OpenErrors.{open_error_name, cause_text, advice_text}
 use Rattle.desk_check.specs.Reports.{found_in}

@@ -3,9 +3,9 @@ use Rattle.std.specs.Prelude.{◌≡◌, ℕ, List, [], ◌∷◌, ◌++◌, cod
 use Rattle.std.specs.Io.KnownBytes.{Appends}
 use Rattle.serde_json.specs.Written.{compact_text}
 use Rattle.plant_text.specs.{with_lf}
-use Rattle.plant_check.specs.{Rule}
-use Rattle.plant_check_rows.specs.declared.finding.Findings.{Findings}
-use Rattle.plant_check_rows.specs.declared.finding.Findings.TheVariants as findings
+use Rattle.plant_check_rules.specs.{Rule}
+use Rattle.plant_check.specs.declared.finding.Findings.{Findings}
+use Rattle.plant_check.specs.declared.finding.Findings.TheVariants as findings
 use Rattle.desk_check.specs.Objects.{outcome_data}
 use Rattle.desk_check.specs.OpenErrors.{IsErrorText, HasWordsOf, error_of}
 use Rattle.desk_check.specs.Reports.{file_report_text, open_error_text}

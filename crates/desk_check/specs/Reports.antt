@@ -1,12 +1,12 @@
 -- The report on a file, in sentences.
 use Rattle.std.specs.Prelude.{ℕ, List, [], ◌∷◌, ◌++◌, codes, decimal, Option, Some, None}
 use Rattle.plant_text.specs.{with_lf}
-use Rattle.plant_check.specs.{rule_number, Rule}
-use Rattle.plant_check.specs.declared.rule.Rule.TheVariants as rule
+use Rattle.plant_check_rules.specs.{rule_number, Rule}
+use Rattle.plant_check_rules.specs.declared.rule.Rule.TheVariants as rule
 use Rattle.plant_tables_read.specs.{rows_listed}
-use Rattle.plant_check_rows.specs.{rule_text, finding_of, fault_text, Finding, RowFault, Tested, table_name}
-use Rattle.plant_check_rows.specs.declared.finding.Findings.{Findings}
-use Rattle.plant_check_rows.specs.declared.finding.Findings.TheVariants as findings
+use Rattle.plant_check.specs.{rule_text, finding_of, fault_text, Finding, RowFault, Tested, table_name}
+use Rattle.plant_check.specs.declared.finding.Findings.{Findings}
+use Rattle.plant_check.specs.declared.finding.Findings.TheVariants as findings
 use Rattle.desk_check.specs.Barred.{index_name}
 use Rattle.desk_check.specs.OpenErrors.{cause_text, advice_text}
 use Rattle.desk_check.specs.declared.barred.DeskIndex.{DeskIndex}

@@ -4,7 +4,7 @@ ghost use Rattle.desk_check.specs.Bound as spec;
 
 use crate::file_report::FileReport;
 use plant_base::Text;
-use plant_check_rows::Table;
+use plant_check::Table;
 use sqlite_schema::names::same_name;
 use sqlite_schema::schema::{Schema, View};
 

@@ -11,7 +11,7 @@ use crate::json::write_object;
 use crate::open_error::OpenError;
 use crate::opening::report_on_bytes;
 use crate::report::{write_file_report, write_open_error, write_report};
-use plant_check_rows::Findings;
+use plant_check::Findings;
 use std::alloc::Global;
 use std::io::Write;
 

@@ -1,6 +1,6 @@
 -- The lines that the program writes, each without its LF.
 use Rattle.std.specs.Prelude.{ℕ, List, ◌++◌, codes, decimal}
-use Rattle.plant_check.specs.{rule_number}
+use Rattle.plant_check_rules.specs.{rule_number}
 use Rattle.desk_program.specs.declared.fault.Fault.{Fault}
 use Rattle.desk_program.specs.declared.fault.Fault.TheVariants as fault
 

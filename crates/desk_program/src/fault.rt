@@ -3,7 +3,7 @@
 ghost use Rattle.std.specs.Prelude.{◌≡◌, ◌≢◌};
 ghost use Rattle.desk_program.specs.Faults as spec;
 
-use plant_check::Rule;
+use plant_check_rules::Rule;
 use plant_desk_store::AdoptFault;
 use plant_messages::DeskFault;
 use plant_text::{RunEnd, TurnError};

@@ -1,4 +1,6 @@
-pub mod BookedRowsMove
-pub mod CycleTestIsExact
-pub mod EdgeListsCompared
-mod SortedOnceIsPutAll
+pub mod FaultIfBroken
+pub mod FallBreaksRule
+pub mod FoundIfDisobeyed
+pub mod FirstFoundIsFirstBroken
+pub mod ObeyedValues
+pub mod ObeyedColumns

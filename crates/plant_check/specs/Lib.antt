@@ -1,14 +1,27 @@
-pub mod Broken
-pub mod Damaged
-pub mod Ends
+pub mod Recipes
+pub mod Stocks
 pub mod Lots
-pub mod Numbered
-pub use Broken.{are_acyclic, are_fitting, are_kept_edges, are_same_edges, are_whole, broken_rows, movements_in, obeys, recalls_read, tested_rules}
-unfoldable pub use Broken.{first_broken, first_broken_of}
-pub use Damaged.{IsDamaged}
-pub use Ends.{are_stocks, entered_by, entries, exits, left_by, total_booked}
-unfoldable pub use Ends.{has_right_stock}
-pub use Lots.{are_from_zero, are_lots, have_same_kind_code, is_born, is_division_code, is_lot_among, is_of_one_birth, is_one_birth, is_one_division, sublots_among}
-unfoldable pub use Lots.{is_right_lot, is_right_sublot}
-pub use Numbered.{rule_number}
-pub use declared.rule.Rule.{Rule}
+pub mod Marks
+pub mod Movements
+pub mod Events
+pub mod Numbers
+pub mod Edges
+pub mod Recalls
+pub mod ValueRules
+pub mod ColumnRules
+pub mod Stored
+pub mod Values
+pub mod Findings
+pub use Rattle.plant_faults.specs.{column_name, table_name, fault_text, found_text, wanted_text, Column, Found, Key, RowFault, Table, Wanted, ValueRule, fault_unless, first_reported, or_fault}
+pub use Recipes.{line_fault, recipe_fault}
+pub use Stocks.{stock_fault}
+pub use Lots.{lot_fault, sublot_fault}
+pub use Movements.{movement_fault, naming_fault}
+pub use Events.{run_fault, run_found}
+pub use Numbers.{fall_fault_in, given_fault, late_fault_in, line_fault_in, number_fault, number_fault_in}
+pub use ValueRules.{allows_null, allows_text, obeys}
+pub use ColumnRules.{rules_of}
+pub use Values.{AreUnreadIfBad, bad_value, first_bad_value, first_unread, first_unread_of}
+pub use Findings.{AreFindingsOf, IsFirstFound, IsFoundByRow, IsFoundWhereBroken, finding_of, first_rule, head, is_broken_by_row, row_fault, rule_text}
+pub use declared.finding.Finding.{Finding}
+pub use declared.finding.Tested.{Tested}

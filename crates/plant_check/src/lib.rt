@@ -1,12 +1,23 @@
-//! The rules of valid tables, and what they ask of stocks, lots and the history.
+//! The rows that break the rules of the tables: of each rule the first of them, with what it has and what the rule wants.
 #![tactic(auto)]
 
-pub mod checking;
-pub mod edges;
-pub mod ends;
-pub mod history;
-pub mod lots;
-pub mod recalls;
-mod rule;
+mod column_rules;
+mod edges;
+mod events;
+mod finding;
+mod lots;
+mod marks;
+mod movements;
+mod numbers;
+mod recalls;
+mod recipes;
+mod stocks;
+mod stored;
+mod value_rule;
+mod values;
 
-pub use rule::Rule;
+pub use finding::{
+    Finding, Findings, Tested, check, check_rows, findings_law, rule_text, test_loaded, test_rows,
+};
+pub use plant_check_rules::Rule;
+pub use plant_faults::{Column, Found, Key, RowFault, Table, ValueRule, Wanted};

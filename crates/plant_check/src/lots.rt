@@ -1,109 +1,125 @@
-//! Lots, and how their sublots came to be.
+//! Lots, sublots and holds that break a rule.
+ghost use Rattle.std.specs.Prelude.{◌≡◌, IfOk};
+ghost use Rattle.plant_check.specs.Lots.{hold_fault, lot_fault, lot_fault_in, sublot_fault};
+ghost use Rattle.plant_faults.specs.{first_reported};
 
-ghost use Rattle.std.specs.Prelude.{◌≡◌, map};
-ghost use Rattle.std.specs.List.{list_all};
-ghost use Rattle.plant_check.specs.Lots.{are_from_zero, sublots_among, have_same_kind_code};
-ghost use Rattle.plant_check.specs.Lots.{is_of_one_birth, is_one_birth, is_one_division, is_born};
-ghost use Rattle.plant_check.specs.Lots.{is_lot_among};
-
-use crate::ends::{BySublotEntered, entries, total_booked};
-use grouped_rows::{Grouped, Grouping};
-use plant_base::{GREATEST_AMOUNT, Id, Sublot};
-use plant_check_plans::numbered::are_numbered;
+use grouped_rows::Grouped;
+use plant_base::{Hold, Lot, Sublot};
+use plant_check_plans::keys::{Definitions, has_definition};
+use plant_check_rules::ends::BySublotEntered;
+use plant_check_rules::lots::{SublotsOfLots, are_from_zero, has_lot, is_born, sublots_of};
 use plant_check_stock::keys::Lots;
-use plant_tables_read::{BookedRow, MovementKindCode};
+use plant_faults::first::{RowRule, as_a_whole, first_fault, names_none, or_fault};
+use plant_faults::keys::{hold_key, id_key, sublot_key};
+use plant_faults::{Column, RowFault, Table, Wanted};
+use plant_tables_read::DeskRows;
+use std::alloc::{AllocError, Global};
 
-/// Sublots by their lot.
-pub struct SublotsOfLots;
-
-impl Grouping for SublotsOfLots {
-    ghost use Rattle.std.specs.Prelude.{Some};
-
-    type Row = Sublot;
-
-    type Key = Id;
-
-    ghost key_of = { λ s. Some s.lot };
-
-    fn key(row: &Sublot) -> Option<Id> {
-        Some(row.lot)
-    }
+/// That a lot's definition is there, and its sublots are numbered from 0 on.
+#[derive(Drop)]
+struct Defined<'a> {
+    definitions: Grouped<'a, Definitions>,
+    sublots: Grouped<'a, SublotsOfLots>,
 }
 
-/// The sublots of the lot, in the order of the rows.
-pub fn sublots_of<'a>(sublots: &'a Grouped<SublotsOfLots>, lot: Id) -> &'a [Sublot]
-    ensures { result.now ≡ sublots_among sublots.now.rows.now lot }
-{
-    sublots.at(lot)
-}
+impl<'a> RowRule<Lot> for Defined<'a> {
+    ghost use Rattle.plant_check.specs.Lots.{lot_fault};
 
-/// Whether a lot has the id.
-pub fn has_lot(lots: &Grouped<Lots>, id: Id) -> bool
-    ensures { result ≡ is_lot_among lots.now.rows.now id }
-{
-    lots.has(id)
-}
+    ghost fault_of = { λ t l. lot_fault t.definitions.rows.now t.sublots.rows.now l };
 
-/// Whether there are sublots, numbered from 0 on.
-pub fn are_from_zero(sublots: &[Sublot]) -> bool
-    ensures { result ≡ are_from_zero (map (λ s. s.number) sublots.now) }
-{
-    sublots.len() >= 1 && are_numbered(0, sublots)
-}
-
-/// Whether the sublot came to be: sublot 0 with its lot, each other one by one division.
-pub fn is_born(entered: &Grouped<BySublotEntered>, sublot: &Sublot) -> bool
-    ensures { result ≡ is_born entered.now.rows.now sublot.now }
-{
-    let rows = entries(entered, sublot.lot, sublot.number);
-    if sublot.number == 0 {
-        is_one_birth(rows)
-    } else {
-        is_one_division(rows)
-    }
-}
-
-fn is_one_birth(rows: &[BookedRow]) -> bool
-    ensures { result ≡ is_one_birth rows.now }
-{
-    match rows {
-        [] => false,
-        [first, ..] => {
-            are_of_one_birth(first, rows) && total_booked(rows) <= u128::from(GREATEST_AMOUNT)
+    fn fault(&self, _alloc: Global, row: &Lot) -> Result<Option<RowFault>, AllocError> {
+        let place = (Table::Lot, id_key(row.id));
+        if !has_definition(&self.definitions, row.def) {
+            return Ok(Some(names_none(place, Column::Def, row.def, Table::Definition)));
         }
+        if are_from_zero(sublots_of(&self.sublots, row.id)) {
+            return Ok(None);
+        }
+        Ok(Some(as_a_whole(place, Wanted::NumberedFrom(Table::Sublot, 0))))
     }
 }
 
-fn are_of_one_birth(first: &BookedRow, rows: &[BookedRow]) -> bool
-    ensures { result ≡ list_all (is_of_one_birth first.now) rows.now }
-{
-    rows.iter().all(|r| is_of_one_birth(first, r))
+/// That a sublot's lot is there, and that it came to be once.
+#[derive(Drop)]
+struct Born<'a> {
+    lots: Grouped<'a, Lots>,
+    entered: Grouped<'a, BySublotEntered>,
 }
 
-fn is_of_one_birth(first: &BookedRow, row: &BookedRow) -> bool
-    ensures { result ≡ is_of_one_birth first.now row.now }
-{
-    row.seq == first.seq && have_same_kind_code(first.kind_code, row.kind_code)
-}
+impl<'a> RowRule<Sublot> for Born<'a> {
+    ghost use Rattle.plant_check.specs.Lots.{sublot_fault};
 
-// Whether both are of one sort that makes a lot.
-fn have_same_kind_code(a: MovementKindCode, b: MovementKindCode) -> bool
-    ensures { result ≡ have_same_kind_code a b }
-{
-    match a {
-        MovementKindCode::Received => matches!(b, MovementKindCode::Received),
-        MovementKindCode::Produced => matches!(b, MovementKindCode::Produced),
-        MovementKindCode::Split => matches!(b, MovementKindCode::Split),
-        MovementKindCode::Merged => matches!(b, MovementKindCode::Merged),
-        _ => false,
+    ghost fault_of = { λ t s. sublot_fault t.lots.rows.now t.entered.rows.now s };
+
+    fn fault(&self, _alloc: Global, row: &Sublot) -> Result<Option<RowFault>, AllocError> {
+        let place = (Table::Sublot, sublot_key(row));
+        if !has_lot(&self.lots, row.lot) {
+            return Ok(Some(names_none(place, Column::Lot, row.lot, Table::Lot)));
+        }
+        if is_born(&self.entered, row) {
+            return Ok(None);
+        }
+        Ok(Some(as_a_whole(place, Wanted::Birth)))
     }
 }
 
-fn is_one_division(rows: &[BookedRow]) -> bool
-    ensures { result ≡ is_one_division rows.now }
-{
-    match rows {
-        [row] => matches!(row.kind_code, MovementKindCode::Divided),
-        _ => false,
+/// That a hold's lot is there.
+#[derive(Drop)]
+struct OfLots<'a> {
+    lots: Grouped<'a, Lots>,
+}
+
+impl<'a> RowRule<Hold> for OfLots<'a> {
+    ghost use Rattle.plant_check.specs.Lots.{hold_fault};
+
+    ghost fault_of = { λ t h. hold_fault t.lots.rows.now h };
+
+    fn fault(&self, _alloc: Global, row: &Hold) -> Result<Option<RowFault>, AllocError> {
+        if has_lot(&self.lots, row.lot) {
+            return Ok(None);
+        }
+        let place = (Table::Hold, hold_key(row));
+        Ok(Some(names_none(place, Column::Lot, row.lot, Table::Lot)))
     }
+}
+
+fn undefined_lot(alloc: Global, rows: &DeskRows) -> Result<Option<RowFault>, AllocError>
+    ensures { IfOk result (λ reported. reported ≡ first_reported
+        (lot_fault rows.now.definitions.items rows.now.sublots.items) rows.now.lots.items) }
+{
+    let definitions = Grouped::<Definitions>::new(alloc, rows.definitions.as_slice())?;
+    let sublots = Grouped::<SublotsOfLots>::new(alloc, rows.sublots.as_slice())?;
+    let defined = Defined {
+        definitions,
+        sublots,
+    };
+    first_fault(alloc, &defined, rows.lots.as_slice())
+}
+
+fn unborn_sublot(alloc: Global, rows: &DeskRows) -> Result<Option<RowFault>, AllocError>
+    ensures { IfOk result (λ reported. reported ≡ first_reported
+        (sublot_fault rows.now.lots.items rows.now.movements.items) rows.now.sublots.items) }
+{
+    let lots = Grouped::<Lots>::new(alloc, rows.lots.as_slice())?;
+    let entered = Grouped::<BySublotEntered>::new(alloc, rows.movements.as_slice())?;
+    first_fault(alloc, &Born { lots, entered }, rows.sublots.as_slice())
+}
+
+fn stray_hold(alloc: Global, rows: &DeskRows) -> Result<Option<RowFault>, AllocError>
+    ensures { IfOk result (λ reported. reported ≡ first_reported (hold_fault rows.now.lots.items) rows.now.holds.items) }
+{
+    let lots = Grouped::<Lots>::new(alloc, rows.lots.as_slice())?;
+    first_fault(alloc, &OfLots { lots }, rows.holds.as_slice())
+}
+
+/// The first lot that breaks its rule, or else the first sublot, or else the first hold. The only error is that memory was
+/// refused.
+pub(crate) fn lot_fault(alloc: Global, rows: &DeskRows) -> Result<Option<RowFault>, AllocError>
+    ensures { IfOk result (λ reported. reported ≡ lot_fault_in rows.now.definitions.items rows.now.lots.items
+        rows.now.sublots.items rows.now.holds.items rows.now.movements.items) }
+{
+    let undefined = undefined_lot(alloc, rows)?;
+    let unborn = unborn_sublot(alloc, rows)?;
+    let stray = stray_hold(alloc, rows)?;
+    Ok(or_fault(undefined, or_fault(unborn, stray)))
 }

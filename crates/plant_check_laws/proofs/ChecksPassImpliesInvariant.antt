@@ -15,7 +15,7 @@ use Rattle.plant_tables.specs.{contents_of}
 use Rattle.plant_tables_columns.specs.{movement_from, booked_of, recall_from, BookedRow}
 use Rattle.plant_tables_read.specs.{Rows, rows_from, tables_in, AreWhole, AreInOrder}
 use Rattle.plant_tables_read.proofs.RowsRepresentTables.{are_stored, represents_for}
-use Rattle.plant_check.specs.{movements_in, recalls_read, broken_rows, first_broken_of, are_stocks, are_lots}
+use Rattle.plant_check_rules.specs.{movements_in, recalls_read, broken_rows, first_broken_of, are_stocks, are_lots}
 use Rattle.plant_view.proofs.EdgeRowOrder.{edges_sorted}
 use Rattle.plant_check_laws.specs.{state_in, UnbrokenIsRead, ChecksPassImpliesInvariant, UnbrokenHolds}
 use Rattle.plant_check_laws.proofs.RowsMadeOfRows.{all_gathered, joined_again}
@@ -33,7 +33,7 @@ use Rattle.plant_check_laws.proofs.ReceiptsExact.{contents_there, valid_receipts
 use Rattle.plant_check_laws.proofs.RecipesExact as recipes
 use Rattle.plant_check_laws.proofs.RecipesExact.{classes_exact, IsListed, recipes_exact, consistent_recipes}
 use Rattle.plant_check_laws.proofs.RowsInKeyOrder.{in_order, receipts_none, recalls_none}
-use Rattle.plant_check.specs.declared.rule.Rule.TheVariants as rule
+use Rattle.plant_check_rules.specs.declared.rule.Rule.TheVariants as rule
 use Rattle.plant_check_laws.proofs.RulesExact.{PassesAll, rules_passed, tables_passed}
 use Rattle.plant_check_laws.proofs.StocksExact.{IsStocked, stocks_exact, all_covered, all_small, same_sublots}
 use Rattle.plant_check_laws.proofs.ValuesSound.{HaveValues, HasSublotValues, have_values}

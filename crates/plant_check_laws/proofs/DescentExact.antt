@@ -6,9 +6,9 @@ use Rattle.plant_view.specs.{tables_of, edges_in}
 use Rattle.plant_view.specs.Tables.{Tables}
 use Rattle.plant_tables_columns.specs.{booked_of}
 use Rattle.plant_tables_read.proofs.TablesOfRows.{same_tables}
-use Rattle.plant_check.specs.{movements_in, are_acyclic, are_same_edges, are_kept_edges}
-use Rattle.plant_check.proofs.CycleTestIsExact.{to_acyclic, acyclic_tested}
-use Rattle.plant_check.proofs.EdgeListsCompared.{same_list, same_itself}
+use Rattle.plant_check_rules.specs.{movements_in, are_acyclic, are_same_edges, are_kept_edges}
+use Rattle.plant_check_rules.proofs.CycleTestIsExact.{to_acyclic, acyclic_tested}
+use Rattle.plant_check_rules.proofs.EdgeListsCompared.{same_list, same_itself}
 
 -- the movements that the rows of a state's table book are the state's
 pub movements_again : (s : State) → movements_in (map booked_of s.movements) ≡ s.movements

@@ -17,8 +17,8 @@ use Rattle.plant_tables_columns.proofs.RecallColumns.{recall_again}
 use Rattle.plant_tables_read.proofs.RowsReadBack.{read_again}
 use Rattle.plant_tables_read.proofs.RowsRepresentTables.{rows_back}
 use Rattle.plant_check_stock.specs.{are_marks}
-use Rattle.plant_check.specs.{movements_in, recalls_read, first_broken_of, broken_rows, first_broken, are_stocks, are_lots}
-use Rattle.plant_check.proofs.BookedRowsMove.{amount_entered}
+use Rattle.plant_check_rules.specs.{movements_in, recalls_read, first_broken_of, broken_rows, first_broken, are_stocks, are_lots}
+use Rattle.plant_check_rules.proofs.BookedRowsMove.{amount_entered}
 use Rattle.plant_invariant_tables.proofs.TablesHaveValidValues.{in_order, valid_values}
 use Rattle.plant_check_laws.specs.{state_in}
 use Rattle.plant_check_laws.proofs.BatchesExact.{right_batches}
@@ -33,7 +33,7 @@ use Rattle.plant_check_laws.proofs.OrdersExact.{Closes, right_orders}
 use Rattle.plant_check_laws.proofs.RecallsExact.{recalls_pass, marks_pass}
 use Rattle.plant_check_laws.proofs.ReceiptsExact.{receipts_pass}
 use Rattle.plant_check_laws.proofs.RecipesExact.{classes_exact, listed_recipes}
-use Rattle.plant_check.specs.declared.rule.Rule.TheVariants as rule
+use Rattle.plant_check_rules.specs.declared.rule.Rule.TheVariants as rule
 use Rattle.plant_check_laws.proofs.RulesExact.{PassesAll, rules_passed, tables_passed}
 use Rattle.plant_check_laws.proofs.StocksExact.{IsStocked, stocks_exact}
 

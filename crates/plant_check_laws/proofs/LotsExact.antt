@@ -11,8 +11,8 @@ use Rattle.plant_view.specs.{is_defined, place_of_row}
 use Rattle.plant_view.proofs.ListLemmas.{all_mapped, all_unmapped}
 use Rattle.plant_invariant.specs.{numbers_among, AreFromZero, are_one_birth, IsBirth, IsDivision, IsBorn, AreBorn}
 use Rattle.plant_tables_columns.specs.{code_of, booked_of}
-use Rattle.plant_check.specs.{total_booked, are_from_zero, sublots_among, is_right_lot, is_division_code, have_same_kind_code, is_of_one_birth, is_one_birth, is_one_division, is_born, is_lot_among, is_right_sublot, are_lots}
-use Rattle.plant_check.proofs.BookedRowsMove.{filter_mapped, entries_booked}
+use Rattle.plant_check_rules.specs.{total_booked, are_from_zero, sublots_among, is_right_lot, is_division_code, have_same_kind_code, is_of_one_birth, is_one_birth, is_one_division, is_born, is_lot_among, is_right_sublot, are_lots}
+use Rattle.plant_check_rules.proofs.BookedRowsMove.{filter_mapped, entries_booked}
 use Rattle.plant_check_laws.proofs.ExactTests.{passing, le_exact, equal_exact, both, chosen, in_words, by_test, all_two_exact, all_exact, any_exact, all_mapped_exact, all_apart, all_joined}
 use Rattle.plant_check_laws.proofs.NumberedRows.{counted_exact}
 

@@ -15,7 +15,7 @@ use Rattle.plant_tables_columns.proofs.KindLaws.{ValidOrNone}
 use Rattle.plant_tables_columns.proofs.RecallColumns.{recall_back}
 use Rattle.plant_tables_columns.proofs.TableLaws.{HasStatedColumns}
 use Rattle.plant_tables_read.proofs.TablesOfRows.{same_tables}
-use Rattle.plant_check.specs.{recalls_read}
+use Rattle.plant_check_rules.specs.{recalls_read}
 use Rattle.plant_check_laws.proofs.RowsMadeOfRows.{all_gathered}
 use Rattle.plant_check_laws.proofs.ExactTests.{passing, le_exact, both, in_words, all_exact_where}
 

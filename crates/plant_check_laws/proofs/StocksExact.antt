@@ -8,8 +8,8 @@ use Rattle.plant_stock.specs.{goes_to, comes_from, is_sublot_key, entered, left,
 use Rattle.plant_view.specs.{IsThere, sublot_row, place_of_row}
 use Rattle.plant_invariant.specs.{IsDivision, IsBorn, HasMovementValues}
 use Rattle.plant_tables_columns.specs.{booked_of}
-use Rattle.plant_check.specs.{total_booked, has_right_stock, are_stocks}
-use Rattle.plant_check.proofs.BookedRowsMove.{amount_entered, amount_left, total_entered, total_left}
+use Rattle.plant_check_rules.specs.{total_booked, has_right_stock, are_stocks}
+use Rattle.plant_check_rules.proofs.BookedRowsMove.{amount_entered, amount_left, total_entered, total_left}
 use Rattle.plant_check_laws.proofs.RowsMadeOfRows.{joined_again}
 use Rattle.plant_check_laws.proofs.ExactTests.{equal_exact, in_words, all_exact}
 use Rattle.plant_check_laws.proofs.LotsExact.{IsSmall}

@@ -7,7 +7,7 @@ use Rattle.plant_invariant.specs.StateInvariant.{StateInvariant}
 use Rattle.plant_tables.specs.{HoldsTablesOf}
 use Rattle.plant_tables_read.specs.{AreLoaded, IsKnown, Loaded, rows_from, rows_in, AreInOrder}
 use Rattle.plant_tables_columns.specs.{HasValidValues}
-use Rattle.plant_check.specs.{first_broken_of, first_broken}
+use Rattle.plant_check_rules.specs.{first_broken_of, first_broken}
 
 -- the rows of each table of a valid state are in the order of their keys, none with the key of another
 abbrev pub InvariantImpliesOrder : Type 0

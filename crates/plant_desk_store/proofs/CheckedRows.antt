@@ -8,8 +8,8 @@ use Rattle.plant_tables_read.specs.{contents_loaded, DeskRows, Loaded, Rows, row
 use Rattle.plant_tables_read.proofs.RowsRepresentTables.{rows_back}
 use Rattle.plant_tables_columns.specs.{only_meta}
 use Rattle.plant_tables_columns.proofs.RowLaws.{meta_reads}
-use Rattle.plant_check.specs.{first_broken, first_broken_of, broken_rows}
-use Rattle.plant_check.specs.declared.rule.Rule.TheVariants as rule
+use Rattle.plant_check_rules.specs.{first_broken, first_broken_of, broken_rows}
+use Rattle.plant_check_rules.specs.declared.rule.Rule.TheVariants as rule
 use Rattle.plant_desk_store.specs.{FailsChecks, PassesChecks, FailsChecksBy, PassesChecksOf, FailsChecksOf}
 use Rattle.plant_desk_store.specs.declared.check_error.CheckError.{CheckError}
 use Rattle.plant_desk_store.specs.declared.check_error.CheckError.TheVariants as check_error

@@ -13,7 +13,7 @@ use Rattle.sql_tables.specs.{Fault}
 use Rattle.sql_tables.specs.declared.fault.Fault.TheVariants as below
 use Rattle.plant_view.specs.{ViewFault}
 use Rattle.plant_view.specs.declared.fault.ViewFault.TheVariants as view
-use Rattle.plant_check.specs.declared.rule.Rule.TheVariants as rule
+use Rattle.plant_check_rules.specs.declared.rule.Rule.TheVariants as rule
 use Rattle.plant_messages.specs.{DeskFault}
 use Rattle.plant_messages.specs.declared.reply.DeskFault.TheVariants.{Store, Shut}
 use Rattle.plant_desk_store.specs.{desk_fault, looked_up, rows_to_test, rows_to_adopt, schema_found}

@@ -23,7 +23,7 @@ use Rattle.plant_tables_read.specs.{IsVersion, IsKnown, HasTablesOf, AreLoaded}
 use Rattle.plant_tables_read.proofs.OneVersion.{one_version, each_free, free_reports_nothing}
 use Rattle.plant_check_laws.proofs.InvariantImpliesChecksPass.{read_valid}
 use Rattle.plant_desk_store.specs.{HoldsValidState, IsRefusedBy, IsFirstBroken, IsAdoptable}
-use Rattle.plant_check.specs.{Rule}
+use Rattle.plant_check_rules.specs.{Rule}
 use Rattle.plant_desk_store.specs.declared.adopting.AdoptFault.{AdoptFault}
 use Rattle.plant_desk_store.specs.declared.adopting.AdoptFault.TheVariants as fault
 

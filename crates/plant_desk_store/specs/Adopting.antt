@@ -9,11 +9,11 @@ use Rattle.plant_view.specs.{tables_of, IsWholeIn}
 use Rattle.plant_invariant.specs.StateInvariant.{StateInvariant}
 use Rattle.sql_tables.specs.{AreFree, Keeps}
 pub use Rattle.sql_queries.specs.Opened.{IsNewlyOpened}
-pub use Rattle.plant_check.specs.Damaged.{LacksTables, AreFirstBroken, IsFirstBroken, IsDamaged}
+pub use Rattle.plant_check_rules.specs.Damaged.{LacksTables, AreFirstBroken, IsFirstBroken, IsDamaged}
 use Rattle.plant_tables.specs.{desk_table_defs, later_table_defs, MakesDesk, IsAtOf, FindsTables, opening_tables, HoldsTablesOf}
 use Rattle.plant_tables_read.specs.{IsVersion, IsKnown, Loaded}
 use Rattle.plant_migrate.specs.{IsBetween, FindsRisable}
-use Rattle.plant_check.specs.{first_broken, Rule}
+use Rattle.plant_check_rules.specs.{first_broken, Rule}
 use Rattle.plant_desk.specs.{States}
 use Rattle.plant_desk_store.specs.DeskStates.{IsDurablyAt, FindsStateOf}
 use Rattle.plant_desk_store.specs.declared.adopting.AdoptFault.{AdoptFault}

@@ -8,7 +8,7 @@ use Rattle.plant_base.specs.{State, newest_schema, Envelope}
 use Rattle.plant_trace.specs.{IsAcyclic}
 use Rattle.plant_view.specs.{IsConserved, IsBalanced, edges_of}
 use Rattle.plant_tables.specs.{AddsMissing, AreAllTaken}
-use Rattle.plant_check.specs.{Rule}
+use Rattle.plant_check_rules.specs.{Rule}
 use Rattle.plant_causes.specs.{Checked}
 use Rattle.plant_desk.specs.{Executes, Checks, Asks, shuts, writes_nothing, fold}
 use Rattle.plant_messages.specs.{Answer, DeskFault, Question, Reply}

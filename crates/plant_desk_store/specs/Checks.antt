@@ -3,7 +3,7 @@ use Rattle.std.specs.Prelude.{◌≡◌, ℕ, Option, Some, None, ⊤}
 use Rattle.sqlite.specs.Effect.{Database}
 use Rattle.plant_tables_read.specs.{AreLoaded, DeskRows, Loaded, Rows, rows_from, rows_listed}
 use Rattle.plant_base.specs.{newest_schema}
-use Rattle.plant_check.specs.{first_broken, first_broken_of, Rule}
+use Rattle.plant_check_rules.specs.{first_broken, first_broken_of, Rule}
 use Rattle.plant_desk_store.specs.declared.check_error.CheckError.{CheckError}
 use Rattle.plant_desk_store.specs.declared.check_error.CheckError.TheVariants as check_error
 

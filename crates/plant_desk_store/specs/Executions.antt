@@ -10,7 +10,7 @@ use Rattle.plant_rules.specs.{step}
 use Rattle.sql_tables.specs.{AreFree}
 use Rattle.sql_queries.specs.{IsNewlyOpened}
 use Rattle.plant_tables.specs.{desk_table_defs}
-use Rattle.plant_check.specs.{Rule}
+use Rattle.plant_check_rules.specs.{Rule}
 use Rattle.plant_causes.specs.{Checked}
 use Rattle.plant_desk.specs.{reply}
 use Rattle.plant_messages.specs.{Answer, DeskFault, Question, Reply}

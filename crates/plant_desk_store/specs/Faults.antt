@@ -5,7 +5,7 @@ use Rattle.sql_tables.specs.declared.fault.Fault.TheVariants as below
 use Rattle.plant_base.specs.{newest_schema}
 use Rattle.plant_view.specs.{ViewFault}
 use Rattle.plant_view.specs.declared.fault.ViewFault.TheVariants as view
-use Rattle.plant_check.specs.declared.rule.Rule.TheVariants as rule
+use Rattle.plant_check_rules.specs.declared.rule.Rule.TheVariants as rule
 use Rattle.plant_tables_read.specs.{FoundTables, Loaded}
 use Rattle.plant_tables_read.specs.declared.finding.FoundTables.TheVariants as tables
 use Rattle.plant_messages.specs.{DeskFault}

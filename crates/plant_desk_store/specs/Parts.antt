@@ -11,7 +11,7 @@ use Rattle.sql_tables.specs.{Keeps, AreFree, IsSettled}
 use Rattle.plant_tables.specs.{desk_table_defs, AreFresh, AddsMissing, AreAllTaken}
 use Rattle.plant_tables_read.specs.{IsKnown, IsVersion, rows_in, rows_listed, DeskRows}
 use Rattle.plant_migrate.specs.{edges_from, IsRaisedBy}
-use Rattle.plant_check.specs.{Rule}
+use Rattle.plant_check_rules.specs.{Rule}
 use Rattle.plant_answers.specs.{answer}
 use Rattle.plant_causes.specs.{checked, Checked}
 use Rattle.plant_desk.specs.{writes_nothing}

@@ -12,7 +12,7 @@ ghost use Rattle.plant_desk_store.specs.Checks.{PassesChecks};
 use crate::check_error::{CheckError, check_desk};
 use crate::stored::Desk;
 use plant_base::NEWEST_SCHEMA;
-use plant_check::Rule;
+use plant_check_rules::Rule;
 use plant_migrate::raise_rows;
 use plant_tables::commit_opening;
 use plant_tables_read::{DeskRows, FoundTables, Loaded, found};

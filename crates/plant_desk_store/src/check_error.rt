@@ -4,8 +4,8 @@ ghost use Rattle.std.specs.Prelude.{IfOk, IfErr};
 ghost use Rattle.plant_desk_store.specs.Checks.{PassesChecks, FailsChecksBy, PassesChecksOf};
 ghost use Rattle.plant_desk_store.specs.Checks.{FailsChecksOf};
 
-use plant_check::Rule;
-use plant_check_rows::check_rows;
+use plant_check::check_rows;
+use plant_check_rules::Rule;
 use plant_tables_read::{DeskRows, Loaded, has_meta, take_rows};
 use std::alloc::Global;
 

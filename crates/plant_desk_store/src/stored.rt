@@ -8,7 +8,7 @@ use crate::running::run_over;
 use crate::verifying::verify_on;
 use plant_base::{Envelope, Items};
 use plant_causes::Checked;
-use plant_check::Rule;
+use plant_check_rules::Rule;
 use plant_desk::{Keeper, RunReport};
 use plant_messages::{Answer, DeskFault, Question, Reply};
 use sqlite::{Alter, Connection};

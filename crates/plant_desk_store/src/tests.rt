@@ -1,6 +1,6 @@
 // What `Desk::verify` says of a desk that is open: its tables are changed by hand, as no public call can.
 use crate::stored::Desk;
-use plant_check::Rule;
+use plant_check_rules::Rule;
 use sqlite::{Connection, MemStore};
 use std::alloc::Global;
 use std::process::Abort;

@@ -2,13 +2,13 @@
 
 ghost use Rattle.std.specs.Prelude.{◌≡◌, IfOk, IfErr};
 ghost use Rattle.sqlite.specs.Held.{state};
-ghost use Rattle.plant_check.specs.{first_broken};
+ghost use Rattle.plant_check_rules.specs.{first_broken};
 ghost use Rattle.plant_desk_store.specs.Parts.{HasTested};
 
 use crate::check_error::{CheckError, check_desk};
 use crate::faults::rows_to_test;
 use plant_base::NEWEST_SCHEMA;
-use plant_check::Rule;
+use plant_check_rules::Rule;
 use plant_messages::DeskFault;
 use plant_tables_read::Loaded;
 use sqlite::{Alter, Connection};

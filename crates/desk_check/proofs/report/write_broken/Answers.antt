@@ -1,4 +1,4 @@
-use Rattle.plant_check_rows.specs.{fault_text}
+use Rattle.plant_check.specs.{fault_text}
 use Rattle.desk_check.specs.{rule_line}
 use Rattle.plant_text.specs.{with_lf}
 use Rattle.desk_check.proofs.SentencesInSequence.{reported_behind}

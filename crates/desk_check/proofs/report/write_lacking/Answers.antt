@@ -1,5 +1,5 @@
 use Rattle.desk_check.specs.{bound_text, rule_line}
-use Rattle.plant_check.specs.declared.rule.Rule.TheVariants as rule
+use Rattle.plant_check_rules.specs.declared.rule.Rule.TheVariants as rule
 use Rattle.plant_text.specs.{with_lf}
 use Rattle.desk_check.proofs.SentencesInSequence.{reported_behind}
 use Rattle.desk_check.proofs.report.write_lacking.Goals as goal

@@ -4,8 +4,7 @@ use Rattle.desk_program.proofs.ready.init.Goals as goal
 
 pub returns-in-Ok-clause-adopted : goal.returns-in-Ok-clause-adopted
 returns-in-Ok-clause-adopted g c = λ h opened.
-    let before = c.in_ok-desk.ensures.adopted (c.write_ready.ensures.same.honest h) opened in
-    (
+    let before = c.in_ok-desk.ensures.adopted (c.write_ready.ensures.same.honest h) opened in (
       adopted_so _ opened _ _ (λ s at. as_open _ _ s c.write_ready.ensures.open (c.write_ready.ensures.stays h s (as_represented _ _ s at))) before.0,
       (c.write_ready.ensures.same.foreign_tables h _ (foreign_at _ _ _ opened before)).others,
     )
@@ -22,11 +21,10 @@ pub returns-in-Err-clause-stopped : goal.returns-in-Err-clause-stopped
 returns-in-Err-clause-stopped g c = rw c.close.ensures (inl (
   c.in-Err.ensures.fault,
   λ h opened.
-      let before = c.in_ok-desk.ensures.adopted (c.write_ready.ensures.same.honest h) opened in
-      (
+      let before = c.in_ok-desk.ensures.adopted (c.write_ready.ensures.same.honest h) opened in (
         adopted_so _ opened _ _ (λ s at.
-        let represented = as_represented _ _ s at in
-        (as_open _ _ s c.write_ready.ensures.open (c.write_ready.ensures.stays h s represented), c.in-Err.ensures.stopped h s represented)) before.0,
+            let represented = as_represented _ _ s at in
+            (as_open _ _ s c.write_ready.ensures.open (c.write_ready.ensures.stays h s represented), c.in-Err.ensures.stopped h s represented)) before.0,
         (c.write_ready.ensures.same.foreign_tables h _ (foreign_at _ _ _ opened before)).others,
       ),
 ))

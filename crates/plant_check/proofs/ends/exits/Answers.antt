@@ -1,7 +1,0 @@
-use Rattle.std.proofs.Common.{◌∙◌, filter}
-use Rattle.plant_check_stock.proofs.SublotTests.{placed}
-use Rattle.plant_check.specs.{left_by}
-use Rattle.plant_check.proofs.ends.exits.Goals as goal
-
-pub returns : goal.returns
-returns c = c.at.ensures ∙ (λ i. filter (λ r. placed (left_by r.kind_code r) c.args.lot c.args.number i) c.args.left.now.rows.now)

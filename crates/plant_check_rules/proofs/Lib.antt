@@ -1,0 +1,4 @@
+pub mod BookedRowsMove
+pub mod CycleTestIsExact
+pub mod EdgeListsCompared
+mod SortedOnceIsPutAll

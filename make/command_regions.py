@@ -265,6 +265,9 @@ def in_messages(commands, plain):
         *(Region(f"{texts}/src/plain.rt", f"the commands of {function}", each(group, made_of_values)) for function, group in groups),
         *(Region(f"{texts}/specs/Plain.antt", f"the commands of {function}", each(group, lambda it: made_in_specs(it, function)))
           for function, group in groups),
+        Region("plant_answers/src/commands.rt", "the words of commands", many(commands, '"$word" => true,')),
+        Region("plant_answers/specs/CommandHeads.antt", "the words of commands", "has_command word =\n" + choices(
+            commands, 'bytes_eq word (codes "$word")', "true", "false")),
         Region("line_check/src/words.rt", "the words of commands", many(commands, '"$word",')),
         Region("line_check/specs/Words.antt", "the words of commands", "\n".join(
             f"place_of_command c.{it.kind} = {place}" for place, it in enumerate(commands))),

@@ -1,6 +1,7 @@
 //! What the crates do that no built program comes to: sources of edges that count, fail and lie, keepers that fail and runs whose reads
 //! run out, a list of commands run at once, a desk that a fault has shut, a row that no column holds, rows by any key, tables raised by a
-//! version, decisions and checks by key and over lists, requests over readers that count, and tasks over both kinds of store.
+//! version, the first broken rule of loaded tables, decisions and checks by key and over lists, requests over readers that count, and tasks
+//! over both kinds of store.
 #![tactic(auto)]
 
 #[cfg(test)]
@@ -23,6 +24,8 @@ mod raising;
 mod reopening;
 #[cfg(test)]
 mod requests;
+#[cfg(test)]
+mod rules;
 #[cfg(test)]
 mod sources;
 #[cfg(test)]

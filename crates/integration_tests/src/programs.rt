@@ -1,5 +1,6 @@
 //! Tasks of the program by `perform`, over a store in memory and one in files: what is printed, and the exit status.
-use crate::stores::{files_of, in_memory, opened};
+use crate::commands::first_commands;
+use crate::stores::{desk_over, files_of, in_memory, opened};
 use desk_cli::Task;
 use desk_program::perform;
 use plant_base::{Id, Moment, Text};
@@ -23,6 +24,32 @@ const REPLIES: &str = "{\"ok\":1}\n{\"ok\":2}\n{\"schema\":4,\"seq\":2}\n";
 const HEADER: &[u8] = b"order,recipe,version,size,due,priority\n";
 
 const ORDER: &[u8] = b"order,recipe,version,size,due,priority\nO-1,CAKE,1,500,2027-03-01,5\n";
+
+/// The record of the batch of the twenty commands.
+const RECORD: &str = "BATCH RECORD B-1
+order O-1 due 2027-03-01 priority 5 state finished
+recipe CAKE 1 product DOUGH size 500 base 300
+released at 0 by anna
+state complete attempt 1 phases 1 of 1 closed
+CONTROL RECIPE
+  1 in FLOUR 167 kg
+  2 out DOUGH 500 kg
+  3 par TEMP 80 C
+  4 phase MIX BLEND STIR
+EVENTS
+     9 start at 0 by anna
+    11 phase 1 at 0 by ben
+    13 done at 1 by ben
+    14 close at 2 by ben
+CONSUMED
+    10 F-1/0 FLOUR 167 kg at 0 by anna
+PRODUCED
+    12 D-1 DOUGH 490 kg scrapped 0 at 1 by ben
+TOTALS
+in FLOUR asked 167 booked 167
+out DOUGH asked 500 booked 490
+END
+";
 
 /// Checks how a task ends over a store: its exit status, and what it writes.
 fn check_performed<S: Alter + Drop>(
@@ -63,6 +90,30 @@ fn check_over_both(
     let files = files_of(rt.alloc(), &[], &[], [u64::MAX, u64::MAX])?;
     match opened(rt.alloc(), files) {
         Ok(connection) => check_performed(rt, connection, task, input, wanted),
+        Err(_) => Err(Fail::from("the files don't open")),
+    }
+}
+
+/// A store whose desk has accepted the twenty commands.
+fn filled<S: Alter + Drop>(
+    rt: &(impl Abort + AllocGlobal),
+    connection: Connection<S>,
+) -> Result<Connection<S>, Fail> {
+    let mut desk = desk_over(rt.alloc(), connection)?;
+    let report = desk.run(&first_commands(rt.alloc(), 20)?);
+    assert!(rt; report.end.is_none());
+    Ok(desk.close())
+}
+
+/// Checks what a task prints of the twenty commands, over a store in memory and over files.
+fn check_answered(rt: &(impl Abort + AllocGlobal), task: &Task, wanted: &str) -> Result<(), Fail> {
+    let store = filled(rt, in_memory(rt.alloc())?)?;
+    check_performed(rt, store, task, b"", (0, wanted, ""))?;
+    let files = files_of(rt.alloc(), &[], &[], [u64::MAX, u64::MAX])?;
+    match opened(rt.alloc(), files) {
+        Ok(connection) => {
+            check_performed(rt, filled(rt, connection)?, task, b"", (0, wanted, ""))
+        }
         Err(_) => Err(Fail::from("the files don't open")),
     }
 }
@@ -112,13 +163,9 @@ fn import_prints_the_reply_or_the_fault(rt: HostRuntime) -> Result<(), Fail> {
 
 #[test]
 fn questions_on_unknown_ids_print_the_refusal(rt: HostRuntime) -> Result<(), Fail> {
-    let trace = Task::Trace {
-        direction: Direction::Back,
-        lot: Id::read(b"L-9").ok_or("no id")?,
-    };
     check_over_both(
         &rt,
-        &trace,
+        &trace(Direction::Back, b"L-9")?,
         b"",
         (1, "{\"name\":\"UnknownLot\",\"refused\":9}\n", ""),
     )?;
@@ -131,4 +178,28 @@ fn questions_on_unknown_ids_print_the_refusal(rt: HostRuntime) -> Result<(), Fai
         b"",
         (1, "{\"name\":\"UnknownBatch\",\"refused\":8}\n", ""),
     )
+}
+
+fn trace(direction: Direction, lot: &[u8]) -> Result<Task, Fail> {
+    Ok(Task::Trace {
+        direction,
+        lot: Id::read(lot).ok_or("no id")?,
+    })
+}
+
+#[test]
+fn lots_that_are_there_are_traced_both_ways(rt: HostRuntime) -> Result<(), Fail> {
+    let forward = "lot D-1\nlot D-2\nlot D-3\nbatch B-1\n";
+    check_answered(&rt, &trace(Direction::Forward, b"F-1")?, forward)?;
+    let back = "lot D-1\nlot D-2\nlot F-1\nbatch B-1\n";
+    check_answered(&rt, &trace(Direction::Back, b"D-3")?, back)?;
+    check_answered(&rt, &trace(Direction::Back, b"F-1")?, "")
+}
+
+#[test]
+fn record_of_a_batch_that_is_there_is_printed(rt: HostRuntime) -> Result<(), Fail> {
+    let task = Task::Record {
+        batch: Id::read(b"B-1").ok_or("no id")?,
+    };
+    check_answered(&rt, &task, RECORD)
 }

@@ -1,10 +1,11 @@
 //! Tables of each schema, made by `create` and by a desk, are raised to each later one: at once, by a step, and over files that stop.
+use crate::commands::first_commands;
 use crate::stores::{
     FusedStore, InMemory, closed, desk_over, files_of, in_memory, opened, rows_of, run_ten,
     tables_of,
 };
 use plant_base::NEWEST_SCHEMA;
-use plant_desk::Keeper;
+use plant_desk::{Keeper, Reply};
 use plant_migrate::{RaiseFault, raise};
 use plant_tables::create;
 use sqlite::{Alter, Connection};
@@ -115,11 +116,11 @@ fn make_tables(connection: &mut Connection<sqlite::MemStore>, schema: u64) -> Re
     Ok(())
 }
 
-/// A store whose tables `create` made in this schema, with the row of meta that a new desk has.
-fn created(alloc: Global, schema: u64) -> Result<Connection<sqlite::MemStore>, Fail> {
+/// A store whose tables `create` made in this schema, with the row of meta of a desk that has accepted so many commands.
+fn created(alloc: Global, schema: u64, seq: u64) -> Result<Connection<sqlite::MemStore>, Fail> {
     let mut connection = in_memory(alloc)?;
     make_tables(&mut connection, schema)?;
-    let meta = format!(in alloc; "INSERT INTO meta VALUES (1, {schema}, 0, 0)")?;
+    let meta = format!(in alloc; "INSERT INTO meta VALUES (1, {schema}, {seq}, 0)")?;
     connection.execute_batch(meta.as_str())?;
     Ok(connection)
 }
@@ -127,11 +128,24 @@ fn created(alloc: Global, schema: u64) -> Result<Connection<sqlite::MemStore>, F
 #[test]
 fn created_tables_of_each_schema_are_raised_and_adopted(rt: HostRuntime) -> Result<(), Fail> {
     for schema in 1..=NEWEST_SCHEMA {
-        let mut connection = created(rt.alloc(), schema)?;
+        let mut connection = created(rt.alloc(), schema, 0)?;
         assert!(rt; raised(rt.alloc(), &mut connection, NEWEST_SCHEMA)? == Ok(()));
         check_tables(&rt, &mut connection, NEWEST_SCHEMA, "meta|1|4|0|0\n")?;
         let mut desk = run_ten(&rt, connection)?;
         assert!(rt; desk.verify() == Ok(None));
+    }
+    Ok(())
+}
+
+#[test]
+fn tables_of_millions_of_commands_are_raised_and_go_on(rt: HostRuntime) -> Result<(), Fail> {
+    let commands = first_commands(rt.alloc(), 1)?;
+    for schema in 1..=NEWEST_SCHEMA {
+        let mut connection = created(rt.alloc(), schema, 5_000_000)?;
+        assert!(rt; raised(rt.alloc(), &mut connection, NEWEST_SCHEMA)? == Ok(()));
+        check_tables(&rt, &mut connection, NEWEST_SCHEMA, "meta|1|4|5000000|0\n")?;
+        let report = desk_over(rt.alloc(), connection)?.run(&commands);
+        assert!(rt; report.replies.as_slice() == [Reply::Accepted(5_000_001)].as_slice());
     }
     Ok(())
 }

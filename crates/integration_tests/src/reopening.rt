@@ -1,8 +1,8 @@
 //! A store that is opened anew: it holds what its desk answered.
 use crate::commands::command_of;
 use crate::stores::{desk_over, in_memory, run_ten};
-use plant_desk::{Answer, Question, Reply};
-use plant_desk_store::{Desk, ask_with_outcome, execute_with_outcome};
+use plant_desk::{Answer, Checked, Question, Reply};
+use plant_desk_store::{Desk, ask_with_outcome, check_with_outcome, execute_with_outcome};
 use sql_queries::reopen;
 use sqlite::Alter;
 use std::process::Abort;
@@ -30,6 +30,7 @@ fn reopened_store_holds_what_was_answered(rt: HostRuntime) -> Result<(), Fail> {
     if desk.is_shut() {
         return Err(Fail::from("the desk is shut"));
     }
+    assert!(rt; check_with_outcome(&mut desk, &command)? == Checked::Accepted);
     assert!(rt; execute_with_outcome(&mut desk, &command)? == Reply::Accepted(11));
     assert_eq!(rt; accepted(&mut desk)?, 11);
     match reopen(rt.alloc(), desk.close()) {

@@ -1,10 +1,12 @@
-//! Traces over a source of edges that notes what it is asked, and stops or lies from some call on.
+//! Traces over a source of edges that notes what it is asked, and stops or lies from some call on; and the test for cycles.
 
 ghost use Rattle.std.specs.Prelude.{◌≡◌, ◌<◌, refl};
 ghost use Rattle.plant_trace.specs.HoldsIfHonest.{same_along};
 
 use plant_base::Id;
-use plant_trace::{Direction, Edges, Listed, Node, TraceFault, closure, closure_in_rounds};
+use plant_trace::{
+    Direction, Edges, Listed, Node, TraceFault, acyclic, closure, closure_in_rounds,
+};
 use std::alloc::Global;
 use std::test::Fail;
 
@@ -165,5 +167,14 @@ fn a_liar_is_listed_in_order(rt: HostRuntime) -> Result<(), Fail> {
     assert_eq!(rt; nodes, lots(alloc, &["A-1", "L-2", "L-3", "Z-1"])?);
     let slow = closure_in_rounds(alloc, &mut source, lot("L-1")?, Direction::Back)?;
     assert_eq!(rt; slow, lots(alloc, &["A-1", "Z-1"])?);
+    Ok(())
+}
+
+#[test]
+fn a_diamond_has_no_cycle_until_an_edge_closes_it(rt: HostRuntime) -> Result<(), Fail> {
+    let [a, b, c, d] = diamond()?;
+    assert!(rt; acyclic(rt.alloc(), &[a, b, c, d])?);
+    let closing = (lot("L-4")?, lot("L-1")?);
+    assert!(rt; !acyclic(rt.alloc(), &[a, b, c, d, closing])?);
     Ok(())
 }

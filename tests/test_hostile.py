@@ -103,6 +103,29 @@ class DamagedFiles(DamageTestCase):
             (1, sqlite.TO_SCHEMA_2 + "CREATE TABLE receipt (a INTEGER)"),
         ])
 
+    def test_command_is_listed_whole_only_where_its_receipt_begins_as_one_of_the_desk(self):
+        self.desk.run("init", "first.db")
+        sqlite.good_desk(self.folder / "first.db")
+        [[seq]] = sqlite.rows(self.folder / "first.db", "SELECT seq FROM receipt WHERE id = 'K-1'")
+        alone = '{"ref":"K-1","seq":%d}' % seq
+        for content, wanted in [
+            ("120\nben\nwet\nscrap\nF-1\n0\n20\n", '{"at":120,"by":"ben","do":"scrap","note":"wet","ref":"K-1","seq":%d}' % seq),
+            ("0\n\n\nphase_done\n", '{"at":0,"by":"","do":"phase_done","note":"","ref":"K-1","seq":%d}' % seq),
+            ("120\nben\nwet\nScrap\nF-1\n0\n20\n", alone),
+            ("120\nben\nwet\ndone\nB-1\n", alone),
+            ("120\nben\nwet\nscraps\n", alone),
+            ("120\nben\nwet\n\n", alone),
+            ("120\nben\nwet\n", alone),
+            ("0120\nben\nwet\nscrap\n", alone),
+            ("00\nben\nwet\nscrap\n", alone),
+            ("+120\nben\nwet\nscrap\n", alone),
+            ("253402300800\nben\nwet\nscrap\n", alone),
+            (f"120\n{'b' * 61}\nwet\nscrap\n", alone),
+        ]:
+            file = self.change(f"DELETE FROM receipt WHERE id <> 'K-1'; UPDATE receipt SET content = '{content}'")
+            answer = self.desk.run("run", file.name, told=b'{"ask":"commands"}\n')
+            self.check(repr(content), answer, (0, f'{{"commands":[{wanted}],"more":false}}\n'.encode(), b""))
+
     def check_changes(self, changes):
         """Changes a good desk by each of these statements, each with the first rule that it breaks, 0 for none."""
         self.desk.run("init", "first.db")

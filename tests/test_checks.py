@@ -28,7 +28,8 @@ MANY_FAULTS = "order,recipe,version,size,due,priority\n" + \
     "O-1,CAKE,1,500,2027-03-02,5\n" + \
     "O-1,CAKE,1,500,2027-03-01,5\n" + \
     f"O-1,{'x' * 70},1,500,2027-03-01,5\n" + \
-    "O-1,CAKE,2,500,2027-03-01,5\n"
+    "O-1,CAKE,2,500,2027-03-01,5\n" + \
+    "O-4,\"a'b\tc\\d\"\"e\x7f\n\",1,500,2027-03-01,5\n"
 THEIR_TEXTS = rb"""csv row 2 Order: order is not an id: 1 to 24 of A to Z, 0 to 9 and -, the first a letter; it is \xc3\x96-2
 csv row 2 Version: version is not a whole number from 1 to 999; it is 0
 csv row 2 Size: size is not a whole number from 1 to 1000000000000000; it is 12.5
@@ -36,6 +37,7 @@ csv row 2 Due: due is not a date like 2027-03-01, of the years 2000 to 2099; it 
 csv row 2 Priority: priority is not a whole number from 1 to 9
 csv row 3 Shape: the row hasn't six fields with commas between
 csv row 6 Recipe: recipe is not an id: 1 to 24 of A to Z, 0 to 9 and -, the first a letter; it is """ + b"x" * 60 + rb""" ..
+csv row 8 Recipe: recipe is not an id: 1 to 24 of A to Z, 0 to 9 and -, the first a letter; it is a\'b\tc\\d\"e\x7f\n
 csv row 4 OrderConflict: row 1 has the same order with other values
 csv row 7 OrderConflict: row 1 has the same order with other values
 """

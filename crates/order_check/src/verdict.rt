@@ -63,7 +63,8 @@ impl fmt::Display for Wrong {
 /// The most bytes of a field that are shown.
 const MOST_SHOWN: usize = 60;
 
-/// The text of a fault: what is wrong, and of a field also its text, with `\x..` for a byte that isn't printable ASCII.
+/// The text of a fault: what is wrong, and of a field that isn't empty also its first bytes, as C writes those that aren't printable ASCII,
+/// and ` ..` where there are more.
 #[derive(Clone, Copy)]
 pub(crate) struct FaultLine<'a>(pub(crate) &'a RowFault);
 

@@ -31,7 +31,7 @@ pub(crate) fn ready_line(schema: u64) -> ShortLine
     line
 }
 
-/// `valid schema N seq S`
+/// `good schema N seq S`
 pub(crate) fn good_line(schema: u64, seq: u64) -> ShortLine
     ensures { result.bytes ≡ spec.good_text schema seq }
 {

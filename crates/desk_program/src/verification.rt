@@ -24,7 +24,7 @@ use sqlite::{Alter, Connection};
 use std::alloc::Global;
 use std::io::Write;
 
-/// Prints `valid schema N seq S`: the schema of the keeper's tables, and how many commands it has accepted.
+/// Prints `good schema N seq S`: the schema of the keeper's tables, and how many commands it has accepted.
 fn write_good<W: Write, K: Keeper>(writer: &mut W, keeper: &mut K) -> Result<(), Fault>
     requires { K.shut keeper.old ≡ false }
     ensures same { IsSameDesk K.honest K.schema K.foreign_tables keeper.old keeper.new }
@@ -44,7 +44,7 @@ fn write_good<W: Write, K: Keeper>(writer: &mut W, keeper: &mut K) -> Result<(),
     print_line(writer, &good_line(at.schema, at.seq))
 }
 
-/// Does `verify FILE`: adopts the store, which tests all its tables, and prints `valid schema N seq S` and an LF, S being
+/// Does `verify FILE`: adopts the store, which tests all its tables, and prints `good schema N seq S` and an LF, S being
 /// the number of commands that were accepted.
 ///
 /// Nothing is printed before the store is adopted. A store that isn't adopted is given back with the fault of the adoption.

@@ -264,7 +264,7 @@ pub fn test_loaded(alloc: Global, loaded: &Loaded) -> Result<Findings, AllocErro
 /// What findings say, as laws that a proof above may cite. It does nothing when it runs.
 ///
 /// - `broken`: of rows whose values obey their rules each other rule is found exactly where they don't obey it.
-/// - `by_row`: and then with a row, but for numbers, descent, receipts and recalls.
+/// - `by_row`: and then with a row, but for numbers, descent and recalls.
 /// - `first`: the first rule that is found of loaded rows is the first that they break.
 /// - `unread`: no row is read of which a value breaks the rule of its column.
 pub fn findings_law()

@@ -88,6 +88,16 @@ def uses(module, names, width=118):
     return "\n".join(f"ghost use Rattle.{module}.{{{it}}};" for it in [*lines, row])
 
 
+def linked(items, width=118):
+    """A list in specs, in lines that are as full as they can be."""
+    lines = [""]
+    for item in [*items, "[]"]:
+        if lines[-1] and len(lines[-1]) + len(item) + 7 > width:
+            lines.append("")
+        lines[-1] += f"{' ∷ ' if lines[-1] else ''}{item}"
+    return "\n".join(f"    {'∷ ' if at else ''}{line}" for at, line in enumerate(lines))
+
+
 def choices(commands, test, value, last):
     """Tests of a word, one in the other, with what there is where none passes."""
     lines = [f"    if {filled(test, it)} then {filled(value, it)} else (" for it in commands]
@@ -266,8 +276,7 @@ def in_messages(commands, plain):
         *(Region(f"{texts}/specs/Plain.antt", f"the commands of {function}", each(group, lambda it: made_in_specs(it, function)))
           for function, group in groups),
         Region("plant_answers/src/commands.rt", "the words of commands", many(commands, '"$word" => true,')),
-        Region("plant_answers/specs/CommandHeads.antt", "the words of commands", "has_command word =\n" + choices(
-            commands, 'bytes_eq word (codes "$word")', "true", "false")),
+        Region("plant_answers/specs/CommandHeads.antt", "the words of commands", "command_words =\n" + linked(f'codes "{it.word}"' for it in commands)),
         Region("line_check/src/words.rt", "the words of commands", many(commands, '"$word",')),
         Region("line_check/specs/Words.antt", "the words of commands", "\n".join(
             f"place_of_command c.{it.kind} = {place}" for place, it in enumerate(commands))),

@@ -103,13 +103,19 @@ def reply_foretold(reply):
     return {"accepted": True} if "ok" in told else {"accepted": False, **told}
 
 
-def is_command(text):
-    """Returns whether a line is an object with the word of a command."""
+def object_in(text):
+    """Returns the object that a line is, or none."""
     try:
         value = json.loads(text)
     except ValueError:
-        return False
-    return isinstance(value, dict) and "do" in value
+        return None
+    return value if isinstance(value, dict) else None
+
+
+def checked_for(text, reason):
+    """Returns the reason of a check of a bad line, which has this one as a line: a question lacks `do`."""
+    members = object_in(text) or {}
+    return "member do is missing" if "ask" in members and "do" not in members else reason
 
 
 def checked_session(session):
@@ -228,7 +234,8 @@ class Answers(DeskTestCase):
         told = "".join(f"{it}\n" for it in bad).encode()
         self.check("bad lines", self.desk.run(told=told), (1, f"{BAD}\n".encode() * len(bad), b""))
         nested = '{"ask":"check","command":{"ask":"check","command":{}}}\n{"ask":"check","command":{}}\n'.encode()
-        wanted = f'{refused("BadForm", 1, reason="member at is missing")}\n'.encode() * 2
+        reasons = ["member do is missing", "neither do nor ask is there"]
+        wanted = "".join(f'{refused("BadForm", 1, reason=it)}\n' for it in reasons).encode()
         self.check("checks of no command", self.desk.run(told=nested), (0, wanted, b""))
 
     def test_last_command_of_two_is_checked(self):
@@ -238,6 +245,8 @@ class Answers(DeskTestCase):
 
 class Requests(DeskTestCase):
     """`/v1/check`, as other requests are answered."""
+
+    PROGRAMS = ("desk", "line_check")
 
     def test_methods_lengths_and_bodies_are_judged_as_those_of_commands(self):
         body = line(GOODS[0]).strip()
@@ -287,12 +296,24 @@ class Requests(DeskTestCase):
         bad = [(text, reasons[b"line %d" % number].decode()) for number, text in enumerate(lines, 1) if b"line %d" % number in reasons]
         with Server(self.desk, ":memory:", len(bad)) as server:
             for text, reason in bad:
-                self.check(text[:80], server.answered(posted("/v1/check", text)), answer(refused("BadForm", 1, reason=reason)))
-        commands = [(text, reason) for text, reason in bad if is_command(text)]
-        told = b"".join(check_line(text) for text, _ in commands)
-        wanted = "".join(refused("BadForm", 1, reason=it) + "\n" for _, it in commands).encode()
+                wanted = answer(refused("BadForm", 1, reason=checked_for(text, reason)))
+                self.check(text[:80], server.answered(posted("/v1/check", text)), wanted)
+        objects = [(text, checked_for(text, reason)) for text, reason in bad if object_in(text) is not None]
+        told = b"".join(check_line(text) for text, _ in objects)
+        wanted = "".join(refused("BadForm", 1, reason=it) + "\n" for _, it in objects).encode()
         self.check("by lines", self.desk.run(told=told), (0, wanted, b""))
-        self.check_true("many reasons", len(commands) > 20)
+        self.check_true("many reasons", len(objects) > 20)
+
+    def test_object_without_a_word_has_one_reason_by_lines_over_http_and_of_line_check(self):
+        objects = [b"{}", b'{"at":1}', b'{"at":1,"by":"anna"}', b'{"lot":"F-1"}']
+        reason = "neither do nor ask is there"
+        with Server(self.desk, ":memory:", len(objects)) as server:
+            for text in objects:
+                self.check(text, server.answered(posted("/v1/check", text)), answer(refused("BadForm", 1, reason=reason)))
+        wanted = f'{refused("BadForm", 1, reason=reason)}\n'.encode() * len(objects)
+        self.check("by lines", self.desk.run(told=b"".join(map(check_line, objects))), (0, wanted, b""))
+        lines = "".join(f"line {number}: {reason}\n" for number, _ in enumerate(objects, 1)).encode()
+        self.check("line_check", program.Program("line_check", self.folder).run(told=b"\n".join(objects)), (1, lines, b""))
 
 
 class LineCheck(ProgramTestCase):

@@ -1,19 +1,28 @@
 -- What bodies ask for, and that an input asks for one thing.
 use Rattle.std.proofs.Common.{◌≡◌, ℕ, Bool, true, false, List, [], drop, take, Option, Some, None, Result, Ok, Err, refl, sym, ap, ◌∙◌, nat_lt, IfOk, IsErrOf, ◌↔◌, MatchBool}
+use Rattle.std.specs.Prelude.{◌∷◌, codes, if◌then◌else◌, is_some}
 use Rattle.std.specs.Result.{result_ok}
+use Rattle.serde_json.specs.Data.{Data}
+use Rattle.serde_json.specs.Find.{as_object, get}
 use Rattle.httparse.specs.Grammar.{RequestHead}
 use Rattle.httparse.proofs.GrammarLemmas.{request_unique}
 use Rattle.plant_base.specs.{Envelope, OrderRow}
 use Rattle.plant_orders.specs.{FailsAs, CsvFault, CsvKind, ImportMetadata}
 use Rattle.plant_orders.specs.declared.fault.CsvKind.TheVariants as csv
-use Rattle.plant_text.specs.{Line, line_says}
+use Rattle.plant_messages.specs.{Question}
+use Rattle.plant_text.specs.{asked_by, asked_of, checked_by, kind_at, Line, line_says, object_says, question_of, text_checked, value_in, value_says}
 use Rattle.plant_text.specs.declared.LineFault.{LineFault}
 use Rattle.plant_text.specs.declared.read.Line.TheVariants as L
 use Rattle.plant_text.specs.declared.LineFault.TheVariants as line
 use Rattle.plant_http_requests.specs.declared.reading.HeadEnd.{HeadEnd}
 use Rattle.plant_http_requests.specs.declared.reading.HeadEnd.TheVariants as end
-use Rattle.plant_http_requests.specs.{end_of_head, field_lines, Parsed, fails, command_job, command_of, check_job, file_job, fault_job_of, body_job, is_of_body, Reads, EndJob, JobOf, parsed_step, finish}
-use Rattle.plant_message_schema.specs.{FormatError}
+use Rattle.plant_http_requests.specs.{end_of_head, field_lines, Parsed, fails, command_job, command_of, file_job, fault_job_of, body_job, is_of_body, Reads, EndJob, JobOf, parsed_step, finish}
+use Rattle.plant_message_schema.specs.{AskedKind, Field, fields_of, FormatError, ShapeError, ◌>>=◌, object}
+use Rattle.plant_message_schema.specs.declared.format_errors.FormatError.TheVariants as format_error
+use Rattle.plant_message_schema.specs.declared.format_errors.ShapeError.TheVariants as shape_error
+use Rattle.plant_message_schema.specs.declared.members.Member.TheVariants as m
+use Rattle.plant_message_schema.specs.declared.words.AskedKind.TheVariants as asked
+use Rattle.plant_text_commands.specs.{check_of, checked_as, command_among, command_of as command_of_value, ToCheck}
 use Rattle.plant_text_commands.specs.declared.checks.ToCheck.TheVariants as to_check
 use Rattle.plant_http_requests.specs.declared.job.Content.TheVariants as content
 use Rattle.plant_http_requests.specs.declared.job.Job.{Job}
@@ -49,14 +58,54 @@ fault_reads _ e import_metadata read h = ap (file_job import_metadata) (sym h)
 
 -- ---- a body is checked as it is executed
 
-said_so : (said : Result Line FormatError) (e : Envelope) → (command_job (result_ok said) ≡ J.Command e) ↔ (check_job said ≡ J.Check (to_check.Command e))
-said_so (Ok (L.Command c)) e = (λ h. cc, λ h. cc)
-said_so (Ok (L.Question q)) e = (λ h. absurd (cc), λ h. absurd (cc))
-said_so (Ok (L.Check c)) e = (λ h. absurd (cc), λ h. absurd (cc))
-said_so (Err p) e = (λ h. absurd (cc), λ h. absurd (cc))
+-- a line and what is to be checked of it are the same command, or neither is one
+abbrev Same : Option Line → ToCheck → Envelope → Type 0
+Same o t e = (command_job o ≡ J.Command e) ↔ (J.Check t ≡ J.Check (to_check.Command e))
+
+no_command : (o : Option Line) (p : FormatError) (e : Envelope) → command_job o ≡ J.BadForm → Same o (to_check.BadForm p) e
+no_command o p e bad = (λ h. absurd (cc), λ h. absurd (cc))
+
+command_alike : (r : Result Envelope FormatError) (e : Envelope) → Same (result_ok (r >>= (λ c. Ok (L.Command c)))) (checked_as r) e
+command_alike (Ok c) e = (λ h. cc, λ h. cc)
+command_alike (Err p) e = no_command None p e refl
+
+no_word : (r : Result (List Field) ShapeError) → command_job (result_ok (object (r >>= (λ fs. Err shape_error.Malformed)))) ≡ J.BadForm
+no_word (Ok fs) = refl
+no_word (Err f) = refl
+
+no_check : (r : Result ToCheck FormatError) → command_job (result_ok (r >>= (λ c. Ok (L.Check c)))) ≡ J.BadForm
+no_check (Ok c) = refl
+no_check (Err p) = refl
+
+no_question : (r : Result Question FormatError) → command_job (result_ok (r >>= (λ q. Ok (L.Question q)))) ≡ J.BadForm
+no_question (Ok q) = refl
+no_question (Err p) = refl
+
+asked_is_none : (kind : Option AskedKind) (d : Data) → command_job (result_ok (asked_by kind d)) ≡ J.BadForm
+asked_is_none None d = no_word (fields_of (m.Ask ∷ []) d)
+asked_is_none (Some asked.Check) d = no_check (check_of d)
+asked_is_none (Some (asked.Question kind)) d = no_question (question_of kind d)
+
+by_words : (has_do has_ask : Bool) (d : Data) (e : Envelope)
+    → Same (result_ok (if has_do then command_of_value d >>= (λ c. Ok (L.Command c)) else (if has_ask then asked_of d else Err format_error.Neither)))
+    (checked_as (if has_do then command_of_value d else (if has_ask then Err (format_error.Object (shape_error.Missing m.Do)) else Err format_error.Neither))) e
+by_words true has_ask d e = command_alike (command_of_value d) e
+by_words false true d e = no_command (result_ok (asked_of d)) (format_error.Object (shape_error.Missing m.Do)) e (asked_is_none (kind_at d) d)
+by_words false false d e = no_command None format_error.Neither e refl
+
+by_object : (is_object : Bool) (d : Data) (e : Envelope)
+    → Same (result_ok (if is_object then object_says d else Err (format_error.Object shape_error.NoObject)))
+    (checked_as (if is_object then command_among d else Err (format_error.Object shape_error.NoObject))) e
+by_object true d e = by_words (is_some (get (codes "do") d)) (is_some (get (codes "ask") d)) d e
+by_object false d e = no_command None (format_error.Object shape_error.NoObject) e refl
+
+by_reading : (r : Result Data FormatError) (e : Envelope) → Same (result_ok (r >>= value_says)) (checked_by r) e
+by_reading (Ok d) e = by_object (is_some (as_object d)) d e
+by_reading (Err p) e = no_command None p e refl
 
 pub checked_as_executed : (body : List ℕ) (e : Envelope) → (body_job content.Command body ≡ J.Command e) ↔ (body_job content.Check body ≡ J.Check (to_check.Command e))
-checked_as_executed body e = said_so (line_says body) e
+unfolding line_says text_checked
+checked_as_executed body e = by_reading (value_in body) e
 
 -- ---- an input asks for one thing
 

@@ -5,13 +5,7 @@ use Rattle.httparse.specs.Spans.{name_and_value}
 use Rattle.plant_base.specs.{OrderRow}
 use Rattle.plant_orders.specs.{import, orders_of, CsvFault, CsvKind, ImportMetadata}
 use Rattle.plant_orders.specs.declared.fault.CsvKind.TheVariants as csv
-use Rattle.plant_message_schema.specs.declared.members.Member.TheVariants as m
-use Rattle.plant_message_schema.specs.{FormatError}
-use Rattle.plant_message_schema.specs.declared.format_errors.FormatError.TheVariants as format_error
-use Rattle.plant_message_schema.specs.declared.format_errors.ShapeError.TheVariants as shape_error
-use Rattle.plant_text_commands.specs.{ToCheck}
-use Rattle.plant_text_commands.specs.declared.checks.ToCheck.TheVariants as to_check
-use Rattle.plant_text.specs.{line_of, line_says, Line}
+use Rattle.plant_text.specs.{line_of, text_checked, Line}
 use Rattle.plant_text.specs.declared.LineFault.{LineFault}
 use Rattle.plant_text.specs.declared.read.Line.TheVariants as L
 use Rattle.plant_text.specs.declared.LineFault.TheVariants as line
@@ -50,16 +44,6 @@ command_of (Ok (L.Check c)) = BadForm
 command_of (Err line.BadForm) = BadForm
 command_of (Err line.Memory) = MemoryError
 
--- what is to be checked of a body that says this as a line; a question or a check lacks the word of a command
-abbrev pub checked_as : Result Line FormatError → ToCheck
-checked_as (Ok (L.Command e)) = to_check.Command e
-checked_as (Ok (L.Question q)) = to_check.BadForm (format_error.Object (shape_error.Missing m.Do))
-checked_as (Ok (L.Check c)) = to_check.BadForm (format_error.Object (shape_error.Missing m.Do))
-checked_as (Err p) = to_check.BadForm p
-
-abbrev pub check_job : Result Line FormatError → Job
-check_job said = Check (checked_as said)
-
 abbrev pub file_job : ImportMetadata → Result (List OrderRow) CsvFault → Job
 file_job import_metadata (Ok orders) = Command (import import_metadata orders)
 file_job import_metadata (Err fault) = BadFile fault
@@ -75,7 +59,7 @@ fault_job fault = fault_job_of fault.kind fault
 -- what a whole body asks for; the fields of an order file come before its text
 abbrev pub body_job : Content → List ℕ → Job
 body_job content.Command body = command_job (line_of body)
-body_job content.Check body = check_job (line_says body)
+body_job content.Check body = Check (text_checked body)
 body_job (content.Orders None) body = refusal_of BadRequest false
 body_job (content.Orders (Some import_metadata)) body = file_job import_metadata (orders_of body)
 

@@ -14,7 +14,7 @@ pub use Fields.{count_named, value_named}
 pub use Origins.{is_further_host}
 pub use Heads.{Parsed, field_lines}
 pub use Steps.{fails, refusal_of}
-pub use Jobs.{AsksFor, EndJob, HeadAsksFor, HeadJob, JobOf, Reads, ReadsSome, StepOf, body_job, check_job, command_job, command_of, fault_job_of, file_job, finish, is_of_body, most_reads, parsed_step}
+pub use Jobs.{AsksFor, EndJob, HeadAsksFor, HeadJob, JobOf, Reads, ReadsSome, StepOf, body_job, command_job, command_of, fault_job_of, file_job, finish, is_of_body, most_reads, parsed_step}
 pub use declared.job.BodyFormat.{BodyFormat}
 pub use declared.job.Job.{Job}
 pub use declared.profile.Profile.{Profile}

@@ -1,16 +1,16 @@
 //! What a body asks for.
-ghost use Rattle.std.specs.Prelude.{◌≡◌, Ok, Some, None, IfSome};
+ghost use Rattle.std.specs.Prelude.{◌≡◌};
 ghost use Rattle.plant_orders.specs.{orders_of};
-ghost use Rattle.plant_text.specs.{line_of, line_says};
-ghost use Rattle.plant_http_requests.specs.Jobs.{command_job, command_of, checked_as, check_job};
+ghost use Rattle.plant_text.specs.{line_of};
+ghost use Rattle.plant_http_requests.specs.declared.job.Content.TheVariants as content;
+ghost use Rattle.plant_http_requests.specs.Jobs.{command_job, command_of};
 ghost use Rattle.plant_http_requests.specs.Jobs.{file_job, fault_job, body_job, Reads};
 
 use crate::job::{Content, Job};
 use crate::status::Status;
 use crate::steps::refusal_of;
-use plant_message_schema::{Member, ShapeError};
 use plant_orders::{CsvFault, CsvKind, ImportMetadata, import, read_orders};
-use plant_text::{Fault, FormatError, Line, LineFault, ToCheck, read_line, read_line_or_error};
+use plant_text::{Line, LineFault, read_line, read_to_check};
 use std::alloc::Global;
 
 /// What a body asks for that was read as a line. A question or a check is no command.
@@ -31,25 +31,12 @@ fn command_job(alloc: Global, body: &[u8]) -> Job
     command_of(read_line(alloc, body))
 }
 
-/// What is to be checked where this was read as a line. A question or a check lacks the word of a command.
-fn checked_as(line: Line) -> ToCheck
-    ensures { result ≡ checked_as (Ok line) }
-{
-    match line {
-        Line::Command(envelope) => ToCheck::Command(envelope),
-        Line::Question(_) | Line::Check(_) => {
-            ToCheck::BadForm(FormatError::Object(ShapeError::Missing(Member::Do)))
-        }
-    }
-}
-
 fn check_job(alloc: Global, body: &[u8]) -> Job
-    ensures { Reads result (check_job (line_says body.now)) }
+    ensures { Reads result (body_job content.Check body.now) }
 {
-    match read_line_or_error(alloc, body) {
-        Ok(line) => Job::Check(checked_as(line)),
-        Err(Fault::Reported(format_error)) => Job::Check(ToCheck::BadForm(format_error)),
-        Err(Fault::Memory) => Job::MemoryError,
+    match read_to_check(alloc, body) {
+        Ok(to_check) => Job::Check(to_check),
+        Err(_) => Job::MemoryError,
     }
 }
 

@@ -23,32 +23,57 @@ use Rattle.plant_message_schema.specs.declared.format_errors.ShapeError.TheVaria
 use Rattle.plant_message_schema.specs.declared.format_errors.FormatError.TheVariants as format_error
 use Rattle.plant_message_schema.specs.declared.format_errors.Fault.TheVariants as fault
 use Rattle.plant_message_schema.proofs.FieldsAreTyped.{Good, valid_bind, valid_map, good_object, exactly_typed, only_fails, ask_fails}
-use Rattle.plant_text_commands.specs.{check_of}
+use Rattle.plant_text_commands.specs.{check_of, checked_in}
 use Rattle.plant_text_commands.proofs.ChecksAreTyped.{check_valid}
-use Rattle.plant_text.specs.{kind_at, asked_by, asked_of, value_says, longest_line, text_says, line_says, line_of, asked_alone, one_id, id_named, node_named, recipe_in, recipe_asked, page_asked, whole_asked, recipes_asked, due_asked, ledger_asked, list_in, list_asked, question_of}
+use Rattle.plant_text.specs.{kind_at, asked_by, asked_of, value_says, checked_by, IsProblemOf, longest_line, or_no_json, line_says, line_of, text_checked, value_in, asked_alone, one_id, id_named, node_named, recipe_in, recipe_asked, page_asked, whole_asked, recipes_asked, due_asked, ledger_asked, list_in, list_asked, question_of}
 use Rattle.plant_text.specs.declared.read.Line.{Line}
 
-pub at_value : (bytes : List ℕ) (d : Data) → length bytes ≤ longest_line → IsUtf8 bytes → read bytes ≡ Some d → line_says bytes ≡ value_says d
-unfolding line_says
+pub at_value : (bytes : List ℕ) (d : Data) → length bytes ≤ longest_line → IsUtf8 bytes → read bytes ≡ Some d → value_in bytes ≡ Ok d
+unfolding value_in
 at_value bytes d l u e =
     let short : nat_lt longest_line (length bytes) ≡ false = grind (arith, nat_tests) in
     rw (short, is_utf8-from_IsUtf8 bytes u, e) refl
 
-pub says_long : (bytes : List ℕ) → longest_line < length bytes → line_says bytes ≡ Err format_error.TooLong
-unfolding line_says
-says_long bytes h =
+pub too_long : (bytes : List ℕ) → longest_line < length bytes → value_in bytes ≡ Err format_error.TooLong
+unfolding value_in
+too_long bytes h =
     let long : nat_lt longest_line (length bytes) ≡ true = grind (arith, nat_tests) in
     rw long refl
 
-by_case : (b : Bool) (o : Option Data) → (b ≡ true → o ≡ None) → text_says (cond b o None) ≡ Err format_error.NoJson
-by_case true o h = ap text_says (h refl)
+by_case : (b : Bool) (o : Option Data) → (b ≡ true → o ≡ None) → or_no_json (cond b o None) ≡ Err format_error.NoJson
+by_case true o h = ap or_no_json (h refl)
 by_case false o h = refl
 
-pub at_refusal : (bytes : List ℕ) → length bytes ≤ longest_line → (IsUtf8 bytes → read bytes ≡ None) → line_says bytes ≡ Err format_error.NoJson
-unfolding line_says
+pub at_refusal : (bytes : List ℕ) → length bytes ≤ longest_line → (IsUtf8 bytes → read bytes ≡ None) → value_in bytes ≡ Err format_error.NoJson
+unfolding value_in
 at_refusal bytes l h =
     let short : nat_lt longest_line (length bytes) ≡ false = grind (arith, nat_tests) in
     rw short (by_case (is_utf8 bytes) (read bytes) (λ u. h (IsUtf8-from_is_utf8 bytes u)))
+
+-- ---- what a text with this value, or this problem, says and asks to check
+
+pub says_value : (bytes : List ℕ) (d : Data) → value_in bytes ≡ Ok d → line_says bytes ≡ value_says d
+unfolding line_says
+says_value bytes d e = rw e refl
+
+pub says_problem : (bytes : List ℕ) (p : FormatError) → value_in bytes ≡ Err p → line_says bytes ≡ Err p
+unfolding line_says
+says_problem bytes p e = rw e refl
+
+pub says_long : (bytes : List ℕ) → longest_line < length bytes → line_says bytes ≡ Err format_error.TooLong
+says_long bytes h = says_problem bytes format_error.TooLong (too_long bytes h)
+
+pub problem_reported : (f : Fault) (bytes : List ℕ) → IsProblemOf f (value_in bytes) → Reports {T = Line} (Err f) (line_says bytes)
+problem_reported (fault.Reported p) bytes e = says_problem bytes p e
+problem_reported fault.Memory bytes e = tt
+
+pub checks_value : (bytes : List ℕ) (d : Data) → value_in bytes ≡ Ok d → text_checked bytes ≡ checked_in d
+unfolding text_checked
+checks_value bytes d e = rw e refl
+
+pub checks_reading : (bytes : List ℕ) → text_checked bytes ≡ checked_by (value_in bytes)
+unfolding text_checked
+checks_reading bytes = refl
 
 pub line_long : (bytes : List ℕ) → longest_line < length bytes → line_of bytes ≡ None
 line_long bytes h = ap result_ok (says_long bytes h)

@@ -1,16 +1,18 @@
 -- What a line says, and what is wrong with one that says nothing.
-use Rattle.std.specs.Prelude.{ℕ, List, [], ◌∷◌, length, nat_lt, if◌then◌else◌, codes, Option, Some, None, option_and_then, is_some, Result, Ok, Err}
+use Rattle.std.specs.Prelude.{◌≡◌, ⊤, ℕ, List, [], ◌∷◌, length, nat_lt, if◌then◌else◌, codes, Option, Some, None, option_and_then, is_some, Result, Ok, Err}
 use Rattle.std.specs.Result.{result_ok}
 use Rattle.std.specs.Str.{is_utf8}
 use Rattle.serde_json.specs.Data.{Data}
 use Rattle.serde_json.specs.Find.{get, as_object, as_str}
 use Rattle.serde_json.specs.Read.{read}
 use Rattle.plant_message_schema.specs.declared.format_errors.ShapeError.TheVariants as shape_error
-use Rattle.plant_message_schema.specs.{AskedKind, FormatError, asked_kind, fields_of, ◌>>=◌, object}
+use Rattle.plant_message_schema.specs.{AskedKind, Fault, FormatError, asked_kind, fields_of, ◌>>=◌, object}
+use Rattle.plant_message_schema.specs.declared.format_errors.Fault.TheVariants as fault
 use Rattle.plant_message_schema.specs.declared.format_errors.FormatError.TheVariants as format_error
 use Rattle.plant_message_schema.specs.declared.members.Member.TheVariants as m
 use Rattle.plant_message_schema.specs.declared.words.AskedKind.TheVariants as asked
-use Rattle.plant_text_commands.specs.{check_of, command_of}
+use Rattle.plant_text_commands.specs.{check_of, checked_in, command_of, ToCheck}
+use Rattle.plant_text_commands.specs.declared.checks.ToCheck.TheVariants as to_check
 use Rattle.plant_text.specs.declared.read.Line.{Line}
 use Rattle.plant_text.specs.declared.read.Line.TheVariants as L
 use Rattle.plant_text.specs.Questions.{question_of}
@@ -44,15 +46,33 @@ value_says d = if is_some (as_object d) then object_says d else Err (format_erro
 abbrev pub longest_line : ℕ
 longest_line = 262144
 
--- by what serde_json reads from a text
-abbrev pub text_says : Option Data → Result Line FormatError
-text_says None = Err format_error.NoJson
-text_says (Some d) = value_says d
+-- the JSON value of a text, where it has one
+abbrev pub or_no_json : Option Data → Result Data FormatError
+or_no_json None = Err format_error.NoJson
+or_no_json (Some d) = Ok d
 
--- what a line says, which is a text in UTF-8, or its first problem
+-- what serde_json reads from a text in UTF-8 that is no longer than a line may be
+unfoldable pub value_in : List ℕ → Result Data FormatError
+value_in bytes = if nat_lt longest_line (length bytes) then Err format_error.TooLong else or_no_json (if is_utf8 bytes then read bytes else None)
+
+-- the problem that a text has, want of memory aside
+abbrev pub IsProblemOf : Fault → Result Data FormatError → Type 0
+IsProblemOf (fault.Reported p) r = r ≡ Err p
+IsProblemOf fault.Memory r = ⊤
+
+-- what a line says, or its first problem
 unfoldable pub line_says : List ℕ → Result Line FormatError
-line_says bytes = if nat_lt longest_line (length bytes) then Err format_error.TooLong else text_says (if is_utf8 bytes then read bytes else None)
+line_says bytes = value_in bytes >>= value_says
 
 -- what a line says; one that has a problem says nothing
 abbrev pub line_of : List ℕ → Option Line
 line_of bytes = result_ok (line_says bytes)
+
+-- what is to be checked where a text has this value, or this problem
+abbrev pub checked_by : Result Data FormatError → ToCheck
+checked_by (Ok d) = checked_in d
+checked_by (Err p) = to_check.BadForm p
+
+-- what is to be checked of a text in the place of a command
+unfoldable pub text_checked : List ℕ → ToCheck
+text_checked bytes = checked_by (value_in bytes)

@@ -16,7 +16,7 @@ pub use plant_record::record;
 pub use plant_text_answers::{ReplyText, answer_text, fault_line, reply_line};
 pub use plant_text_checks::{CheckAnswer, check_text};
 pub use plant_text_commands::ToCheck;
-pub use read::{Line, read_line, read_line_or_error};
+pub use read::{Line, read_line, read_line_or_error, read_to_check};
 pub use run::{RunEnd, run_lines, run_lines_within};
 pub use turns::{TurnError, is_unknown, take_command, write_fault};
 pub use writes::{WriteError, write_both, write_line, write_text};

@@ -1,11 +1,14 @@
 //! What a line says, or what is wrong with it.
-ghost use Rattle.std.specs.Prelude.{◌≡◌, ◌<◌, length, true, false, Some, None, Err, IfOk, IsErrOf};
+ghost use Rattle.std.specs.Prelude.{◌≡◌, ◌<◌, length, true, false, Result, Some, None, Ok, Err, IfOk};
+ghost use Rattle.std.specs.Prelude.{IfErr, IsErrOf};
+ghost use Rattle.serde_json.specs.Data.{Data};
 ghost use Rattle.serde_json.specs.Errors.{IsMemory};
 ghost use Rattle.serde_json.specs.View.{view};
-ghost use Rattle.plant_message_schema.specs.{Reports, IsReported};
+ghost use Rattle.plant_message_schema.specs.{FormatError as Problem, IsReported, Reports};
 ghost use Rattle.plant_message_schema.specs.declared.format_errors.FormatError.TheVariants as format_error;
 ghost use Rattle.plant_text.specs.Lines.{longest_line, kind_at, asked_of, object_says, value_says};
-ghost use Rattle.plant_text.specs.Lines.{line_says, line_of};
+ghost use Rattle.plant_text.specs.Lines.{IsProblemOf, checked_by, line_says, line_of};
+ghost use Rattle.plant_text.specs.Lines.{text_checked, value_in};
 
 use crate::questions::question_of;
 use plant_base::Envelope;
@@ -13,7 +16,7 @@ use plant_message_schema::{
     AskedKind, Fault, FormatError, LineFault, Member, ShapeError, asked_kind, fields_of,
 };
 use plant_messages::Question;
-use plant_text_commands::{ToCheck, check_of, command_of};
+use plant_text_commands::{ToCheck, check_of, command_of, to_check_of};
 use serde_json::Value;
 use std::alloc::Global;
 
@@ -101,6 +104,28 @@ fn value_says(alloc: Global, value: &Value) -> Result<Line, Fault>
 /// The bytes of the longest line that is read, its LF and the one CR before it not counted.
 const LONGEST_LINE: usize = 262_144;
 
+/// The JSON value of a text (RFC 8259) of 262,144 bytes at most, in UTF-8, as serde_json reads it; or why it has none.
+fn value_of(alloc: Global, bytes: &[u8]) -> Result<Value, Fault>
+    ensures value { IfOk result (λ value. value_in bytes.now ≡ Ok (view value)) }
+    ensures problem { IfErr result (λ fault. IsProblemOf fault (value_in bytes.now)) }
+    ensures reported { IsReported result }
+    ensures long { longest_line < length bytes.now → IsErrOf result (Fault.Reported format_error.TooLong) }
+{
+    if bytes.len() > LONGEST_LINE {
+        return Err(Fault::Reported(FormatError::TooLong));
+    }
+    match Value::from_slice(alloc, bytes) {
+        Ok(value) => Ok(value),
+        Err(error) => {
+            if is_refusal(&error) {
+                Err(Fault::Reported(FormatError::NoJson))
+            } else {
+                Err(Fault::Memory)
+            }
+        }
+    }
+}
+
 /// Reads a line, which is given without its LF: what it says, or what is wrong with it.
 ///
 /// The line is a JSON text (RFC 8259) of 262,144 bytes at most, in UTF-8, as serde_json reads it; of members with one name the last
@@ -120,18 +145,9 @@ pub fn read_line_or_error(alloc: Global, bytes: &[u8]) -> Result<Line, Fault>
     ensures reported { IsReported result }
     ensures long { longest_line < length bytes.now → IsErrOf result (Fault.Reported format_error.TooLong) }
 {
-    if bytes.len() > LONGEST_LINE {
-        return Err(Fault::Reported(FormatError::TooLong));
-    }
-    match Value::from_slice(alloc, bytes) {
+    match value_of(alloc, bytes) {
         Ok(value) => value_says(alloc, &value),
-        Err(error) => {
-            if is_refusal(&error) {
-                Err(Fault::Reported(FormatError::NoJson))
-            } else {
-                Err(Fault::Memory)
-            }
-        }
+        Err(fault) => Err(fault),
     }
 }
 
@@ -147,5 +163,28 @@ pub fn read_line(alloc: Global, bytes: &[u8]) -> Result<Line, LineFault>
         Ok(line) => Ok(line),
         Err(Fault::Reported(_)) => Err(LineFault::BadForm),
         Err(Fault::Memory) => Err(LineFault::Memory),
+    }
+}
+
+/// What is to be checked of a text that has this problem. The only error is `Memory`, of which nothing is said.
+fn without_value(fault: Fault) -> Result<ToCheck, Fault>
+    ensures { (read : Result Data Problem) → IsProblemOf fault read → Reports result (Ok (checked_by read)) }
+{
+    match fault {
+        Fault::Reported(format_error) => Ok(ToCheck::BadForm(format_error)),
+        Fault::Memory => Err(Fault::Memory),
+    }
+}
+
+/// Reads a text in the place of a command: what is to be checked, or what is wrong with it, in the words that [`read_line_or_error`] has of
+/// a line; of an object with `ask` and without `do` that `do` is missing.
+///
+/// The only error is `Memory`: memory was refused. It may come for any text of 262,144 bytes at most.
+pub fn read_to_check(alloc: Global, bytes: &[u8]) -> Result<ToCheck, Fault>
+    ensures { Reports result (Ok (text_checked bytes.now)) }
+{
+    match value_of(alloc, bytes) {
+        Ok(value) => to_check_of(alloc, &value),
+        Err(fault) => without_value(fault),
     }
 }

@@ -2,8 +2,8 @@
 ghost use Rattle.std.specs.Prelude.{◌≡◌, true, Ok, IfOk};
 ghost use Rattle.serde_json.specs.View.{view};
 ghost use Rattle.plant_message_schema.specs.{Reports, IsReported};
-ghost use Rattle.plant_text_commands.specs.Commands.{command_of};
-ghost use Rattle.plant_text_commands.specs.Checks.{checked_as, check_of, has_reason};
+ghost use Rattle.plant_text_commands.specs.Checks.{command_among, command_in, checked_in};
+ghost use Rattle.plant_text_commands.specs.Checks.{check_of, has_reason};
 
 use crate::commands::command_of;
 use plant_base::Envelope;
@@ -22,15 +22,48 @@ pub enum ToCheck {
     BadForm(FormatError),
 }
 
-/// The command that an object is, or why it is none.
-fn checked_as(alloc: Global, value: &Value) -> Result<ToCheck, Fault>
-    ensures { Reports result (Ok (checked_as (command_of (view value.now)))) }
+/// The command that an object with `do` is, or its first problem; a question and a check lack `do`.
+fn command_among(alloc: Global, value: &Value) -> Result<Envelope, Fault>
+    ensures { Reports result (command_among (view value.now)) }
 {
-    match command_of(alloc, value) {
+    if value.get("do").is_some() {
+        command_of(alloc, value)
+    } else if value.get("ask").is_some() {
+        Err(Fault::Reported(FormatError::Object(ShapeError::Missing(Member::Do))))
+    } else {
+        Err(Fault::Reported(FormatError::Neither))
+    }
+}
+
+fn command_in(alloc: Global, value: &Value) -> Result<Envelope, Fault>
+    ensures { Reports result (command_in (view value.now)) }
+{
+    if value.as_object().is_some() {
+        command_among(alloc, value)
+    } else {
+        Err(Fault::Reported(FormatError::Object(ShapeError::NoObject)))
+    }
+}
+
+fn checked_as(alloc: Global, value: &Value) -> Result<ToCheck, Fault>
+    ensures { Reports result (Ok (checked_in (view value.now))) }
+{
+    match command_in(alloc, value) {
         Ok(envelope) => Ok(ToCheck::Command(envelope)),
         Err(Fault::Reported(format_error)) => Ok(ToCheck::BadForm(format_error)),
         Err(Fault::Memory) => Err(Fault::Memory),
     }
+}
+
+/// What is to be checked where a value is given for a command: the command that it is, or the first thing that is wrong with it, which has
+/// a text of its own. A question and a check lack `do`.
+///
+/// The only error is `Memory`: memory was refused while the command's list was read. Nothing is said of the value.
+pub fn to_check_of(alloc: Global, value: &Value) -> Result<ToCheck, Fault>
+    ensures reads { Reports result (Ok (checked_in (view value.now))) }
+    ensures reason { IfOk result (λ checked. has_reason checked ≡ true) }
+{
+    checked_as(alloc, value)
 }
 
 fn read_check(alloc: Global, value: &Value) -> Result<ToCheck, Fault>
@@ -38,7 +71,7 @@ fn read_check(alloc: Global, value: &Value) -> Result<ToCheck, Fault>
 {
     object(exactly(value, check_members()))?;
     match value.get(Member::Command.name()) {
-        Some(command) => checked_as(alloc, command),
+        Some(command) => to_check_of(alloc, command),
         None => Err(Fault::Reported(FormatError::Object(ShapeError::Missing(Member::Command)))),
     }
 }

@@ -8,5 +8,5 @@ mod listing;
 mod lists;
 mod plain;
 
-pub use checks::{ToCheck, check_of};
+pub use checks::{ToCheck, check_of, to_check_of};
 pub use commands::command_of;

@@ -13,6 +13,7 @@ import subprocess
 
 from tests.support import faults
 from tests.support.cases import DeskTestCase, good
+from tests.support.program import wait_for
 
 STORE = (3, b"", b"fault: store\n")
 READY = (0, b"ready schema 4\n", b"")
@@ -66,7 +67,7 @@ class NewFileTestCase(DeskTestCase):
 
     def whole_page(self):
         """Returns the page of a file that is made and never used, as a program that is stopped behind the making leaves it."""
-        for number in itertools.count(1):
+        for number in faults.numbers():
             self.clear()
             self.desk.run("init", "plant.db", env=faults.met_call(number, signal.SIGKILL, self.mark))
             if self.file.exists():
@@ -225,7 +226,7 @@ class MetCalls(NewFileTestCase):
 
     def meetings(self, case, env_of):
         """Yields a case for each call, with the environment that meets it, over no file, up to the first run that doesn't come to it."""
-        for number in itertools.count(1):
+        for number in faults.numbers():
             self.clear()
             yield f"{case}, call {number}", env_of(number)
             if not self.mark.exists():
@@ -299,25 +300,13 @@ class MetCalls(NewFileTestCase):
         with contextlib.suppress(BrokenPipeError):
             paused.stdin.write(line)
             paused.stdin.close()
-        wait_for_pause(paused)
+        wait_for(paused, "TZ")
         return paused
 
     def other_behind(self, paused):
         """Has another desk work once a desk is paused or has ended."""
-        wait_for_pause(paused)
+        wait_for(paused, "TZ")
         return self.desk.run("run", "plant.db", told=OTHER)
-
-
-def state_of(process):
-    """Returns the letter of a process's state: T where it is paused, Z where it has ended."""
-    with open(f"/proc/{process.pid}/stat", encoding="utf-8") as stat:
-        return stat.read().rpartition(")")[2].split()[0]
-
-
-def wait_for_pause(process):
-    """Waits until a process is paused or has ended."""
-    while state_of(process) not in "TZ":
-        pass
 
 
 class AtOnce(NewFileTestCase):

@@ -6,7 +6,6 @@ hasn't.
 """
 from __future__ import annotations
 
-import itertools
 import shutil
 
 from tests.support import faults, http, sessions
@@ -135,7 +134,7 @@ class RefusedRuns(ProgramTestCase):
         if before:
             before()
         whole, ends = program.run(*words, told=told), {}
-        for number in itertools.count(1, step):
+        for number in faults.numbers(1, step):
             self.mark.unlink(missing_ok=True)
             if before:
                 before()

@@ -167,7 +167,7 @@ class StopTestCase(DeskTestCase):
         """Stops the course behind each number of calls up to the first that lets it end well."""
         self.end, self.opened = end, {}
         ends = [self.check_stop(0)]
-        for calls in itertools.count(1, stride):
+        for calls in faults.numbers(1, stride):
             ends.append(self.check_stop(calls))
             if ends[-1][0]:
                 break
@@ -188,7 +188,7 @@ class StopTestCase(DeskTestCase):
 
     def check_stop_again(self, calls, counts, image):
         """Verifies what a stop has left, with a stop behind each number of calls."""
-        for more in itertools.count():
+        for more in faults.numbers(0):
             with Files(self.course.place, image) as files:
                 status, output, errors = files.stopped("verify", self.end, more)
                 case = f"{self.end} after {calls} and {more} calls"

@@ -18,6 +18,9 @@ from tests.support.program import TOP
 # A user that owns nothing, where the tests are run by one who may do everything.
 NOBODY = 65534
 
+# The most runs with a fault, each at another call or allocation, before one gets through.
+MOST_RUNS = 5_000
+
 
 @functools.lru_cache(maxsize=None)
 def library(name):
@@ -27,6 +30,14 @@ def library(name):
     built = pathlib.Path(folder.name) / f"{name}.so"
     subprocess.run(["cc", "-shared", "-fPIC", "-O1", "-o", built, TOP / "bench" / f"{name}.c", "-ldl"], check=True)
     return built
+
+
+def numbers(first=1, step=1):
+    """Yields the numbers of calls or allocations at which faults are brought about, each in a run of its own, for a loop that ends with the first
+    run that gets through. Where none of 5,000 runs does the test fails, so that a program which never gets through can't hang it. Runs are counted
+    and not calls: a long run of which each so many-th call fails has more than 5,000 of them."""
+    yield from range(first, first + step * MOST_RUNS, step)
+    raise AssertionError(f"of {MOST_RUNS} runs with a fault at {first} and at each number {step} above none got through")
 
 
 def preloaded(name, **settings):

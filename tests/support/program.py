@@ -4,6 +4,7 @@ from __future__ import annotations
 import os
 import pathlib
 import subprocess
+import time
 import typing
 
 TOP = pathlib.Path(__file__).resolve().parent.parent.parent
@@ -68,6 +69,20 @@ class Program:
         """Starts the program, with `env` added to the environment; returns its process, whose output and errors are pipes."""
         streams = {"stdin": subprocess.DEVNULL, "stdout": subprocess.PIPE, "stderr": subprocess.PIPE}
         return subprocess.Popen([self.path, *words], **{**streams, "cwd": self.folder, "env": environment(env), **how})
+
+
+def state_of(process):
+    """Returns the letter of a process's state: T where it is paused, S where it waits, as for its input, Z where it has ended."""
+    return pathlib.Path(f"/proc/{process.pid}/stat").read_text().rpartition(")")[2].split()[0]
+
+
+def wait_for(process, states):
+    """Waits until a process is in one of these states. One that isn't so in time is killed, and fails the test."""
+    last = time.monotonic() + SECONDS
+    while state_of(process) not in states:
+        if time.monotonic() > last:
+            process.kill()
+            raise AssertionError(f"a program is in none of the states {states} within {SECONDS} seconds")
 
 
 def environment(more):

@@ -6,5 +6,5 @@
     tests/run.py                            all tests, side by side by processes
 
 The variable DESK_PROGRAMS says where the built programs are; without it they are in build/, where `make` leaves them. Behind the tests
-stands for each module how many cases were checked.
+stands for each module how many cases were checked, and then what was left out.
 """

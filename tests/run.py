@@ -5,10 +5,10 @@
 
 A process runs the tests of a module, but for the classes of it that take long, each of which has a process of its own and is begun first.
 MODULE is such as tests.test_rules; without one all modules are run. PATTERN picks tests by their names, as with `python3 -m unittest`. Where a
-module wants a browser and there is none, it is installed by apt first, if that may be done; else its tests are left out, which is said at the end.
+module wants a browser and there is none, it is installed by apt first, if that may be done; else its tests are left out.
 
 Prints how each process ended, with all that it printed where a test failed, and at the end for each module how many tests it ran and how many
-cases these checked. Ends with status 1 where a test failed, or none was run.
+cases these checked; then what was left out, each with its reason, and a line of all. Ends with status 1 where a test failed, or none was run.
 """
 from __future__ import annotations
 
@@ -65,6 +65,10 @@ class Ended:
         """What the module tells beside that."""
         return [line for line in self.printed.splitlines() if line.startswith(f"{self.unit.module}: ") and not line.endswith(" cases checked")]
 
+    def left_out(self):
+        """The lines of what was left out."""
+        return [line for line in self.printed.splitlines() if line.startswith("left out: ")]
+
 
 def classes_of(suite):
     """Returns the classes of the tests of a suite, in their order."""
@@ -113,9 +117,18 @@ def print_ended(ended):
     """Prints for each module how many tests were run and cases checked."""
     for module in sorted({it.unit.module for it in ended}):
         own = [it for it in ended if it.unit.module == module]
-        for note in (note for it in own for note in it.notes()):
+        for note in dict.fromkeys(note for it in own for note in it.notes()):
             print(note)
         print(f"{module}: {sum(it.cases() for it in own)} cases checked by {sum(it.tests() for it in own)} tests")
+
+
+def print_left_out(ended, without):
+    """Prints what was left out, the browser for this reason or none, and returns how many lines that is."""
+    lines = sorted({line for it in ended for line in it.left_out()})
+    lines += [f"left out: the tests in a browser, since {without}"] if without else []
+    for line in lines:
+        print(line)
+    return len(lines)
 
 
 def main():
@@ -133,11 +146,11 @@ def main():
     without = browser.ensure() if any(it.module in IN_A_BROWSER for it in units) else None
     ended = run_all(units, words.patterns, at_once)
     print_ended(ended)
-    if without:
-        print(f"the tests in a browser were left out: {without}")
+    left_out = print_left_out(ended, without)
     tests, cases = sum(it.tests() for it in ended), sum(it.cases() for it in ended)
     failed = [it.unit.name() for it in ended if it.status]
     how = f"failed: {', '.join(sorted(failed))}" if failed else "all as wanted"
+    how += f"; {left_out} left out" if left_out else "; nothing left out"
     print(f"{tests} tests checked {cases} cases in {time.monotonic() - began:.0f} s, {at_once} processes at once; {how}")
     return 1 if failed or not tests else 0
 

@@ -1,7 +1,7 @@
 """The packages of the built programs: made twice, unpacked, and what stands in them.
 
 What was unpacked runs the batch of examples in a folder of its own, with no toolchain on its PATH. Pages, completions and the unit are looked
-at by groff, bash, zsh, fish and systemd-analyze, by each where it is there.
+at by groff, bash, zsh, fish and systemd-analyze; what wants a program that isn't there is left out.
 """
 from __future__ import annotations
 
@@ -95,6 +95,14 @@ class PackageTestCase(ProgramTestCase):
         cls.unpack()
 
     @classmethod
+    def has(cls, program, what):
+        """Returns whether the system has a program; what wants one that it hasn't is left out."""
+        found = shutil.which(program) is not None
+        if not found:
+            cls.leave_out(what, f"there is no {program}")
+        return found
+
+    @classmethod
     def make(cls, name, **where):
         """Makes the packages in a folder of this name, with these variables more in the environment."""
         folder, copies = cls.place / name, cls.place / f"{name} programs"
@@ -108,7 +116,7 @@ class PackageTestCase(ProgramTestCase):
     def unpack(cls):
         """Unpacks both packages."""
         cls.parts = members(cls.place / "first" / cls.debian)
-        if shutil.which("dpkg-deb"):
+        if cls.has("dpkg-deb", "how dpkg-deb unpacks the package for Debian"):
             cls.unpacked = ran("dpkg-deb", "-x", cls.place / "first" / cls.debian, cls.place / "deb")
         else:
             cls.unpacked = (0, "", "")
@@ -151,7 +159,7 @@ class Packages(PackageTestCase):
         self.check("the package", (fields["Package"], fields["Version"], fields["Architecture"]), ("desk", self.version, "amd64"))
         sums = dict(reversed(it.split("  ")) for it in (self.place / "control/md5sums").read_text().splitlines())
         self.check("the sums", sums, {f"usr/{it}": hashlib.md5(content).hexdigest() for it, (content, _) in self.files.items()})
-        if shutil.which("ldd"):
+        if self.has("ldd", "what the package for Debian depends on"):
             self.check("Depends", fields.get("Depends"), self.wanted_of_debian())
 
     def wanted_of_debian(self):
@@ -165,9 +173,9 @@ class Packages(PackageTestCase):
 
     def test_no_file_names_a_place_of_this_machine(self):
         """Looks for places of this machine in all files but the programs."""
-        toolchain = shutil.which("rt")
         places = [TOP, pathlib.Path.home(), self.place, *(it.parent for it in self.programs.values())]
-        places += [pathlib.Path(toolchain).resolve().parent.parent] if toolchain else []
+        if self.has("rt", "whether a file names the place of the toolchain"):
+            places.append(pathlib.Path(shutil.which("rt")).resolve().parent.parent)
         forms = [rf"(?<![\w.-]){re.escape(str(it))}(?![\w-])".encode() for it in places if it not in COMMON]
         for name, (content, _) in self.files.items():
             text = gzip.decompress(content) if name.endswith(".gz") else content
@@ -219,7 +227,7 @@ class Texts(PackageTestCase):
         for name in PACKED:
             source = gzip.decompress(self.files[f"share/man/man1/{name}.1.gz"][0]).decode()
             text = source.replace("\\-", "-")
-            if shutil.which("groff"):
+            if self.has("groff", "how groff sets the pages of the manual"):
                 status, text, errors = ran("groff", "-man", "-ww", "-Kutf8", "-Tascii", "-P-c", stdin=None, input=source)
                 self.check(f"groff on {name}", (status, errors), (0, ""))
             text = re.sub(r".\x08", "", text)
@@ -276,7 +284,7 @@ class Texts(PackageTestCase):
 
     def check_read(self, shell, file):
         """Has a shell read a completion, where the shell is there."""
-        if shutil.which(shell):
+        if self.has(shell, f"how {shell} reads its completions"):
             self.check(f"{shell} reads {file.name}", ran(shell, "-n", file), (0, "", ""))
 
     def test_unit_is_sound_and_its_words_are_understood(self):
@@ -295,6 +303,6 @@ class Texts(PackageTestCase):
         self.check("what the unit gives as it stops", re.findall(r"^ExecStopPost=(.*)$", text, re.M), ["-/usr/bin/desk verify /var/lib/desk/%i.db"])
         unit = self.folder / "desk@.service"
         unit.write_text(re.sub("=(-?)/usr/bin/desk ", rf"=\1{self.tops['deb']}/bin/desk ", text))
-        if shutil.which("systemd-analyze"):
+        if self.has("systemd-analyze", "what systemd finds in the unit"):
             status, _, errors = ran("systemd-analyze", "--man=no", "verify", unit)
             self.check("the unit", (status, [it for it in errors.splitlines() if "desk@" in it]), (0, []))

@@ -1,11 +1,75 @@
-"""Loops over faults, which end."""
+"""tests/run.py over a small module, and what tests share: what is left out, and loops over faults that end."""
 from __future__ import annotations
 
+import os
+import re
+import subprocess
+import sys
+
 from tests.support import faults
+from tests.support.cases import FolderTestCase
+from tests.support.program import SECONDS, TOP
+
+# A module whose tests find no tool twice, and are skipped, and one of which fails where it is to.
+SMALL = """
+import unittest
 from tests.support.cases import CountedTestCase
 
+class Small(CountedTestCase):
+    def test_case(self):
+        for _ in range(2):
+            self.check("a case", 1, 1)
+            self.leave_out("how a tool reads it", "there is no tool")
 
-class Loops(CountedTestCase):
+    def test_at_night(self):
+        self.skipTest("it is day")
+
+    @unittest.skip("it is dry")
+    def test_in_rain(self):
+        pass
+
+class Failing(CountedTestCase):
+    IS_LONG = True
+
+    def test_case(self):
+        self.check("a case that fails", 1, %d)
+"""
+
+
+class Runs(FolderTestCase):
+    """Runs of the small module by tests/run.py."""
+
+    def run_small(self, *words, wanted=1):
+        """Returns the status of a run, and the lines that it printed. Where `wanted` isn't 1 a test fails."""
+        (self.folder / "small.py").write_text(SMALL % wanted)
+        environment = {**os.environ, "PYTHONPATH": str(self.folder)}
+        words = [sys.executable, TOP / "tests/run.py", *words, "small"]
+        ran = subprocess.run(words, env=environment, capture_output=True, text=True, timeout=SECONDS)
+        return ran.returncode, ran.stdout.splitlines()
+
+    def test_what_was_left_out_is_printed_behind_the_counts_with_its_reason(self):
+        status, lines = self.run_small()
+        self.check("the status", status, 0)
+        last = lines.index("small: 3 cases checked by 4 tests")
+        self.check("the lines behind the counts", lines[last + 1:-1], [
+            "left out: small: Small.test_at_night, since it is day",
+            "left out: small: Small.test_in_rain, since it is dry",
+            "left out: small: how a tool reads it, since there is no tool",
+        ])
+        self.check_true(f"the last line, {lines[-1]}", re.fullmatch(r"4 tests checked 3 cases in .*; all as wanted; 3 left out", lines[-1]))
+
+    def test_what_a_failing_module_left_out_is_printed_too(self):
+        status, lines = self.run_small(wanted=2)
+        self.check("the status", status, 1)
+        self.check("how many lines", sum(it.startswith("left out: ") for it in lines[-4:-1]), 3)
+        self.check_true(f"the last line, {lines[-1]}", lines[-1].endswith("; failed: small.Failing; 3 left out"))
+
+    def test_run_that_leaves_nothing_out_says_so(self):
+        status, lines = self.run_small("-k", "Failing")
+        self.check_true(f"the last line, {lines[-1]}", (status, lines[-1][-18:]) == (0, "; nothing left out"))
+
+
+class Loops(FolderTestCase):
     """Loops over faults."""
 
     def test_loop_in_which_no_run_gets_through_fails_behind_5000_runs(self):

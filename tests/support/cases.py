@@ -16,17 +16,20 @@ MEMORY = pathlib.Path("/dev/shm")
 # The most characters that are shown of a value.
 SHOWN = 2000
 
-# How many cases each module checked, and what it has to tell beside that.
+# How many cases each module checked, what it has to tell beside that, and the lines of all that was left out.
 COUNTS = collections.Counter()
 NOTES = collections.defaultdict(list)
+LEFT_OUT = []
 
 
 def report():
-    """Prints for each module how many cases it checked. The process does so at its end."""
+    """Prints for each module how many cases it checked, and then what was left out. The process does so at its end."""
     for module in sorted(COUNTS):
         for note in NOTES[module]:
             print(f"{module}: {note}", file=sys.stderr)
         print(f"{module}: {COUNTS[module]} cases checked", file=sys.stderr)
+    for line in LEFT_OUT:
+        print(line, file=sys.stderr)
 
 
 atexit.register(report)
@@ -51,8 +54,25 @@ class CountedTestCase(unittest.TestCase):
 
     @classmethod
     def note(cls, text):
-        """Has a line printed beside the count of the module."""
-        NOTES[cls.__module__].append(text)
+        """Has a line printed beside the count of the module, once."""
+        cls.count(0)
+        if text not in NOTES[cls.__module__]:
+            NOTES[cls.__module__].append(text)
+
+    @classmethod
+    def leave_out(cls, what, why):
+        """Has it printed at the end, once, that something isn't tested, and why."""
+        line = f"left out: {cls.__module__}: {what}, since {why}"
+        if line not in LEFT_OUT:
+            LEFT_OUT.append(line)
+
+    def run(self, result=None):
+        """Runs the test; where it is skipped it is left out."""
+        known = len(result.skipped) if result else 0
+        result = super().run(result)
+        for _, why in result.skipped[known:]:
+            self.leave_out(self.id().removeprefix(f"{type(self).__module__}."), why)
+        return result
 
     def check(self, case, found, wanted):
         """Checks one case, and returns whether it is as wanted. The test goes on where it isn't, and fails."""

@@ -106,19 +106,13 @@ class BrowserTestCase(DeskTestCase):
     def setUpClass(cls):
         super().setUpClass()
         if not browser.program():
-            cls.leave_out("there is no chromium")
+            cls.leave_out(cls.__name__, "there is no chromium")
+            raise unittest.SkipTest("there is no chromium")
         cls.browser = browser.Browser(cls.NAMES)
         cls.addClassCleanup(cls.browser.end)
         cls.mornings = cls.class_folder() / "mornings.db"
         ended = Program("desk", cls.mornings.parent).run("run", cls.mornings.name, told=mornings(int(time.time())))
         cls.check_set_up("the mornings", (ended.status, ended.output.count(b'"ok"')), (0, MORNINGS))
-
-    @classmethod
-    def leave_out(cls, why):
-        """Leaves the tests out, and has it printed."""
-        cls.count(0)
-        cls.note(f"{cls.__name__} were left out: {why}")
-        raise unittest.SkipTest(why)
 
     def serve(self, is_empty=False):
         """Serves a desk of the test's own, which holds the mornings where it isn't to be empty."""

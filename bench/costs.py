@@ -9,22 +9,24 @@ memory beside the size of the file. The peer (bench/peer.py) takes the same line
 take turns, so that what else the machine does falls on all alike. With --instructions valgrind counts the instructions of the desks in place of
 their time, where the machine is noisy. FOLDER is in memory by default, so that no disk is measured.
 
-The first program makes the files that are verified. A ratio is to the peer, of verifying to the first program.
+The first program makes the files that are verified. A ratio is to the peer, of verifying to the first program. Ids by chance are made by a seed,
+which is printed; the variable DESK_SEED says it.
 """
 import argparse
 import json
 import os
 import pathlib
-import random
 import re
 import shutil
 import subprocess
 import sys
 import tempfile
 
-from commands import batch, beginning, line
-
 HERE = pathlib.Path(__file__).resolve().parent
+sys.path.insert(0, str(HERE.parent))
+
+from commands import batch, beginning, line  # noqa: E402
+from tests.support import seeds  # noqa: E402  (the folder above is on the path now)
 
 
 def receipts(count, ids, **more):
@@ -36,7 +38,7 @@ def rising(count):
 
 
 def at_random(count):
-    return random.Random(count).sample(range(10 * count), count)
+    return seeds.chance("ids").sample(range(10 * count), count)
 
 
 def splits(count, ids, source):
@@ -124,6 +126,7 @@ def main():
     parser.add_argument("programs", nargs="+", metavar="NAME=PROGRAM")
     given = parser.parse_args()
     programs = dict(it.split("=", 1) for it in given.programs)
+    print(f"seed {seeds.seed()}\n")
     print("| work | program | commands | to the peer | verified | to the first | peak memory, MB | of a file of MB |")
     print("|---|---|---|---|---|---|---|---|")
     for kind in [given.only] if given.only else KINDS:

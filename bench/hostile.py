@@ -2,13 +2,12 @@
 
     hostile.py PROGRAM FOLDER LINES KILLS
 
-LINES lines and as many requests are made of good ones by changes at random places, always the same ones (the numbers are seeded).
-KILLS runs over one file are killed at a random moment. After each attack the file is verified, and what was acknowledged is compared
-with what the file has: a command that was answered is there, and at most one more.
+LINES lines and as many requests are made of good ones by changes at random places, the same ones by the same seed, which is printed; the
+variable DESK_SEED says it. KILLS runs over one file are killed at a random moment. After each attack the file is verified, and what was
+acknowledged is compared with what the file has: a command that was answered is there, and at most one more.
 """
 import json
 import pathlib
-import random
 import re
 import resource
 import signal
@@ -18,8 +17,12 @@ import sys
 import threading
 import time
 
-SECONDS = 600
 ROOT = pathlib.Path(__file__).resolve().parent.parent
+sys.path.insert(0, str(ROOT))
+
+from tests.support import seeds  # noqa: E402  (the folder above is on the path now)
+
+SECONDS = 600
 PIECE = 2000
 
 
@@ -247,12 +250,13 @@ def is_whole(answer):
 
 
 def main(program, folder, lines, kills):
-    desk, chance = Desk(program, folder), random.Random(1)
+    desk = Desk(program, folder)
+    print(f"seed {seeds.seed()}", flush=True)
     try:
-        print(desk.lines_are_answered(int(lines), chance), flush=True)
-        print(desk.requests_are_answered(int(lines), chance), flush=True)
-        print(desk.kills_lose_nothing(int(kills), chance), flush=True)
-        print(desk.files_may_not_grow(chance), flush=True)
+        print(desk.lines_are_answered(int(lines), seeds.chance("lines")), flush=True)
+        print(desk.requests_are_answered(int(lines), seeds.chance("requests")), flush=True)
+        print(desk.kills_lose_nothing(int(kills), seeds.chance("kills")), flush=True)
+        print(desk.files_may_not_grow(seeds.chance("sizes")), flush=True)
         print(desk.outputs_may_be_full(), flush=True)
         print(desk.slow_clients_hold_for_a_while(), flush=True)
     except Failed as told:

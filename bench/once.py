@@ -4,14 +4,18 @@
 
 A client sends COMMANDS bookings, each under a reference and after the reply to the one before it, to runs over one file that are killed
 at random moments, some KILLS times, and sends what wasn't answered again. At the end the file is verified, each command has been
-answered its own number, and the tables but receipt are those of a desk that was told each command once and without a reference.
+answered its own number, and the tables but receipt are those of a desk that was told each command once and without a reference. The seed
+of the moments is printed; the variable DESK_SEED says it.
 """
 import pathlib
-import random
 import sqlite3
 import subprocess
 import sys
 import time
+
+sys.path.insert(0, str(pathlib.Path(__file__).resolve().parent.parent))
+
+from tests.support import seeds  # noqa: E402  (the folder above is on the path now)
 
 SECONDS = 600
 GOODS = (
@@ -98,13 +102,14 @@ def run(program, *words, told=b""):
 
 def main(program, folder, commands, kills):
     program, folder = str(pathlib.Path(program).resolve()), pathlib.Path(folder)
+    print(f"seed {seeds.seed()}", flush=True)
     commands, kills = int(commands), int(kills)
     bare = list(bookings(commands))
     once, again = str(folder / "once.db"), str(folder / "again.db")
     run(program, "run", once, told=GOODS + b"".join(f"{it}}}\n".encode() for it in bare))
     run(program, "run", again, told=GOODS)
     lines = [f'{it},"ref":"K-{number}"}}\n'.encode() for number, it in enumerate(bare)]
-    client = Client(program, again, lines, random.Random(1), max(1, commands / max(1, kills) - 2))
+    client = Client(program, again, lines, seeds.chance("kills"), max(1, commands / max(1, kills) - 2))
     client.send_all()
     good = b"good schema 4 seq %d\n" % (BEFORE + commands)
     expect(run(program, "verify", again) == good, "the file isn't good")

@@ -1,11 +1,12 @@
 #!/usr/bin/env python3
 """Runs the tests side by side, by as many processes as there are processors.
 
-    tests/run.py [-k PATTERN]... [MODULE]...
+    tests/run.py [--seed N] [-k PATTERN]... [MODULE]...
 
 A process runs the tests of a module, but for the classes of it that take long, each of which has a process of its own and is begun first.
-MODULE is such as tests.test_rules; without one all modules are run. PATTERN picks tests by their names, as with `python3 -m unittest`. Where a
-module wants a browser and there is none, it is installed by apt first, if that may be done; else its tests are left out.
+MODULE is such as tests.test_rules; without one all modules are run. PATTERN picks tests by their names, as with `python3 -m unittest`. N is the
+seed of what tests make by chance, in the place of the variable DESK_SEED. Where a module wants a browser and there is none, it is installed by
+apt first, if that may be done; else its tests are left out.
 
 Prints how each process ended, with all that it printed where a test failed, and at the end for each module how many tests it ran and how many
 cases these checked; then what was left out, each with its reason, and a line of all. Ends with status 1 where a test failed, or none was run.
@@ -26,7 +27,7 @@ import unittest
 TOP = pathlib.Path(__file__).resolve().parent.parent
 sys.path.insert(0, str(TOP))
 
-from tests.support import browser  # noqa: E402  (the folder above is on the path now)
+from tests.support import browser, seeds  # noqa: E402  (the folder above is on the path now)
 
 # The modules whose tests want a browser.
 IN_A_BROWSER = ("tests.test_browser", "tests.test_cross_site")
@@ -133,9 +134,11 @@ def print_left_out(ended, without):
 
 def main():
     parser = argparse.ArgumentParser(description="Runs the tests side by side.")
+    parser.add_argument("--seed", metavar="N", type=int, default=seeds.seed(), help="the seed of what tests make by chance")
     parser.add_argument("-k", dest="patterns", metavar="PATTERN", action="append", default=[], help="runs the tests whose names have this in them")
     parser.add_argument("modules", metavar="MODULE", nargs="*", help="such as tests.test_rules")
     words = parser.parse_args()
+    os.environ[seeds.VARIABLE] = str(words.seed)
     loader, began = unittest.TestLoader(), time.monotonic()
     loader.testNamePatterns = [it if "*" in it else f"*{it}*" for it in words.patterns] or None
     suite = loader.loadTestsFromNames(words.modules) if words.modules else loader.discover(str(TOP / "tests"), top_level_dir=str(TOP))

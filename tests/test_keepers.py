@@ -124,5 +124,5 @@ class Sessions(KeeperTestCase):
             self.check(f"{session.name}, by lists", self.lists.run(told=session.told), session.ended())
 
     def test_lists_answer_all_computed_sessions(self):
-        for session in model.every():
+        for session in model.every(self.chance):
             self.check(f"{session.name}, by lists", self.lists.run(told=session.told), session.ended())

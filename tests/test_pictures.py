@@ -6,7 +6,6 @@ what Python's parser of XML reads from it.
 from __future__ import annotations
 
 import json
-import random
 import re
 import subprocess
 import time
@@ -303,7 +302,7 @@ class SmallPictures(PictureTestCase):
             self.check_drawn(f"{count} nodes", answer(lots, [edge(*it) for it in zip(lots, lots[1:])]))
 
     def test_300_nodes_by_chance_are_drawn(self):
-        chance = random.Random(300)
+        chance = self.chance("300 nodes")
         nodes = [lot(f"L-{it:03}", stock=it, held=it % 7 == 0, recalled=it % 11 == 0) if it % 3 else batch(f"B-{it:03}") for it in range(300)]
         pairs = {tuple(sorted(chance.sample(range(300), 2))) for _ in range(700)}
         edges = [edge(nodes[a], nodes[b], chance.randrange(10**15)) for a, b in pairs if "lot" in nodes[a] or "lot" in nodes[b]]
@@ -334,7 +333,7 @@ class LargePictures(PictureTestCase):
         return ran
 
     def test_way_is_drawn_soon(self):
-        shuffled = random.Random(300).sample(self.LOTS, len(self.LOTS))
+        shuffled = self.chance("a way").sample(self.LOTS, len(self.LOTS))
         self.check_soon("a way", shuffled, [edge(*it) for it in zip(self.LOTS, self.LOTS[1:])])
 
     def test_way_against_the_order_of_the_names_is_drawn_soon(self):

@@ -22,10 +22,10 @@ class ComputedSessions(SessionTestCase):
         self.check_session(model.forms())
 
     def test_amounts_of_recipes_are_scaled_or_refused(self):
-        self.check_session(model.scalings()[0])
+        self.check_session(model.scalings(self.chance)[0])
 
     def test_genealogies_traces_and_recalls_are_as_searched(self):
-        for session in model.genealogies():
+        for session in model.genealogies(self.chance):
             self.check_session(session)
 
 
@@ -33,7 +33,7 @@ class Rows(SessionTestCase):
     """What stands in the file behind commands."""
 
     def test_control_recipe_has_the_scaled_amounts(self):
-        session, amounts = model.scalings()
+        session, amounts = model.scalings(self.chance)
         self.check_over_file(session, "scaled.db")
         found = {}
         for batch, amount in sqlite.rows(self.folder / "scaled.db", "SELECT batch, qty FROM control_line WHERE kind < 3 ORDER BY batch, no"):

@@ -1,4 +1,4 @@
-"""tests/run.py over a small module, and what tests share: what is left out, and loops over faults that end."""
+"""tests/run.py over a small module, and what tests share: what is left out, the seed, and loops over faults that end."""
 from __future__ import annotations
 
 import os
@@ -6,20 +6,21 @@ import re
 import subprocess
 import sys
 
-from tests.support import faults
+from tests.support import faults, seeds
 from tests.support.cases import FolderTestCase
 from tests.support.program import SECONDS, TOP
 
-# A module whose tests find no tool twice, and are skipped, and one of which fails where it is to.
+# A module whose tests make a number by chance, find no tool twice, and are skipped.
 SMALL = """
 import unittest
 from tests.support.cases import CountedTestCase
 
 class Small(CountedTestCase):
-    def test_case(self):
+    def test_number_by_chance(self):
         for _ in range(2):
             self.check("a case", 1, 1)
             self.leave_out("how a tool reads it", "there is no tool")
+        self.note(f"by chance {self.chance('number').randrange(10**6)}")
 
     def test_at_night(self):
         self.skipTest("it is day")
@@ -31,7 +32,8 @@ class Small(CountedTestCase):
 class Failing(CountedTestCase):
     IS_LONG = True
 
-    def test_case(self):
+    def test_number_by_chance(self):
+        self.chance("another")
         self.check("a case that fails", 1, %d)
 """
 
@@ -39,13 +41,20 @@ class Failing(CountedTestCase):
 class Runs(FolderTestCase):
     """Runs of the small module by tests/run.py."""
 
-    def run_small(self, *words, wanted=1):
+    def run_small(self, *words, wanted=1, **variables):
         """Returns the status of a run, and the lines that it printed. Where `wanted` isn't 1 a test fails."""
         (self.folder / "small.py").write_text(SMALL % wanted)
-        environment = {**os.environ, "PYTHONPATH": str(self.folder)}
+        environment = {name: value for name, value in os.environ.items() if name != seeds.VARIABLE}
+        environment.update(PYTHONPATH=str(self.folder), **variables)
         words = [sys.executable, TOP / "tests/run.py", *words, "small"]
         ran = subprocess.run(words, env=environment, capture_output=True, text=True, timeout=SECONDS)
         return ran.returncode, ran.stdout.splitlines()
+
+    def numbers(self, *words, **variables):
+        """Returns the seed and the number by chance of a run, as it printed them."""
+        status, lines = self.run_small(*words, **variables)
+        self.check(f"the status with {words} and {variables}", status, 0)
+        return re.findall(r"^small: (?:seed|by chance) (\d+)$", "\n".join(lines), re.M)
 
     def test_what_was_left_out_is_printed_behind_the_counts_with_its_reason(self):
         status, lines = self.run_small()
@@ -63,10 +72,20 @@ class Runs(FolderTestCase):
         self.check("the status", status, 1)
         self.check("how many lines", sum(it.startswith("left out: ") for it in lines[-4:-1]), 3)
         self.check_true(f"the last line, {lines[-1]}", lines[-1].endswith("; failed: small.Failing; 3 left out"))
+        self.check_true("the seed is printed where the test failed", "small: seed 42" in lines[:lines.index("small: 3 cases checked by 4 tests") - 2])
 
     def test_run_that_leaves_nothing_out_says_so(self):
         status, lines = self.run_small("-k", "Failing")
         self.check_true(f"the last line, {lines[-1]}", (status, lines[-1][-18:]) == (0, "; nothing left out"))
+
+    def test_seed_is_printed_and_decides_what_is_made_by_chance(self):
+        usual = self.numbers()
+        self.check("the usual seed, once", usual[:-1], ["42"])
+        self.check("the same run again", self.numbers(), usual)
+        other = self.numbers("--seed", "7")
+        self.check_true(f"another seed, {other}", other[:-1] == ["7"] and other[-1] != usual[-1])
+        self.check("the seed by the variable", self.numbers(DESK_SEED="7"), other)
+        self.check("an option goes before the variable", self.numbers("--seed", "42", DESK_SEED="7"), usual)
 
 
 class Loops(FolderTestCase):

@@ -8,7 +8,7 @@ import sys
 import tempfile
 import unittest
 
-from tests.support import program
+from tests.support import program, seeds
 
 # Where files are kept in memory, so that thousands of commands don't wait for a disk.
 MEMORY = pathlib.Path("/dev/shm")
@@ -58,6 +58,12 @@ class CountedTestCase(unittest.TestCase):
         cls.count(0)
         if text not in NOTES[cls.__module__]:
             NOTES[cls.__module__].append(text)
+
+    @classmethod
+    def chance(cls, name):
+        """Returns the random numbers of this name, and has their seed printed beside the count of the module."""
+        cls.note(f"seed {seeds.seed()}")
+        return seeds.chance(name)
 
     @classmethod
     def leave_out(cls, what, why):

@@ -1,12 +1,14 @@
 """What a desk has to answer, computed here by itself: where each word leads a batch, which recipes are well formed, scaled amounts, and
-of genealogies that are made by chance the traces, the edges with their amounts, where goods stand and what recalls reach."""
+of genealogies that are made by chance the traces, the edges with their amounts, where goods stand and what recalls reach.
+
+What is made by chance is made of `chance`, which gives the random numbers of a name.
+"""
 from __future__ import annotations
 
 import fractions
 import itertools
 import json
 import math
-import random
 
 from tests.support.commands import (
     GOODS, MOST, add_recipe, approve, compact, consume, import_orders, merge, phase_done, produce, recall, receive, release, say, settle, split,
@@ -190,11 +192,11 @@ def scaled(amount, size, base):
     return math.floor(fractions.Fraction(amount * size, base) + fractions.Fraction(1, 2))
 
 
-def scalings():
+def scalings(chance):
     """Returns a session of recipes by chance, each with an order of its greatest size, and the amounts of the batches that are released."""
-    session, chance, amounts = materials("amounts are scaled"), random.Random(42), {}
+    session, numbers, amounts = materials("amounts are scaled"), chance("recipes"), {}
     some = [(100, 500, 300), (1, 250, 500), (1, 100, 500), (MOST, MOST, MOST), (MOST, 900, 900), (1, MOST, 1), (2, MOST, 1), (MOST, 1, 2)]
-    some += [tuple(chance.randint(1, 10 ** chance.randint(1, 15)) for _ in range(3)) for _ in range(SCALED)]
+    some += [tuple(numbers.randint(1, 10 ** numbers.randint(1, 15)) for _ in range(3)) for _ in range(SCALED)]
     for number, (amount, size, base) in enumerate(some):
         taken, made = scaled(amount, size, base), scaled(base, size, base)
         lines = [line("in", amount, "FLOUR"), line("out", base, "DOUGH"), line("phase")]
@@ -218,11 +220,11 @@ def scalings():
 class Genealogy:
     """Bookings by chance, what is left of each lot, what leads to what, and what was booked along it."""
 
-    def __init__(self, seed):
-        self.chance, self.stock, self.edges, self.amounts = random.Random(seed), {}, {}, {}
+    def __init__(self, name, numbers):
+        self.chance, self.stock, self.edges, self.amounts = numbers, {}, {}, {}
         self.nodes = [(BATCH, f"B-{it}") for it in range(BATCHES)]
         lines = [line("in", 1, "SUGAR"), line("out", 1, "SUGAR"), line("phase")]
-        self.session = plan(f"a genealogy by chance, {seed}", BATCHES, recipe_of("R", 1, 1, 900, lines, "SUGAR"))
+        self.session = plan(f"{name} by chance", BATCHES, recipe_of("R", 1, 1, 900, lines, "SUGAR"))
         for it in range(BATCHES):
             self.session.accepted(release(f"O-{it}", f"B-{it}"), say("start", f"B-{it}"))
 
@@ -318,15 +320,15 @@ def nodes_told(nodes):
     return [{"lot" if kind == LOT else "batch": name} for kind, name in sorted(nodes)]
 
 
-def genealogies():
+def genealogies(chance):
     """Returns sessions of genealogies that are made by chance."""
-    for seed in range(GENEALOGIES):
-        genealogy = Genealogy(seed)
+    for name in (f"genealogy {it}" for it in range(GENEALOGIES)):
+        genealogy = Genealogy(name, chance(name))
         for _ in range(BOOKINGS):
             genealogy.book()
         yield genealogy.ask()
 
 
-def every():
+def every(chance):
     """Returns all sessions whose answers are computed here."""
-    return [states(), closings(), phases(), forms(), scalings()[0], *genealogies()]
+    return [states(), closings(), phases(), forms(), scalings(chance)[0], *genealogies(chance)]

@@ -1,14 +1,18 @@
 #!/usr/bin/env python3
 """Prints docs/READING.md: the definitions that the main theorem rests on, crate by crate, each file after those that it builds on.
 
-It begins at the law that is the main theorem, and follows each definition to those that it names, through the files of definitions of
-this repository. It doesn't follow the relations that are the contracts of the calls: the law supposes them as the calls ensure
-them, and says of them nothing else. It leaves out how columns are read, the fields `read`, which no definition on the list takes.
-Usage: bench/reading_list.py > docs/READING.md, at the root of the repository."""
+    bench/reading_list.py > docs/READING.md  makes it anew
+    bench/reading_list.py --check            ends with status 1 where docs/READING.md isn't what the definitions give
 
+It is called at the root of the repository. It begins at the law that is the main theorem, and follows each definition to those that it names,
+through the files of definitions of this repository. It doesn't follow the relations that are the contracts of the calls: the law supposes them as
+the calls ensure them, and says of them nothing else. It leaves out how columns are read, the fields `read`, which no definition on the list takes.
+"""
 import glob
 import re
+import sys
 
+READING = "docs/READING.md"
 LAW = ("plant_desk_store.specs.Headline", "Headline")
 CONTRACTS = ["HasAdopted", "HasRefused", "HasExecuted", "HasForetold", "HasAsked", "HasRun", "HasVerified", "HasIndexed"]
 CALLS = "plant_desk_store.specs.Calls"
@@ -100,7 +104,8 @@ def in_order(modules, files, crates):
     return rows
 
 
-def main():
+def reading_list():
+    """The text of the list."""
     files = read_files()
     todo, found = [LAW], set()
     while todo:
@@ -119,13 +124,28 @@ def main():
         lines = sum(files[module].defined[name][1] for name in names)
         crate, _, file = module.split(".", 2)
         rows.setdefault(crate, []).append((file.replace(".", "/"), len(names), len(files[module].defined), lines))
-    print(HEAD)
     total = sum(it[3] for row in rows.values() for it in row)
-    print(f"In all {len(found)} definitions in {sum(map(len, rows.values()))} files, {total} lines.\n")
-    print("| crate | files | definitions, of all in them | lines |\n|---|---|---|---|")
+    text = f"{HEAD}\nIn all {len(found)} definitions in {sum(map(len, rows.values()))} files, {total} lines.\n\n"
+    text += "| crate | files | definitions, of all in them | lines |\n|---|---|---|---|\n"
     for crate, row in rows.items():
         names, of, lines = (sum(it[at] for it in row) for at in (1, 2, 3))
-        print(f"| {crate} | {', '.join(it[0] for it in row)} | {names} of {of} | {lines} |")
+        text += f"| {crate} | {', '.join(it[0] for it in row)} | {names} of {of} | {lines} |\n"
+    return text
 
 
-main()
+def main(options):
+    if options == ["--check"]:
+        with open(READING, encoding="utf-8") as it:
+            if it.read() != reading_list():
+                print(f"{READING} isn't what the definitions give: bench/reading_list.py > {READING} makes it anew", file=sys.stderr)
+                return 1
+        return 0
+    if options:
+        print(__doc__, file=sys.stderr)
+        return 2
+    print(reading_list(), end="")
+    return 0
+
+
+if __name__ == "__main__":
+    sys.exit(main(sys.argv[1:]))

@@ -144,7 +144,11 @@ class Server:
             self.ended, self.port = None, port or free_port()
             words = ["serve", file, str(self.port), str(connections), *options]
             self.process = desk.start(*words, env=env)
+            last = time.monotonic() + SECONDS
             while self.process.poll() is None and not listens(self.port):
+                if time.monotonic() > last:
+                    self.process.kill()
+                    raise AssertionError(f"a desk doesn't listen within {SECONDS} seconds")
                 time.sleep(0.001)
             if self.process.poll() is None or self.end() != NET:
                 return

@@ -7,11 +7,14 @@ hasn't.
 from __future__ import annotations
 
 import shutil
+import subprocess
 
-from tests.support import faults, http, sessions
+from tests.support import faults, http, sessions, sqlite
 from tests.support.cases import DeskTestCase, ProgramTestCase, good
+from tests.support.commands import PLANNED, replies
 from tests.support.http import ASK, Server, answer, desk_answer, got, posted
-from tests.support.program import Program
+from tests.support.program import Ended, Program, wait_for
+from tests.support.sessions import Session
 
 # More allocations than a server makes before its first answer.
 MANY = 1 << 20
@@ -28,6 +31,19 @@ STORE = answer('{"fault":1}', 503)
 QUESTION = got("/v1/batches/B-1")
 QUESTIONS = b"".join(b'{"ask":%s}\n' % it for it in (b'"desk"', b'"batch","batch":"B-1"', b'"forward","lot":"F-1"', b'"lot","lot":"D-1"'))
 ORDERS = b"order,recipe,version,size,due,priority\nO-1,CAKE,1,500,2027-03-01,5\nO-2,CAKE,1,300,2027-03-02,4\n"
+
+# An order file behind the commands PLANNED, with quoted fields, an empty line and each end of a record, and the rows that it makes.
+ORDER_FILE = (
+    b'order,recipe,version,size,due,priority\r\n"O-1",CAKE,1,500,2027-03-01,5\r\n\r\n'
+    b'O-2,"CAKE",001,300,2027-03-02,4\nO-3,CAKE,1,900,"2027-03-03",1\rO-4,CAKE,1,100,2027-03-04,9'
+)
+JOBS = [
+    ("O-1", "CAKE", 1, 500, "2027-03-01", 5, "open"),
+    ("O-2", "CAKE", 1, 300, "2027-03-02", 4, "open"),
+    ("O-3", "CAKE", 1, 900, "2027-03-03", 1, "open"),
+    ("O-4", "CAKE", 1, 100, "2027-03-04", 9, "open"),
+]
+
 COMMAND = posted("/v1/commands", b'{"at":400,"by":"","do":"receive","lot":"F-2","def":"FLOUR","amount":7,"place":""}')
 
 
@@ -198,6 +214,80 @@ class RefusedRuns(ProgramTestCase):
         """Returns what makes a file anew as a copy."""
         removed = self.removed(file)
         return lambda: (removed(), shutil.copyfile(self.folder / first, self.folder / file))
+
+
+class RefusedImport(DeskTestCase):
+    """An import of an order file over copies of one file, of which one allocation is refused: each in turn from the first read of the order file to
+    the end, and before that, while the file is opened, each so many-th.
+
+    All orders are taken in, or none and want of memory is told, or a store that failed for it. Then the same import is accepted without refusals.
+    """
+
+    IN_MEMORY = IS_LONG = True
+
+    # While the file is opened the allocations of each so many-th number are refused.
+    STEP = 23
+
+    @classmethod
+    def setUpClass(cls):
+        super().setUpClass()
+        cls.first = cls.keep(cls.class_folder(), "planned", Session().accepted(*PLANNED))
+
+    def setUp(self):
+        super().setUp()
+        self.file, self.log, self.mark = (self.folder / it for it in ("plant.db", "plant.db-wal", "refused"))
+        self.words, self.imported = ["import", self.file.name, "--at", "400"], {}
+
+    def clear(self):
+        """Makes the file anew."""
+        for it in (self.log, self.mark):
+            it.unlink(missing_ok=True)
+        shutil.copyfile(self.first, self.file)
+
+    def is_refused_unread(self, number):
+        """Returns whether the allocation of this number comes before the first read of the order file, of which nothing is given here."""
+        self.clear()
+        with self.desk.start(*self.words, stdin=subprocess.PIPE, env=faults.refused_memory(number, self.mark)) as waiting:
+            wait_for(waiting, "SZ")
+            return self.mark.exists()
+
+    def import_again(self):
+        """Imports the order file without refusals, once over the same bytes; returns how that ends, and what the file has then."""
+        left = tuple(it.read_bytes() if it.exists() else b"" for it in (self.file, self.log))
+        if left not in self.imported:
+            ended = self.desk.run(*self.words, told=ORDER_FILE)
+            self.imported[left] = ended, sqlite.rows(self.file, "SELECT * FROM job ORDER BY id"), self.desk.run("verify", self.file.name)
+        return self.imported[left]
+
+    def check_import(self, number, ends):
+        """Imports the order file with the allocation of this number refused, and once more; notes the end, and returns whether it was refused."""
+        self.clear()
+        found = self.desk.run(*self.words, told=ORDER_FILE, env=faults.refused_memory(number, self.mark))
+        end = how_ended(found, Ended(0, replies(len(PLANNED) + 1, 1), b""))
+        case, is_refused = f"allocation {number}, {found}", self.mark.exists()
+        again, jobs, verified = self.import_again()
+        counts = {"all was done": (1,), "the store failed": (0, 1), "want of memory": (0,), "no words": (0,)}.get(end, ())
+        # An import of orders that are there is accepted, and takes none.
+        kept = [it for it in counts if again == (0, replies(len(PLANNED) + it + 1, 1), b"")]
+        self.check_true(f"{case}, the same again {again}", kept)
+        self.check(f"{case}, its orders", jobs, JOBS)
+        self.check_true(f"{case}, verified {verified}", verified in [good(len(PLANNED) + it + 1) for it in kept])
+        if not is_refused:
+            self.check(f"{case}, without a refusal", end, "all was done")
+        ends[end] = ends.get(end, 0) + is_refused
+        return is_refused
+
+    def test_order_file_is_imported_whole_or_not_at_all(self):
+        unread, ends, read_ends = last_number(self.is_refused_unread), {}, {}
+        for number in range(1, unread + 1, self.STEP):
+            self.check_import(number, ends)
+        for number in faults.numbers(unread + 1):
+            if not self.check_import(number, read_ends):
+                break
+        for case, them in (("before", ends), ("behind", read_ends)):
+            self.check_true(f"{case} the first read: {them}", them.get("want of memory"))
+        self.note(f"an import, of {unread} allocations before the first read each {self.STEP}th: {ends}")
+        self.note(f"an import, each of {number - unread - 1} allocations behind the first read: {read_ends}")
 
 
 def how_ended(found, whole):

@@ -2,10 +2,11 @@
 files of earlier schemas; and connections that break."""
 from __future__ import annotations
 
+import shutil
 
 from tests.support import http, scenarios, sessions, sqlite
 from tests.support.cases import DeskTestCase, good
-from tests.support.commands import EACH_COMMAND, GOODS, add_recipe, approve, import_orders, lift, recall, scrap, split
+from tests.support.commands import EACH_COMMAND, GOODS, add_recipe, approve, import_orders, lift, line, recall, replies, scrap, split
 from tests.support.http import ASK, NEW, POST, Server, answered, connected, rest_of
 from tests.support.program import EXAMPLES
 from tests.support.sessions import Session, SessionTestCase
@@ -38,6 +39,19 @@ END
 
 ORDER_HEAD = b"order,recipe,version,size,due,priority\n"
 
+# How many commands a desk of many has accepted, and the statements over good_desk.sql that say so, and that give its last rows, up to the one of
+# number 17, the last numbers.
+MANY = 5_000_000
+TO_MANY = f"UPDATE meta SET seq = {MANY};"
+ROWS_TO_MANY = "".join(f"UPDATE {it} SET seq = seq + {MANY - 17} WHERE seq > 10;" for it in ("movement", "batch_event", "receipt"))
+
+# For each older schema the statements that lead back to it, and the tables that it doesn't have and that are empty once it is raised.
+OLDER = {
+    1: (sqlite.TO_SCHEMA_1, ("receipt", "recall", "mark")),
+    2: (sqlite.TO_SCHEMA_2, ("receipt", "recall", "mark")),
+    3: (sqlite.TO_SCHEMA_3, ("recall", "mark")),
+}
+
 
 def with_a_test_for_each_file(case):
     """Gives a test case a test for each file of examples/sessions, of the name of the file."""
@@ -49,6 +63,11 @@ def with_a_test_for_each_file(case):
         test.__doc__ = f"Runs the session of {path.name}."
         setattr(case, test.__name__, test)
     return case
+
+
+def rows_of_tables(file):
+    """Returns the rows of each table of a desk."""
+    return {table: sqlite.rows(file, f"SELECT * FROM {table} ORDER BY {', '.join(keys[0].split())}") for table, (_, keys) in sqlite.TABLES.items()}
 
 
 @with_a_test_for_each_file
@@ -266,6 +285,25 @@ class Files(DeskTestCase):
         self.check_run("a trace of the first schema", ["trace", file.name, "back", "D-1"], trace)
         self.check_verified("the first schema", file.name, session.count())
         self.check("edges that were raised", sqlite.edges(file), edges)
+
+    def test_older_schema_of_five_million_commands_is_raised_and_keeps_its_rows(self):
+        """Raises the good desk from each older schema by a verification: its rows have small numbers, or the last of them great ones."""
+        file = self.folder / "raised.db"
+        self.desk.run("init", "first.db")
+        sqlite.good_desk(self.folder / "first.db")
+        for schema, (statements, lost) in OLDER.items():
+            for case, more in [("small numbers", ""), ("great numbers", ROWS_TO_MANY)]:
+                case = f"schema {schema}, {case}"
+                shutil.copyfile(self.folder / "first.db", file)
+                sqlite.changed(file, TO_MANY + more)
+                wanted = {**rows_of_tables(file), **dict.fromkeys(lost, [])}
+                sqlite.changed(file, statements)
+                self.check(f"{case}, before", sqlite.rows(file, "SELECT * FROM meta"), [(1, schema, MANY, 300)])
+                self.check_verified(case, file.name, MANY)
+                self.check(f"{case}, its rows", rows_of_tables(file), wanted)
+                command = line('"do":"add_class","class":"NEW","name":""', '"at":400,"by":""')
+                self.check_run(f"{case}, the next command", ["run", file.name], (0, replies(MANY + 1, 1), b""), command)
+                self.check_verified(f"{case}, behind that", file.name, MANY + 1)
 
     def test_desk_needs_no_index_and_makes_them_again(self):
         """Takes the indexes away: the file is as good, answers and accepts as before, and gets them again when it is opened, but for one whose

@@ -444,7 +444,7 @@ class Causes(FileCheckTestCase):
         self.check_cause("a journal", "twenty.db", "journal")
 
     def test_want_of_memory_is_told_by_the_status(self):
-        sqlite.changed(self.folder / "large.db", "CREATE TABLE a (b TEXT); INSERT INTO a SELECT hex(randomblob(8000000))")
+        sqlite.changed(self.folder / "large.db", "CREATE TABLE a (b TEXT); INSERT INTO a SELECT hex(zeroblob(8000000))")
         self.check("little memory", self.checked("large.db", **faults.limited(resource.RLIMIT_AS, LITTLE)).status, 4)
 
 

@@ -1,10 +1,9 @@
 //! Where requests come in.
 ghost use Rattle.std.specs.Prelude.{◌≡◌, [], ◌∷◌, IfErr};
 ghost use Rattle.std.specs.Net.Addr.{ipv4_octets};
-ghost use Rattle.std.specs.Net.Socket.{v4_ip};
+ghost use Rattle.std.specs.Net.Socket.{v4_ip, v4_port};
 
 use crate::fault::ServingFault;
-use std::marker::Model;
 use std::net::{Ipv4Addr, Net, SocketAddrV4, TcpListener};
 
 /// A port of 127.0.0.1, an address that is reached from this machine alone. There is no `Local` of another address.
@@ -14,19 +13,10 @@ pub struct Local {
     ghost octets: { ipv4_octets (v4_ip address) ≡ 127 ∷ 0 ∷ 0 ∷ 1 ∷ [] },
 }
 
-impl Model for Local {
-    ghost use Rattle.std.specs.Prelude.{◌×◌, List, ℕ};
-    ghost use Rattle.std.specs.Net.Reader.{v4_parts};
-
-    // The octets of the address, and the port.
-    ghost Value = { List ℕ × ℕ };
-
-    ghost view = { λ l. v4_parts l.address };
-}
-
 /// The port of 127.0.0.1.
 pub fn local_at(port: u16) -> Local
-    ensures { result ≡ (127 ∷ 0 ∷ 0 ∷ 1 ∷ [], port) }
+    ensures octets { ipv4_octets (v4_ip result.address) ≡ 127 ∷ 0 ∷ 0 ∷ 1 ∷ [] }
+    ensures port { v4_port result.address ≡ port }
 {
     let address = SocketAddrV4::new(Ipv4Addr::LOCALHOST, port);
     Local { address }

@@ -112,6 +112,11 @@ def object_in(text):
     return value if isinstance(value, dict) else None
 
 
+def is_command(text):
+    """Returns whether a line is an object with the word of a command."""
+    return "do" in (object_in(text) or {})
+
+
 def checked_for(text, reason):
     """Returns the reason of a check of a bad line, which has this one as a line: a question lacks `do`."""
     members = object_in(text) or {}

@@ -188,12 +188,21 @@ fn trace(direction: Direction, lot: &[u8]) -> Result<Task, Fail> {
 }
 
 #[test]
-fn lots_that_are_there_are_traced_both_ways(rt: HostRuntime) -> Result<(), Fail> {
-    let forward = "lot D-1\nlot D-2\nlot D-3\nbatch B-1\n";
-    check_answered(&rt, &trace(Direction::Forward, b"F-1")?, forward)?;
-    let back = "lot D-1\nlot D-2\nlot F-1\nbatch B-1\n";
-    check_answered(&rt, &trace(Direction::Back, b"D-3")?, back)?;
-    check_answered(&rt, &trace(Direction::Back, b"F-1")?, "")
+fn lot_that_is_there_is_traced_forward(rt: HostRuntime) -> Result<(), Fail> {
+    let task = Task::Trace {
+        direction: Direction::Forward,
+        lot: Id::read(b"F-1").ok_or("no id")?,
+    };
+    check_answered(&rt, &task, "lot D-1\nlot D-2\nlot D-3\nbatch B-1\n")
+}
+
+#[test]
+fn lot_that_is_there_is_traced_back(rt: HostRuntime) -> Result<(), Fail> {
+    let task = Task::Trace {
+        direction: Direction::Back,
+        lot: Id::read(b"D-3").ok_or("no id")?,
+    };
+    check_answered(&rt, &task, "lot D-1\nlot D-2\nlot F-1\nbatch B-1\n")
 }
 
 #[test]

@@ -23,6 +23,7 @@ import subprocess
 import sys
 import time
 import unittest
+from collections.abc import Iterable, Sequence
 
 TOP = pathlib.Path(__file__).resolve().parent.parent
 sys.path.insert(0, str(TOP))
@@ -38,10 +39,10 @@ class Unit:
     """Classes of a module whose tests one process runs."""
 
     module: str
-    classes: list
+    classes: list[str]
     is_long: bool
 
-    def name(self):
+    def name(self) -> str:
         return f"{self.module}.{self.classes[0]}" if self.is_long else self.module
 
 
@@ -54,26 +55,26 @@ class Ended:
     printed: str
     seconds: float
 
-    def tests(self):
+    def tests(self) -> int:
         """How many tests were run."""
         return sum(int(it) for it in re.findall(r"^Ran (\d+) tests? in ", self.printed, re.M))
 
-    def cases(self):
+    def cases(self) -> int:
         """How many cases were checked."""
         return sum(int(it) for it in re.findall(rf"^{re.escape(self.unit.module)}: (\d+) cases checked$", self.printed, re.M))
 
-    def notes(self):
+    def notes(self) -> list[str]:
         """What the module tells beside that."""
         return [line for line in self.printed.splitlines() if line.startswith(f"{self.unit.module}: ") and not line.endswith(" cases checked")]
 
-    def left_out(self):
+    def left_out(self) -> list[str]:
         """The lines of what was left out."""
         return [line for line in self.printed.splitlines() if line.startswith("left out: ")]
 
 
-def classes_of(suite):
+def classes_of(suite: unittest.TestSuite) -> list[type[unittest.TestCase]]:
     """Returns the classes of the tests of a suite, in their order."""
-    found = []
+    found: list[type[unittest.TestCase]] = []
     for it in suite:
         for case in classes_of(it) if isinstance(it, unittest.TestSuite) else [type(it)]:
             if case not in found:
@@ -81,9 +82,10 @@ def classes_of(suite):
     return found
 
 
-def units_of(classes):
+def units_of(classes: Iterable[type[unittest.TestCase]]) -> list[Unit]:
     """Returns the units of classes, those first that take long."""
-    units, rest = [], {}
+    units: list[Unit] = []
+    rest: dict[str, list[str]] = {}
     for it in classes:
         if getattr(it, "IS_LONG", False):
             units.append(Unit(it.__module__, [it.__qualname__], True))
@@ -92,7 +94,7 @@ def units_of(classes):
     return units + [Unit(module, names, False) for module, names in rest.items()]
 
 
-def run(unit, patterns):
+def run(unit: Unit, patterns: Sequence[str]) -> Ended:
     """Runs the tests of a unit."""
     words = [sys.executable, "-m", "unittest", *(word for it in patterns for word in ("-k", it))]
     words += [f"{unit.module}.{it}" for it in unit.classes]
@@ -101,7 +103,7 @@ def run(unit, patterns):
     return Ended(unit, ran.returncode, ran.stdout, time.monotonic() - began)
 
 
-def run_all(units, patterns, at_once):
+def run_all(units: Sequence[Unit], patterns: Sequence[str], at_once: int) -> list[Ended]:
     """Runs units side by side, and tells of each as it ends."""
     ended = []
     with concurrent.futures.ThreadPoolExecutor(at_once) as pool:
@@ -114,7 +116,7 @@ def run_all(units, patterns, at_once):
     return ended
 
 
-def print_ended(ended):
+def print_ended(ended: Sequence[Ended]) -> None:
     """Prints for each module how many tests were run and cases checked."""
     for module in sorted({it.unit.module for it in ended}):
         own = [it for it in ended if it.unit.module == module]
@@ -123,7 +125,7 @@ def print_ended(ended):
         print(f"{module}: {sum(it.cases() for it in own)} cases checked by {sum(it.tests() for it in own)} tests")
 
 
-def print_left_out(ended, without):
+def print_left_out(ended: Sequence[Ended], without: str | None) -> int:
     """Prints what was left out, the browser for this reason or none, and returns how many lines that is."""
     lines = sorted({line for it in ended for line in it.left_out()})
     lines += [f"left out: the tests in a browser, since {without}"] if without else []
@@ -132,7 +134,7 @@ def print_left_out(ended, without):
     return len(lines)
 
 
-def main():
+def main() -> int:
     parser = argparse.ArgumentParser(description="Runs the tests side by side.")
     parser.add_argument("--seed", metavar="N", type=int, default=seeds.seed(), help="the seed of what tests make by chance")
     parser.add_argument("-k", dest="patterns", metavar="PATTERN", action="append", default=[], help="runs the tests whose names have this in them")
@@ -143,7 +145,7 @@ def main():
     loader.testNamePatterns = [it if "*" in it else f"*{it}*" for it in words.patterns] or None
     suite = loader.loadTestsFromNames(words.modules) if words.modules else loader.discover(str(TOP / "tests"), top_level_dir=str(TOP))
     if loader.errors:
-        sys.exit("\n".join(loader.errors))
+        sys.exit("\n".join(map(str, loader.errors)))
     at_once = len(os.sched_getaffinity(0))
     units = units_of(classes_of(suite))
     without = browser.ensure() if any(it.module in IN_A_BROWSER for it in units) else None

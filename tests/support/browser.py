@@ -11,6 +11,10 @@ import shutil
 import subprocess
 import tempfile
 import time
+from collections.abc import Sequence
+
+from tests.support import Json
+from tests.support.program import File
 
 # The names of the program, the first that is there.
 NAMES = ("chromium", "chromium-browser", "google-chrome")
@@ -42,17 +46,17 @@ class BrowserError(Exception):
     """The browser says that something went wrong."""
 
 
-def program():
+def program() -> str | None:
     """Returns the path of the browser's program, or none."""
-    return next((path for path in map(shutil.which, NAMES) if path), None)
+    return next((path for path in (shutil.which(it) for it in NAMES) if path), None)
 
 
-def can_be_installed():
+def can_be_installed() -> bool:
     """Returns whether the browser can be installed by apt."""
     return os.geteuid() == 0 and shutil.which("apt-get") is not None
 
 
-def ensure():
+def ensure() -> str | None:
     """Installs the browser by apt where it isn't there and that may be done. Returns what keeps the tests from having it, or none."""
     if program():
         return None
@@ -60,8 +64,10 @@ def ensure():
         return "there is no chromium, and it can't be installed by apt"
     environment, patience = {**os.environ, "DEBIAN_FRONTEND": "noninteractive"}, ["-o", "Acquire::Retries=0", "-o", "Acquire::http::Timeout=20"]
     for words in (["update"], ["install", "-y", "--no-install-recommends", "chromium", "fonts-dejavu-core"]):
-        streams = {"stdin": subprocess.DEVNULL, "stdout": subprocess.PIPE, "stderr": subprocess.STDOUT}
-        ran = subprocess.run(["apt-get", *patience, *words], env=environment, text=True, errors="replace", **streams)
+        ran = subprocess.run(
+            ["apt-get", *patience, *words], env=environment, text=True, errors="replace",
+            stdin=subprocess.DEVNULL, stdout=subprocess.PIPE, stderr=subprocess.STDOUT,
+        )
         if ran.returncode:
             return f"there is no chromium, and apt-get {words[0]} failed: {(ran.stdout.strip().splitlines() or [''])[-1]}"
     return None if program() else "there is no chromium after it was installed by apt"
@@ -70,26 +76,31 @@ def ensure():
 class Browser:
     """A running browser; `names` leads names of hosts to 127.0.0.1."""
 
-    def __init__(self, names=()):
+    def __init__(self, names: Sequence[str] = ()) -> None:
         self.folder = tempfile.mkdtemp(prefix="desk-browser-")
-        self.number, self.rest, self.events = 0, b"", []
+        self.number, self.rest = 0, b""
+        self.events: list[Json] = []
         told, self.writer = pipe()
         self.reader, says = pipe()
         rules = [f"--host-resolver-rules={','.join(f'MAP {it} 127.0.0.1' for it in names)}"] if names else []
-        words = [program(), *SWITCHES, *rules, f"--user-data-dir={self.folder}", "about:blank"]
+        path = program()
+        assert path, "there is no chromium"
+        words = [path, *SWITCHES, *rules, f"--user-data-dir={self.folder}", "about:blank"]
         line = f'exec "$@" {TOLD}<&{told} {SAYS}>&{says}'
-        streams = {"stdin": subprocess.DEVNULL, "stdout": subprocess.DEVNULL, "stderr": subprocess.DEVNULL}
-        self.process = subprocess.Popen(["bash", "-c", line, "bash", *words], pass_fds=(told, says), **streams)
+        self.process = subprocess.Popen(
+            ["bash", "-c", line, "bash", *words], pass_fds=(told, says),
+            stdin=subprocess.DEVNULL, stdout=subprocess.DEVNULL, stderr=subprocess.DEVNULL,
+        )
         os.close(told)
         os.close(says)
 
-    def __enter__(self):
+    def __enter__(self) -> Browser:
         return self
 
-    def __exit__(self, *_):
+    def __exit__(self, *_: object) -> None:
         self.end()
 
-    def end(self):
+    def end(self) -> None:
         """Ends the browser and removes its folder."""
         with contextlib.suppress(OSError, BrowserError, TimeoutError):
             self.call("Browser.close")
@@ -102,7 +113,7 @@ class Browser:
         os.close(self.reader)
         shutil.rmtree(self.folder, ignore_errors=True)
 
-    def next_message(self, until):
+    def next_message(self, until: float) -> Json:
         """Returns the next thing that the browser says."""
         while b"\0" not in self.rest:
             if not select.select([self.reader], [], [], max(0, until - time.monotonic()))[0]:
@@ -114,7 +125,7 @@ class Browser:
         one, self.rest = self.rest.split(b"\0", 1)
         return json.loads(one)
 
-    def call(self, method, session=None, **parameters):
+    def call(self, method: str, session: str | None = None, **parameters: Json) -> Json:
         """Calls a method of DevTools, and returns its result. What happens meanwhile is kept in `events`."""
         self.number += 1
         own = self.number
@@ -130,15 +141,15 @@ class Browser:
             if "method" in said:
                 self.events.append(said)
 
-    def tab(self, url, script=None, width=1280, height=860):
+    def tab(self, url: str, script: str | None = None, width: int = 1280, height: int = 860) -> Tab:
         """Opens a page in a tab with a storage of its own. `script` is run before those of the page."""
         return Tab(self, url, script, width, height)
 
 
-def pipe():
+def pipe() -> tuple[int, int]:
     """Returns the two ends of a pipe, numbered so that they aren't in the way of those that the browser gets."""
     ends = os.pipe()
-    kept = [fcntl.fcntl(it, fcntl.F_DUPFD, 10) for it in ends]
+    kept = fcntl.fcntl(ends[0], fcntl.F_DUPFD, 10), fcntl.fcntl(ends[1], fcntl.F_DUPFD, 10)
     for it in ends:
         os.close(it)
     return kept
@@ -147,7 +158,7 @@ def pipe():
 class Tab:
     """A page in a tab. What isn't there yet is waited for; nothing is told by a pause of fixed length."""
 
-    def __init__(self, browser, url, script, width, height):
+    def __init__(self, browser: Browser, url: str, script: str | None, width: int, height: int) -> None:
         self.browser = browser
         self.context = browser.call("Target.createBrowserContext")["browserContextId"]
         self.target = browser.call("Target.createTarget", url="about:blank", browserContextId=self.context)["targetId"]
@@ -159,29 +170,29 @@ class Tab:
             self.call("Page.addScriptToEvaluateOnNewDocument", source=script)
         self.call("Page.navigate", url=url)
 
-    def close(self):
+    def close(self) -> None:
         self.browser.call("Target.disposeBrowserContext", browserContextId=self.context)
 
-    def call(self, method, **parameters):
+    def call(self, method: str, **parameters: Json) -> Json:
         return self.browser.call(method, self.session, **parameters)
 
-    def size(self, width, height=860):
+    def size(self, width: int, height: int = 860) -> None:
         """Gives the page a size."""
         self.call("Emulation.setDeviceMetricsOverride", width=width, height=height, deviceScaleFactor=1, mobile=False)
 
-    def reload(self):
+    def reload(self) -> None:
         self.call("Page.reload")
 
     # ---- what is in the page
 
-    def run(self, code):
+    def run(self, code: str) -> Json:
         """Returns the value of an expression in the page, awaited."""
         it = self.call("Runtime.evaluate", expression=code, awaitPromise=True, returnByValue=True)
         if "exceptionDetails" in it:
             raise BrowserError(f"{it['exceptionDetails'].get('exception', {}).get('description', '?')} in {code}")
         return it["result"].get("value")
 
-    def until(self, code, what=None):
+    def until(self, code: str, what: str | None = None) -> Json:
         """Waits until an expression is true, and returns its value."""
         end = time.monotonic() + LIMIT
         while True:
@@ -195,21 +206,24 @@ class Tab:
                 raise AssertionError(f"waited {LIMIT} seconds for {what or code}; the page says:\n{self.text()[:1500]}")
             time.sleep(0.03)
 
-    def text(self, within="document.body"):
+    def text(self, within: str = "document.body") -> str:
         """Returns the text that is seen, with plain spaces."""
-        return self.run(f"{within}.innerText.replaceAll('\\u202f', ' ')")
+        text: str = self.run(f"{within}.innerText.replaceAll('\\u202f', ' ')")
+        return text
 
-    def has(self, text, within="document.body"):
+    def has(self, text: str, within: str = "document.body") -> None:
         """Waits until a text is seen."""
         self.until(f"{within}.innerText.replaceAll('\\u202f', ' ').includes({json.dumps(text)})", repr(text))
 
-    def lacks(self, text, within="document.body"):
+    def lacks(self, text: str, within: str = "document.body") -> None:
         """Waits until a text isn't seen."""
         self.until(f"!{within}.innerText.replaceAll('\\u202f', ' ').includes({json.dumps(text)})", f"no {text!r}")
 
     # ---- what a hand does
 
-    def place(self, text, tag="button", within="document", row=None):
+    def place(
+        self, text: str, tag: str = "button", within: str = "document", row: str | None = None,
+    ) -> tuple[float, float]:
         """Returns the middle of the first element of a tag that is seen, can be used and has this text; in the row of that name, if one is given."""
         root = f"{within}.querySelector({json.dumps(f'[data-row={json.dumps(row)}]')})" if row else within
         code = f"""(() => {{
@@ -220,20 +234,23 @@ class Tab:
           const r = all[0].getBoundingClientRect();
           return [r.x + r.width / 2, r.y + r.height / 2];
         }})()"""
-        return self.until(code, f"{tag} {text!r}" + (f" in row {row!r}" if row else ""))
+        x, y = self.until(code, f"{tag} {text!r}" + (f" in row {row!r}" if row else ""))
+        return x, y
 
-    def click(self, text, tag="button", within="document", row=None, times=1):
+    def click(
+        self, text: str, tag: str = "button", within: str = "document", row: str | None = None, times: int = 1,
+    ) -> None:
         """Clicks on the element of this text."""
         x, y = self.place(text, tag, within, row)
         self.click_at(x, y, times)
 
-    def click_at(self, x, y, times=1, first=1):
+    def click_at(self, x: float, y: float, times: int = 1, first: int = 1) -> None:
         """Clicks at a place; `first` is the number of the first click among those that follow one another quickly."""
         for count in range(first, first + times):
             for kind in ("mousePressed", "mouseReleased"):
                 self.call("Input.dispatchMouseEvent", type=kind, x=x, y=y, button="left", clickCount=count)
 
-    def fill(self, name, value):
+    def fill(self, name: str, value: str | int) -> None:
         """Writes into a field of the form that is open, or into the one of this id, in the place of what stands there."""
         found = f"(document.querySelector('dialog[open] [name={name}]') || document.getElementById('{name}'))"
         code = f"(() => {{ const e = {found}; if (!e) return false; e.focus(); if (e.select) e.select(); return document.activeElement === e; }})()"
@@ -244,18 +261,19 @@ class Tab:
         else:
             self.call("Input.insertText", text=str(value))
 
-    def value(self, name):
+    def value(self, name: str) -> str:
         """Returns what stands in a field of the form that is open."""
         field = f"document.querySelector('dialog[open] [name={name}]')"
         self.until(f"{field} !== null", f"the field {name}")
-        return self.run(f"{field}.value")
+        value: str = self.run(f"{field}.value")
+        return value
 
-    def choose_file(self, field, path):
+    def choose_file(self, field: str, path: File) -> None:
         """Chooses a file in the field of this id."""
         it = self.call("Runtime.evaluate", expression=f"document.getElementById('{field}')")
         self.call("DOM.setFileInputFiles", files=[str(path)], objectId=it["result"]["objectId"])
 
-    def key(self, key, repeats=0):
+    def key(self, key: str, repeats: int = 0) -> None:
         """Presses a key, which may be kept down so that it repeats."""
         code, text = KEYS[key] if key in KEYS else (ord(key.upper()), key)
         rest = {"key": key, "windowsVirtualKeyCode": code, "nativeVirtualKeyCode": code}
@@ -263,12 +281,12 @@ class Tab:
             self.call("Input.dispatchKeyEvent", type="keyDown" if text else "rawKeyDown", text=text, autoRepeat=count > 0, **rest)
         self.call("Input.dispatchKeyEvent", type="keyUp", **rest)
 
-    def type(self, text):
+    def type(self, text: str) -> None:
         """Types a text, a key for each letter."""
         for it in text:
             self.key(it)
 
-    def tab_to(self, text, at_most=80):
+    def tab_to(self, text: str, at_most: int = 80) -> None:
         """Presses Tab until the keyboard is at an element of this text or label."""
         for _ in range(at_most):
             self.key("Tab")
@@ -278,9 +296,9 @@ class Tab:
 
     # ---- what is seen
 
-    def shot(self, path, is_whole=True):
+    def shot(self, path: File, is_whole: bool = True) -> None:
         """Keeps a picture of the page, or of what of it is seen."""
-        more = {}
+        more: dict[str, Json] = {}
         if is_whole:
             size = self.call("Page.getLayoutMetrics")["cssContentSize"]
             more = {"captureBeyondViewport": True, "clip": {"x": 0, "y": 0, "width": size["width"], "height": size["height"], "scale": 1}}
@@ -288,7 +306,7 @@ class Tab:
         with open(path, "wb") as it:
             it.write(base64.b64decode(data))
 
-    def errors(self):
+    def errors(self) -> list[str]:
         """Returns what the console of the page tells of errors, but for requests that were refused or not answered, as tests want them."""
         told = []
         for event in self.browser.events:

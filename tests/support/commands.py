@@ -2,6 +2,9 @@
 from __future__ import annotations
 
 import json
+from collections.abc import Iterable
+
+from tests.support import Json
 
 # The greatest amount.
 MOST = 10**15
@@ -66,17 +69,17 @@ EACH_COMMAND = [
 ]
 
 
-def line(body, stamp='"at":200,"by":""'):
+def line(body: str, stamp: str = '"at":200,"by":""') -> bytes:
     """Returns the line of a command, with its moment and operator."""
     return b"{%s,%s}\n" % (stamp.encode(), body.encode())
 
 
-def replies(first, count):
+def replies(first: int, count: int) -> bytes:
     """Returns the replies to so many commands that are accepted, from this number on."""
     return b"".join(b'{"ok":%d}\n' % it for it in range(first, first + count))
 
 
-def compact(value):
+def compact(value: Json) -> str:
     """Returns a value as the desk writes it."""
     return json.dumps(value, separators=(",", ":"), sort_keys=True)
 
@@ -84,7 +87,7 @@ def compact(value):
 # ---- recipes and orders
 
 
-def add_recipe(phases, name="R", version=1):
+def add_recipe(phases: int, name: str = "R", version: int = 1) -> str:
     """A version of a recipe of one output and so many phases."""
     phase = ',{"kind":"phase","unit":"U","oper":"O","phase":"P"}'
     return (
@@ -93,20 +96,20 @@ def add_recipe(phases, name="R", version=1):
     )
 
 
-def approve(name="R", version=1):
+def approve(name: str = "R", version: int = 1) -> str:
     return f'"do":"approve","recipe":"{name}","version":{version}'
 
 
-def withdraw(name="R", version=1):
+def withdraw(name: str = "R", version: int = 1) -> str:
     return f'"do":"withdraw","recipe":"{name}","version":{version}'
 
 
-def add_definition(name, group):
+def add_definition(name: str, group: str) -> str:
     """A definition in grams of a class."""
     return f'"do":"add_definition","def":"{name}","class":"{group}","name":"the {name}","unit":"g"'
 
 
-def import_orders(count):
+def import_orders(count: int) -> str:
     """An import of so many orders of the recipe R."""
     rest = '"recipe":"R","version":1,"size":1,"due":"2027-03-01","priority":5'
     rows = ",".join(f'{{"order":"O-{it}",{rest}}}' for it in range(count))
@@ -116,32 +119,32 @@ def import_orders(count):
 # ---- batches
 
 
-def release(order, batch):
+def release(order: str, batch: str) -> str:
     return f'"do":"release","order":"{order}","batch":"{batch}"'
 
 
-def say(word, batch="B-1"):
+def say(word: str, batch: str = "B-1") -> str:
     """A word of the state table that is said to a batch."""
     return f'"do":"batch","batch":"{batch}","word":"{word}"'
 
 
-def settle(batch="B-1"):
+def settle(batch: str = "B-1") -> str:
     return f'"do":"settle","batch":"{batch}"'
 
 
-def phase_done(batch, number):
+def phase_done(batch: str, number: int) -> str:
     return f'"do":"phase_done","batch":"{batch}","phase":{number}'
 
 
-def consume(batch, lot="F-1", amount=1):
+def consume(batch: str, lot: str = "F-1", amount: int = 1) -> str:
     return f'"do":"consume","batch":"{batch}","lot":"{lot}","sub":0,"amount":{amount}'
 
 
-def produce(batch, lot, definition="DOUGH", amount=1):
+def produce(batch: str, lot: str, definition: str = "DOUGH", amount: int = 1) -> str:
     return f'"do":"produce","batch":"{batch}","lot":"{lot}","def":"{definition}","amount":{amount},"place":""'
 
 
-def begin_batch(batch, number):
+def begin_batch(batch: str, number: int) -> list[str]:
     """The commands by which an order of the recipe CAKE is imported, released as a batch, and the batch is started."""
     order = f'{{"order":"O-{number}","recipe":"CAKE","version":1,"size":300,"due":"2027-03-01","priority":5}}'
     return [f'"do":"import_orders","orders":[{order}]', release(f"O-{number}", batch), say("start", batch)]
@@ -150,35 +153,35 @@ def begin_batch(batch, number):
 # ---- lots
 
 
-def receive(lot, amount, definition="SUGAR"):
+def receive(lot: str, amount: int, definition: str = "SUGAR") -> str:
     return f'"do":"receive","lot":"{lot}","def":"{definition}","amount":{amount},"place":""'
 
 
-def scrap(lot, amount, sub=0):
+def scrap(lot: str, amount: int | str, sub: int | str = 0) -> str:
     return f'"do":"scrap","lot":"{lot}","sub":{sub},"amount":{amount}'
 
 
-def split(lot, amount, new):
+def split(lot: str, amount: int, new: str) -> str:
     return f'"do":"split","lot":"{lot}","sub":0,"amount":{amount},"new":"{new}","place":""'
 
 
-def divide(lot, amount=1, place=""):
+def divide(lot: str, amount: int = 1, place: str = "") -> str:
     return f'"do":"divide","lot":"{lot}","sub":0,"amount":{amount},"place":"{place}"'
 
 
-def merge(parts, new="M-1"):
+def merge(parts: Iterable[tuple[str, int, int]], new: str = "M-1") -> str:
     """A merge of these parts, each a lot, a sublot and an amount."""
     listed = ",".join(f'{{"lot":"{lot}","sub":{sub},"amount":{amount}}}' for lot, sub, amount in parts)
     return f'"do":"merge","new":"{new}","place":"","parts":[{listed}]'
 
 
-def hold(lot, name="H-1"):
+def hold(lot: str, name: str = "H-1") -> str:
     return f'"do":"hold","lot":"{lot}","hold":"{name}"'
 
 
-def recall(lot, name="RC-1"):
+def recall(lot: str, name: str = "RC-1") -> str:
     return f'"do":"recall","recall":"{name}","lot":"{lot}"'
 
 
-def lift(name="RC-1"):
+def lift(name: str = "RC-1") -> str:
     return f'"do":"lift","recall":"{name}"'

@@ -13,11 +13,13 @@ from __future__ import annotations
 import contextlib
 import dataclasses
 import os
+import pathlib
 import select
 import shutil
 import signal
 import subprocess
 import time
+from collections.abc import Sequence
 
 from tests.support.http import listens
 from tests.support.program import EXAMPLES
@@ -53,12 +55,12 @@ class Example:
     command: bytes
     wanted: bytes = b""
 
-    def typed(self):
+    def typed(self) -> str:
         """Returns the command as it stands in the document."""
         return "$ " + self.command.decode("utf-8", "backslashreplace").rstrip("\n").replace("\n", "\n> ")
 
 
-def examples_of(text):
+def examples_of(text: bytes) -> list[Example]:
     """Takes the commands out of a document."""
     examples, is_inside = [], False
     for number, line in enumerate(lines_of(text), 1):
@@ -87,7 +89,7 @@ def examples_of(text):
 class Shell:
     """A bash that runs the commands of a document in a folder."""
 
-    def __init__(self, folder, program, port):
+    def __init__(self, folder: pathlib.Path, program: pathlib.Path, port: int) -> None:
         self.folder, self.port, self.left = folder, port, "0"
         for name in ("bin", "home"):
             (folder / name).mkdir()
@@ -96,21 +98,23 @@ class Shell:
         orders, self.orders = os.pipe()
         self.ends, ends = os.pipe()
         words = ["bash", "--noprofile", "--norc", "-c", DRIVER % {"orders": orders, "ends": ends}]
-        how = {"cwd": folder / "here", "env": self.environment(), "stdin": subprocess.DEVNULL, "start_new_session": True}
-        self.bash = subprocess.Popen(words, pass_fds=(orders, ends), **how)
+        self.bash = subprocess.Popen(
+            words, pass_fds=(orders, ends), cwd=folder / "here", env=self.environment(),
+            stdin=subprocess.DEVNULL, start_new_session=True,
+        )
         os.close(orders)
         os.close(ends)
 
-    def environment(self):
+    def environment(self) -> dict[str, str]:
         """Returns the environment of the commands, without what would take requests to a proxy."""
         kept = {name: value for name, value in os.environ.items() if not name.lower().endswith("_proxy") and name != "BASH_ENV"}
         path = f"{self.folder}/bin:{os.environ.get('PATH', os.defpath)}"
         return {**kept, "PATH": path, "HOME": f"{self.folder}/home", "LC_ALL": "C", "PORT": str(self.port), "_room": str(self.folder)}
 
-    def __enter__(self):
+    def __enter__(self) -> Shell:
         return self
 
-    def __exit__(self, *_):
+    def __exit__(self, *_: object) -> None:
         """Ends the bash and what was left running."""
         os.close(self.orders)
         with contextlib.suppress(subprocess.TimeoutExpired):
@@ -120,7 +124,7 @@ class Shell:
         self.bash.wait()
         os.close(self.ends)
 
-    def run(self, number, command):
+    def run(self, number: int, command: bytes) -> str | None:
         """Runs a command, and says what keeps the next one from being run, if anything does."""
         (self.folder / f"{number}.command").write_bytes(command)
         os.write(self.orders, b"%d\n" % number)
@@ -134,7 +138,7 @@ class Shell:
         self.left = left
         return self.await_server() if left != before else None
 
-    def next_end(self):
+    def next_end(self) -> bytes | None:
         """Returns the next line that tells an end, or none where the shell has ended."""
         until, line = time.monotonic() + LIMIT, b""
         while not line.endswith(b"\n"):
@@ -146,7 +150,7 @@ class Shell:
             line += piece
         return line
 
-    def await_server(self):
+    def await_server(self) -> str | None:
         """Waits until something listens on the port, or the program that was left running has ended."""
         until = time.monotonic() + LIMIT
         while is_running(self.left) and not listens(self.port):
@@ -155,13 +159,13 @@ class Shell:
             time.sleep(0.02)
         return None
 
-    def printed(self, number):
+    def printed(self, number: int) -> bytes | None:
         """Returns what a command has printed, none where it wasn't run."""
         file = self.folder / f"{number}.output"
         return file.read_bytes() if file.exists() else None
 
 
-def is_running(number):
+def is_running(number: str) -> bool:
     """Returns whether the program of that process number runs."""
     try:
         with open(f"/proc/{number}/stat", "rb") as it:
@@ -170,7 +174,9 @@ def is_running(number):
         return False
 
 
-def ran(examples, folder, program, port):
+def ran(
+    examples: Sequence[Example], folder: pathlib.Path, program: pathlib.Path, port: int,
+) -> tuple[list[bytes | None], str | None]:
     """Runs the commands one after the other. Returns what each printed, none where it wasn't run, and why the last one broke off."""
     with Shell(folder, program, port) as shell:
         why = None
@@ -181,7 +187,7 @@ def ran(examples, folder, program, port):
     return [shell.printed(number) for number in range(len(examples))], why
 
 
-def shown(text):
+def shown(text: bytes) -> list[str]:
     """Returns the lines of a text, with the bytes shown that a terminal wouldn't show."""
     lines = []
     for line in lines_of(text):

@@ -10,10 +10,12 @@ import functools
 import os
 import pathlib
 import resource
+import signal
 import subprocess
 import tempfile
+from collections.abc import Iterator
 
-from tests.support.program import TOP
+from tests.support.program import TOP, How
 
 # A user that owns nothing, where the tests are run by one who may do everything.
 NOBODY = 65534
@@ -23,7 +25,7 @@ MOST_RUNS = 5_000
 
 
 @functools.lru_cache(maxsize=None)
-def library(name):
+def library(name: str) -> pathlib.Path:
     """Builds a library of bench, and returns its path."""
     folder = tempfile.TemporaryDirectory(prefix="desk-faults-")
     atexit.register(folder.cleanup)
@@ -32,7 +34,7 @@ def library(name):
     return built
 
 
-def numbers(first=1, step=1):
+def numbers(first: int = 1, step: int = 1) -> Iterator[int]:
     """Yields the numbers of calls or allocations at which faults are brought about, each in a run of its own, for a loop that ends with the first
     run that gets through. Where none of 5,000 runs does the test fails, so that a program which never gets through can't hang it. Runs are counted
     and not calls: a long run of which each so many-th call fails has more than 5,000 of them."""
@@ -40,52 +42,52 @@ def numbers(first=1, step=1):
     raise AssertionError(f"of {MOST_RUNS} runs with a fault at {first} and at each number {step} above none got through")
 
 
-def preloaded(name, **settings):
+def preloaded(name: str, **settings: object) -> dict[str, str]:
     """Puts a library before the program, with these settings."""
     return {"LD_PRELOAD": str(library(name)), **{setting: str(value) for setting, value in settings.items()}}
 
 
-def stopped_file(end, calls, error=None):
+def stopped_file(end: str, calls: int, error: int | None = None) -> dict[str, str]:
     """The files whose names end so fail behind so many calls, by this error or as a failing disk."""
     more = {} if error is None else {"STOP_ERROR": error}
     return preloaded("stop", STOPPED=end, STOP_AFTER=calls, **more)
 
 
-def synced_files():
+def synced_files() -> dict[str, str]:
     """No file fails; what of the desk's files was synced is kept beside them."""
     return preloaded("stop")
 
 
-def failed_call(number, error, mark):
+def failed_call(number: int, error: int, mark: pathlib.Path) -> dict[str, str]:
     """Of the calls about a desk's file the one of this number fails, and then the file `mark` is made."""
     return preloaded("at_call", AT_NAME=".db", AT_OPEN="-new", AT_CALL=number, AT_ERROR=error, AT_MET=mark)
 
 
-def met_call(number, sent, mark):
+def met_call(number: int, sent: signal.Signals, mark: pathlib.Path) -> dict[str, str]:
     """Of the calls about a desk's file the program sends itself this signal before the one of this number, and then the file `mark` is made."""
     return preloaded("at_call", AT_NAME=".db", AT_OPEN="-new", AT_CALL=number, AT_SIGNAL=int(sent), AT_MET=mark)
 
 
-def refused_memory(number, mark=None):
+def refused_memory(number: int, mark: pathlib.Path | None = None) -> dict[str, str]:
     """The allocation of this number is refused, and then the file `mark` is made."""
     return preloaded("refuse", REFUSE=number, **({"REFUSED": mark} if mark else {}))
 
 
-def narrow_streams(**limits):
+def narrow_streams(**limits: int) -> dict[str, str]:
     """The streams have limits: READ_MOST, WRITE_MOST, READS, READ_ERROR, WRITES, WRITE_ERROR and ACCEPTS, as bench/narrow.c says."""
     return preloaded("narrow", **limits)
 
 
-def limited(kind, most):
+def limited(kind: int, most: int) -> How:
     """Returns how a program is run with a limit of the system, such as resource.RLIMIT_FSIZE."""
     return {"preexec_fn": lambda: resource.setrlimit(kind, (most, most))}
 
 
-def softly_limited(kind, most):
+def softly_limited(kind: int, most: int) -> How:
     """Returns how a program is run with a limit that it could raise again."""
     return {"preexec_fn": lambda: resource.setrlimit(kind, (most, resource.getrlimit(kind)[1]))}
 
 
-def as_nobody():
+def as_nobody() -> How:
     """Returns how a program is run by a user that owns nothing."""
     return {"user": NOBODY, "group": NOBODY, "extra_groups": []} if os.geteuid() == 0 else {}

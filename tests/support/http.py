@@ -6,8 +6,9 @@ import random
 import socket
 import struct
 import time
+from collections.abc import Mapping
 
-from tests.support.program import SECONDS, Ended
+from tests.support.program import SECONDS, Ended, Program, Word
 
 # How often a server is started at most where another program has taken its port.
 ATTEMPTS = 3
@@ -35,28 +36,28 @@ PHRASES = {
 }
 
 
-def answer(body, status=200, kind="application/json"):
+def answer(body: str, status: int = 200, kind: str = "application/json") -> bytes:
     """Returns the answer of this body."""
     head = f"HTTP/1.1 {status} {PHRASES[status]}\r\nContent-Type: {kind}\r\nContent-Length: {len(body)}\r\nConnection: close\r\n\r\n"
     return (head + body).encode()
 
 
-def status_answer(status):
+def status_answer(status: int) -> bytes:
     """Returns the answer that tells its status alone."""
     return answer(f'{{"status":{status}}}', status)
 
 
-def desk_answer(seq):
+def desk_answer(seq: int) -> bytes:
     """Returns the answer of a desk that has so many commands."""
     return answer('{"schema":4,"seq":%d}' % seq)
 
 
-def got(path):
+def got(path: str) -> bytes:
     """Returns a request that gets a path."""
     return f"GET {path} HTTP/1.0\r\n\r\n".encode()
 
 
-def posted(path, body, *fields):
+def posted(path: str, body: bytes, *fields: str) -> bytes:
     """Returns a request that posts a body."""
     lines = [f"POST {path} HTTP/1.1", "Host: a", f"Content-Length: {len(body)}", *fields, "", ""]
     return "\r\n".join(lines).encode() + body
@@ -73,7 +74,7 @@ ACCEPTED = answer('{"ok":1}')
 HOST = b"GET /v1/desk HTTP/1.1\r\nHost: a\r\n"
 
 
-def free_port():
+def free_port() -> int:
     """Returns a port of 127.0.0.1 that is free at this moment."""
     while True:
         port = random.choice(PORTS)
@@ -85,24 +86,24 @@ def free_port():
                 continue
 
 
-def listens(port):
+def listens(port: int) -> bool:
     """Returns whether something listens on a port of 127.0.0.1, by the system's list of sockets: a connection would count."""
     return f"0100007F:{port:04X} 00000000:0000 0A" in pathlib.Path("/proc/net/tcp").read_text()
 
 
-def connected(port, address="127.0.0.1", seconds=SECONDS):
+def connected(port: int, address: str = "127.0.0.1", seconds: float = SECONDS) -> socket.socket:
     """Returns a connection to a port."""
     return socket.create_connection((address, port), seconds)
 
 
-def closed(connection, is_reset):
+def closed(connection: socket.socket, is_reset: bool) -> None:
     """Closes a connection, or resets it."""
     if is_reset:
         connection.setsockopt(socket.SOL_SOCKET, socket.SO_LINGER, struct.pack("ii", 1, 0))
     connection.close()
 
 
-def rest_of(connection):
+def rest_of(connection: socket.socket) -> bytes:
     """Returns what comes on a connection to its end."""
     text = b""
     while piece := connection.recv(65536):
@@ -110,7 +111,7 @@ def rest_of(connection):
     return text
 
 
-def answered(port, request, is_last=False):
+def answered(port: int, request: bytes, is_last: bool = False) -> bytes:
     """Returns the answer to a request on a connection of its own, behind which nothing is sent where it is the last."""
     with connected(port) as it:
         it.sendall(request)
@@ -119,7 +120,7 @@ def answered(port, request, is_last=False):
         return rest_of(it)
 
 
-def answered_or_broken(port, request, is_last=False):
+def answered_or_broken(port: int, request: bytes, is_last: bool = False) -> bytes:
     """Returns the answer to a request, and nothing where the connection breaks."""
     try:
         return answered(port, request, is_last)
@@ -127,7 +128,7 @@ def answered_or_broken(port, request, is_last=False):
         return b""
 
 
-def is_refused(address, port):
+def is_refused(address: str, port: int) -> bool:
     """Returns whether no connection to this address is taken."""
     try:
         connected(port, address, 5).close()
@@ -139,9 +140,13 @@ def is_refused(address, port):
 class Server:
     """A desk that serves so many connections over a file, at a port of its own or at the one that is given."""
 
-    def __init__(self, desk, file, connections, *options, env=None, port=None):
+    def __init__(
+        self, desk: Program, file: Word, connections: int, *options: Word,
+        env: Mapping[str, str] | None = None, port: int | None = None,
+    ) -> None:
         for _ in range(ATTEMPTS):
-            self.ended, self.port = None, port or free_port()
+            self.ended: Ended | None = None
+            self.port = port or free_port()
             words = ["serve", file, str(self.port), str(connections), *options]
             self.process = desk.start(*words, env=env)
             last = time.monotonic() + SECONDS
@@ -153,25 +158,25 @@ class Server:
             if self.process.poll() is None or self.end() != NET:
                 return
 
-    def __enter__(self):
+    def __enter__(self) -> Server:
         return self
 
-    def __exit__(self, *_):
+    def __exit__(self, *_: object) -> None:
         self.process.kill()
         self.end()
 
-    def end(self):
+    def end(self) -> Ended:
         """Waits until the server has ended, and returns how."""
         if self.ended is None:
             output, errors = self.process.communicate(timeout=SECONDS)
             self.ended = Ended(self.process.returncode, output, errors)
         return self.ended
 
-    def is_running(self):
+    def is_running(self) -> bool:
         return self.process.poll() is None
 
-    def answered(self, request, is_last=False):
+    def answered(self, request: bytes, is_last: bool = False) -> bytes:
         return answered(self.port, request, is_last)
 
-    def answered_or_broken(self, request, is_last=False):
+    def answered_or_broken(self, request: bytes, is_last: bool = False) -> bytes:
         return answered_or_broken(self.port, request, is_last)

@@ -9,12 +9,18 @@ import fractions
 import itertools
 import json
 import math
+import random
+from collections.abc import Callable, Collection, Iterable, Iterator, Mapping, Sequence
 
+from tests.support import Json
 from tests.support.commands import (
     GOODS, MOST, add_recipe, approve, compact, consume, import_orders, merge, phase_done, produce, recall, receive, release, say, settle, split,
 )
 from tests.support.sessions import Session
-from tests.support.sqlite import reached
+from tests.support.sqlite import Node, reached
+
+# What gives the random numbers of a name.
+Chance = Callable[[str], random.Random]
 
 # The moves of the state table: where each word leads a batch from each state.
 MOVES = {
@@ -46,19 +52,20 @@ GENEALOGIES, BATCHES, BOOKINGS = 12, 3, 40
 # ---- the state table
 
 
-def plan(name, orders, *recipes):
+def plan(name: str, orders: int, *recipes: str) -> Session:
     """Returns a session of materials, recipes that are approved, and so many orders of the recipe R."""
     return Session(name).accepted(*GOODS, *recipes).accepted(approve(), import_orders(orders))
 
 
-def told(word, batch):
+def told(word: str, batch: str) -> str:
     """Returns the command that says a word of the state table to a batch."""
     return settle(batch) if word == "done" else say(word, batch)
 
 
-def ways():
+def ways() -> dict[str, list[str]]:
     """Returns for each state the words that lead to it from idle, as few as may be."""
-    found, ahead = {"idle": []}, ["idle"]
+    found: dict[str, list[str]] = {"idle": []}
+    ahead = ["idle"]
     for at in ahead:
         for word, to in MOVES[at].items():
             if to not in found:
@@ -67,23 +74,26 @@ def ways():
     return found
 
 
-def lead(session, batch, words):
+def lead(session: Session, batch: str, words: Iterable[str]) -> None:
     """Leads a released batch by these words; its first phase is done once it has started."""
     for it in words:
         session.accepted(told(it, batch), *([phase_done(batch, 1)] if it == "start" else []))
 
 
-def batch_told(number, state, attempt, following, phases=1, closed=False):
+def batch_told(number: int, state: str, attempt: int, following: int, phases: int = 1, closed: bool = False) -> str:
     """Returns what is answered about a batch that has booked nothing."""
     rest = {"consumed": [], "order": f"O-{number}", "produced": [], "recipe": "R", "size": 1, "version": 1}
     return compact({**rest, "attempt": attempt, "batch": f"B-{number}", "closed": closed, "next": following, "phases": phases, "state": state})
 
 
-def ask_batch(session, number, *answer):
-    return session.asked(f'{{"ask":"batch","batch":"B-{number}"}}', batch_told(number, *answer))
+def ask_batch(
+    session: Session, number: int, state: str, attempt: int, following: int, phases: int = 1, closed: bool = False,
+) -> Session:
+    answer = batch_told(number, state, attempt, following, phases, closed)
+    return session.asked(f'{{"ask":"batch","batch":"B-{number}"}}', answer)
 
 
-def states():
+def states() -> Session:
     """Returns a session in which a batch of its own hears each word in each state, its one phase done once it has started."""
     pairs = list(itertools.product(MOVES, STATE_WORDS))
     session, way = plan("each word in each state", len(pairs), add_recipe(1)), ways()
@@ -98,7 +108,7 @@ def states():
     return session
 
 
-def closings():
+def closings() -> Session:
     """Returns a session of batches that are closed, in each state in which they may be, and of what they refuse then."""
     session, way = plan("a closed batch moves no more", len(MOVES), add_recipe(2)), ways()
     for number, state in enumerate(MOVES):
@@ -117,7 +127,7 @@ def closings():
     return session
 
 
-def refuse_when_closed(session, number, state):
+def refuse_when_closed(session: Session, number: int, state: str) -> None:
     """Says each word and does each phase of a closed batch of two phases: what its state allows is refused as closed, the rest as else."""
     batch, closed, following = f"B-{number}", ("BatchClosed", 23), 3 if state == "complete" else 2
     for word in STATE_WORDS:
@@ -127,7 +137,7 @@ def refuse_when_closed(session, number, state):
     ask_batch(session, number, state, 1, following, 2, True)
 
 
-def phases():
+def phases() -> Session:
     """Returns a session of a batch of 127 phases, the most that a recipe has."""
     session = plan("a batch has 127 phases", 1, add_recipe(127)).accepted(release("O-0", "B-0"), say("start", "B-0"))
     for number in range(1, 128):
@@ -138,32 +148,34 @@ def phases():
 # ---- recipes
 
 
-def line(kind, amount=None, name=None):
+def line(kind: str, amount: int | None = None, name: str | None = None) -> dict[str, Json]:
     """Returns a line of a recipe, by its kind."""
     if kind == "phase":
         return {"kind": kind, "oper": "BLEND", "phase": "STIR", "unit": "MIX"}
     return {"kind": "par", "name": name, "value": "80 C"} if kind == "par" else {"def": name, "kind": kind, "qty": amount}
 
 
-def recipe_of(name, base, least, greatest, lines, product="DOUGH"):
+def recipe_of(
+    name: str, base: int, least: int, greatest: int, lines: Sequence[Mapping[str, Json]], product: str = "DOUGH",
+) -> str:
     """Returns a recipe of these lines."""
     head = {"do": "add_recipe", "recipe": name, "version": 1, "product": product, "title": ""}
     return json.dumps({**head, "base": base, "min": least, "max": greatest, "lines": lines}, separators=(",", ":"))[1:-1]
 
 
-def materials(name):
+def materials(name: str) -> Session:
     """Returns a session of the materials of a dough."""
     session = Session(name).accepted('"do":"add_class","class":"RAW","name":""')
     return session.accepted(*[f'"do":"add_definition","def":"{it}","class":"RAW","name":"","unit":"kg"' for it in ("FLOUR", "DOUGH", "WASTE")])
 
 
-def forms():
+def forms() -> Session:
     """Returns a session of recipes that are well formed, and of recipes that aren't."""
     session, number = materials("forms of recipes"), itertools.count()
     flour, dough, waste = line("in", 100, "FLOUR"), line("out", 500, "DOUGH"), line("out", 5, "WASTE")
     heat, stir = line("par", name="TEMP"), line("phase")
     small = [line("in", 2, "FLOUR"), line("out", 2, "DOUGH"), stir]
-    for base, least, greatest, lines, is_good in [
+    cases: list[tuple[int, int, int, list[dict[str, Json]], bool]] = [
         (500, 100, 900, small, True),
         (500, 900, 900, small, True),
         (500, 901, 900, small, False),
@@ -181,21 +193,26 @@ def forms():
         (500, 100, 900, [heat, dough, heat, stir], False),
         (500, 100, 900, [flour, dough, heat, waste], False),
         (500, 100, 900, [], False),
-    ]:
+    ]
+    for base, least, greatest, lines, is_good in cases:
         body = recipe_of(f"R-{next(number)}", base, least, greatest, lines)
         session = session.accepted(body) if is_good else session.refused("BadForm", 1, body)
     return session
 
 
-def scaled(amount, size, base):
+def scaled(amount: int, size: int, base: int) -> int:
     """Returns an amount of a recipe of a base, scaled to a size and rounded to the nearest whole number, a half up."""
     return math.floor(fractions.Fraction(amount * size, base) + fractions.Fraction(1, 2))
 
 
-def scalings(chance):
+def scalings(chance: Chance) -> tuple[Session, dict[str, list[int]]]:
     """Returns a session of recipes by chance, each with an order of its greatest size, and the amounts of the batches that are released."""
-    session, numbers, amounts = materials("amounts are scaled"), chance("recipes"), {}
-    some = [(100, 500, 300), (1, 250, 500), (1, 100, 500), (MOST, MOST, MOST), (MOST, 900, 900), (1, MOST, 1), (2, MOST, 1), (MOST, 1, 2)]
+    session, numbers = materials("amounts are scaled"), chance("recipes")
+    amounts: dict[str, list[int]] = {}
+    some: list[tuple[int, ...]] = [
+        (100, 500, 300), (1, 250, 500), (1, 100, 500),
+        (MOST, MOST, MOST), (MOST, 900, 900), (1, MOST, 1), (2, MOST, 1), (MOST, 1, 2),
+    ]
     some += [tuple(numbers.randint(1, 10 ** numbers.randint(1, 15)) for _ in range(3)) for _ in range(SCALED)]
     for number, (amount, size, base) in enumerate(some):
         taken, made = scaled(amount, size, base), scaled(base, size, base)
@@ -220,15 +237,18 @@ def scalings(chance):
 class Genealogy:
     """Bookings by chance, what is left of each lot, what leads to what, and what was booked along it."""
 
-    def __init__(self, name, numbers):
-        self.chance, self.stock, self.edges, self.amounts = numbers, {}, {}, {}
+    def __init__(self, name: str, numbers: random.Random) -> None:
+        self.chance = numbers
+        self.stock: dict[str, int] = {}
+        self.edges: dict[Node, list[Node]] = {}
+        self.amounts: dict[tuple[Node, Node], int] = {}
         self.nodes = [(BATCH, f"B-{it}") for it in range(BATCHES)]
         lines = [line("in", 1, "SUGAR"), line("out", 1, "SUGAR"), line("phase")]
         self.session = plan(f"{name} by chance", BATCHES, recipe_of("R", 1, 1, 900, lines, "SUGAR"))
         for it in range(BATCHES):
             self.session.accepted(release(f"O-{it}", f"B-{it}"), say("start", f"B-{it}"))
 
-    def enter(self, amount, *sources):
+    def enter(self, amount: int, *sources: Node) -> str:
         """Adds a lot that came of these nodes, of each by as much, and returns its id: the first ones have the ids of the batches."""
         lot = f"B-{len(self.stock)}" if len(self.stock) < BATCHES else f"L-{len(self.stock)}"
         self.stock[lot] = amount
@@ -237,12 +257,12 @@ class Genealogy:
             self.lead(it, (LOT, lot), amount // len(sources))
         return lot
 
-    def lead(self, start, end, amount):
+    def lead(self, start: Node, end: Node, amount: int) -> None:
         """Notes that an amount was booked from one node to another."""
         self.edges.setdefault(start, []).append(end)
         self.amounts[start, end] = self.amounts.get((start, end), 0) + amount
 
-    def book(self):
+    def book(self) -> None:
         """Books something, or has it refused where a batch would take what came of it."""
         known, batch = [it for it, stock in self.stock.items() if stock >= 3], self.chance.choice(self.nodes[:BATCHES])
         way = self.chance.choice(["receive", "split", "merge", "consume", "produce"]) if known else "receive"
@@ -260,13 +280,13 @@ class Genealogy:
         else:
             self.consume(batch, self.chance.choice(known), amount)
 
-    def merge(self, lots, amount):
+    def merge(self, lots: Sequence[str], amount: int) -> None:
         for it in lots:
             self.stock[it] -= amount
         new = self.enter(amount * len(lots), *((LOT, it) for it in lots))
         self.session.accepted(merge([(it, 0, amount) for it in lots], new))
 
-    def consume(self, batch, lot, amount):
+    def consume(self, batch: Node, lot: str, amount: int) -> None:
         body = consume(batch[1], lot, amount)
         if (LOT, lot) in reached(self.edges, batch):
             self.session.refused("OwnProduct", 26, body)
@@ -275,9 +295,9 @@ class Genealogy:
             self.stock[lot] -= amount
             self.lead((LOT, lot), batch, amount)
 
-    def ask(self):
+    def ask(self) -> Session:
         """Asks where each node came from and went, by which edges, where its goods stand, and what a recall of some lots reaches."""
-        turned = {}
+        turned: dict[Node, list[Node]] = {}
         for start, ends in self.edges.items():
             for end in ends:
                 turned.setdefault(end, []).append(start)
@@ -291,22 +311,22 @@ class Genealogy:
         self.recall(self.chance.sample(sorted(self.stock), 4))
         return self.session
 
-    def recall(self, lots):
+    def recall(self, lots: Iterable[str]) -> None:
         """Recalls lots, and asks what each recall reaches."""
         for number, lot in enumerate(lots):
             name, nodes = f"RC-{number}", nodes_told(reached(self.edges, (LOT, lot)))
             self.session.accepted(recall(lot, name))
             self.session.asked(f'{{"ask":"recall","recall":"{name}"}}', compact({"lot": lot, "nodes": nodes, "recall": name, "state": "open"}))
 
-    def known(self, lot):
+    def known(self, lot: str) -> dict[str, Json]:
         return {"def": "SUGAR", "held": False, "lot": lot, "stock": self.stock[lot]}
 
-    def standing(self, nodes):
+    def standing(self, nodes: Iterable[Node]) -> list[Json]:
         """Returns what is answered of those of the nodes that are lots with stock."""
         lots = [name for kind, name in sorted(nodes) if kind == LOT and self.stock[name]]
         return [{**self.known(it), "recalled": False, "sublots": [{"no": 0, "place": "", "stock": self.stock[it]}]} for it in lots]
 
-    def genealogy(self, nodes):
+    def genealogy(self, nodes: Collection[Node]) -> Json:
         """Returns what is answered of the nodes, and of the edges between them: from lots to batches, from batches to lots, from lots to lots."""
         told = [{**self.known(name), "recalled": False, "unit": "g"} if kind == LOT else {"batch": name} for kind, name in sorted(nodes)]
         between = [it for it in self.amounts if it[0] in nodes and it[1] in nodes]
@@ -315,12 +335,12 @@ class Genealogy:
         return {"edges": edges, "nodes": told}
 
 
-def nodes_told(nodes):
+def nodes_told(nodes: Iterable[Node]) -> list[dict[str, str]]:
     """Returns nodes as they are answered: lots before batches, each ascending."""
     return [{"lot" if kind == LOT else "batch": name} for kind, name in sorted(nodes)]
 
 
-def genealogies(chance):
+def genealogies(chance: Chance) -> Iterator[Session]:
     """Returns sessions of genealogies that are made by chance."""
     for name in (f"genealogy {it}" for it in range(GENEALOGIES)):
         genealogy = Genealogy(name, chance(name))
@@ -329,6 +349,6 @@ def genealogies(chance):
         yield genealogy.ask()
 
 
-def every(chance):
+def every(chance: Chance) -> list[Session]:
     """Returns all sessions whose answers are computed here."""
     return [states(), closings(), phases(), forms(), scalings(chance)[0], *genealogies(chance)]

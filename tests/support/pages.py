@@ -2,16 +2,18 @@
 from __future__ import annotations
 
 import json
+import pathlib
 import shutil
 import time
 import unittest
 import urllib.error
 import urllib.request
 
-from tests.support import browser
+from tests.support import Json, browser
+from tests.support.browser import Browser, Tab
 from tests.support.cases import DeskTestCase
 from tests.support.http import Server
-from tests.support.program import EXAMPLES, Program
+from tests.support.program import EXAMPLES, File, Program
 from tests.support.tools import loaded
 
 # How many connections a served desk may take: more than any test makes.
@@ -29,17 +31,17 @@ KEPT = """localStorage.getItem("desk.operator") || localStorage.setItem("desk.op
 page_tool = loaded("make/page.py")
 
 
-def page():
+def page() -> str:
     """Returns the page as text."""
-    return page_tool.constant("page.rt", page_tool.PAGE)
+    return str(page_tool.constant("page.rt", page_tool.PAGE))
 
 
-def policy():
+def policy() -> str:
     """Returns the policy of the page, computed of it."""
-    return page_tool.policy_of(page())
+    return str(page_tool.policy_of(page()))
 
 
-def mornings(now):
+def mornings(now: int) -> bytes:
     """Returns the lines of examples/mornings.jsonl, moved into the hours before a moment, with orders that are due before and after it."""
     lines = []
     for line in (EXAMPLES / "mornings.jsonl").read_text().splitlines():
@@ -51,7 +53,7 @@ def mornings(now):
     return b"".join(lines)
 
 
-def moved(due, now):
+def moved(due: str, now: int) -> str:
     """Returns a due date of March 2027 as a day around a moment: the 6th is that day."""
     return time.strftime("%Y-%m-%d", time.localtime(now + 86_400 * (int(due[-2:]) - 6)))
 
@@ -59,39 +61,39 @@ def moved(due, now):
 class ServedDesk:
     """A desk over a file that is served with the page, and can be killed and started again at its port."""
 
-    def __init__(self, desk, file):
+    def __init__(self, desk: Program, file: File) -> None:
         self.desk, self.file = desk, file
         self.server = Server(desk, file, CONNECTIONS, "--page")
         self.url = f"http://127.0.0.1:{self.server.port}/"
 
-    def ask(self, path):
+    def ask(self, path: str) -> Json:
         """Returns what the desk answers to a question."""
         with urllib.request.urlopen(f"http://127.0.0.1:{self.server.port}/v1{path}", timeout=60) as it:
             return json.load(it)
 
-    def found(self, path):
+    def found(self, path: str) -> Json:
         """Returns what the desk answers to a question that it may not know."""
         try:
             return self.ask(path)
         except urllib.error.HTTPError as error:
             return json.load(error)
 
-    def told(self, **command):
+    def told(self, **command: Json) -> Json:
         """Tells the desk a command, as another client does; returns its reply."""
         request = urllib.request.Request(f"http://127.0.0.1:{self.server.port}/v1/commands", json.dumps(command).encode())
         with urllib.request.urlopen(request, timeout=60) as it:
             return json.load(it)
 
-    def kill(self):
+    def kill(self) -> None:
         """Kills the desk as a stop of the machine would."""
         self.server.process.kill()
         self.server.end()
 
-    def start_again(self, file=None):
+    def start_again(self, file: File | None = None) -> None:
         """Starts the desk again at the port that it had, or another desk there, whose file is given."""
         self.server = Server(self.desk, file or self.file, CONNECTIONS, "--page", port=self.server.port)
 
-    def end(self):
+    def end(self) -> None:
         """Ends the desk."""
         self.kill()
 
@@ -100,21 +102,25 @@ class BrowserTestCase(DeskTestCase):
     """A test case with a browser. Where there is none its tests are left out, and the module says so."""
 
     IN_MEMORY = True
-    NAMES = ()
+    NAMES: tuple[str, ...] = ()
+
+    # The browser, and the file of the mornings.
+    browser: Browser
+    mornings: pathlib.Path
 
     @classmethod
-    def setUpClass(cls):
+    def setUpClass(cls) -> None:
         super().setUpClass()
         if not browser.program():
             cls.leave_out(cls.__name__, "there is no chromium")
             raise unittest.SkipTest("there is no chromium")
-        cls.browser = browser.Browser(cls.NAMES)
+        cls.browser = Browser(cls.NAMES)
         cls.addClassCleanup(cls.browser.end)
         cls.mornings = cls.class_folder() / "mornings.db"
         ended = Program("desk", cls.mornings.parent).run("run", cls.mornings.name, told=mornings(int(time.time())))
         cls.check_set_up("the mornings", (ended.status, ended.output.count(b'"ok"')), (0, MORNINGS))
 
-    def serve(self, is_empty=False):
+    def serve(self, is_empty: bool = False) -> ServedDesk:
         """Serves a desk of the test's own, which holds the mornings where it isn't to be empty."""
         file = self.folder / "plant.db"
         if not is_empty:
@@ -123,7 +129,7 @@ class BrowserTestCase(DeskTestCase):
         self.addCleanup(self.served.end)
         return self.served
 
-    def open(self, place, script="", kept=KEPT, **size):
+    def open(self, place: str, script: str = "", kept: str = KEPT, **size: int) -> Tab:
         """Opens a view of the page of the desk that is served."""
         tab = self.browser.tab(f"{self.served.url}#{place}", script=kept + script, **size)
         self.addCleanup(tab.close)

@@ -6,6 +6,7 @@ import pathlib
 import subprocess
 import time
 import typing
+from collections.abc import Callable, Mapping
 
 TOP = pathlib.Path(__file__).resolve().parent.parent.parent
 EXAMPLES = TOP / "examples"
@@ -34,6 +35,20 @@ class MissingProgram(Exception):
     """A program isn't built."""
 
 
+# The path of a file or folder, and a word of a command line.
+File = typing.Union[str, os.PathLike[str]]
+Word = typing.Union[File, bytes]
+
+
+class How(typing.TypedDict, total=False):
+    """What the system is told of a program that is run, as subprocess.Popen takes it."""
+
+    preexec_fn: Callable[[], None]
+    user: int
+    group: int
+    extra_groups: list[int]
+
+
 class Ended(typing.NamedTuple):
     """How a program ended."""
 
@@ -42,7 +57,7 @@ class Ended(typing.NamedTuple):
     errors: bytes
 
 
-def path_of(name):
+def path_of(name: str) -> pathlib.Path:
     """Returns the path of a program."""
     crate, place = CRATES[name], os.environ.get(PLACE, "build")
     path = TOP / (place.replace("NAME", crate) if "NAME" in place else f"{place}/{crate}")
@@ -54,29 +69,33 @@ def path_of(name):
 class Program:
     """A built program that is run in a folder."""
 
-    def __init__(self, name, folder):
+    def __init__(self, name: str, folder: File) -> None:
         self.name, self.path, self.folder = name, path_of(name), folder
 
-    def run(self, *words, told=b"", env=None, **how):
+    def run(self, *words: Word, told: bytes = b"", env: Mapping[str, str] | None = None, **how: typing.Any) -> Ended:
         """Runs the program to its end, with `told` as its input and `env` added to the environment; returns how it ended."""
         given = {} if "stdin" in how else {"input": told}
         streams = {"stdout": subprocess.PIPE, "stderr": subprocess.PIPE}
-        options = {**given, **streams, "cwd": self.folder, "timeout": SECONDS, "env": environment(env), **how}
+        options: dict[str, typing.Any] = {
+            **given, **streams, "cwd": self.folder, "timeout": SECONDS, "env": environment(env), **how,
+        }
         ran = subprocess.run([self.path, *words], **options)
         return Ended(ran.returncode, ran.stdout, ran.stderr)
 
-    def start(self, *words, env=None, **how):
+    def start(self, *words: Word, env: Mapping[str, str] | None = None, **how: typing.Any) -> subprocess.Popen[bytes]:
         """Starts the program, with `env` added to the environment; returns its process, whose output and errors are pipes."""
         streams = {"stdin": subprocess.DEVNULL, "stdout": subprocess.PIPE, "stderr": subprocess.PIPE}
-        return subprocess.Popen([self.path, *words], **{**streams, "cwd": self.folder, "env": environment(env), **how})
+        options: dict[str, typing.Any] = {**streams, "cwd": self.folder, "env": environment(env), **how}
+        process: subprocess.Popen[bytes] = subprocess.Popen([self.path, *words], **options)
+        return process
 
 
-def state_of(process):
+def state_of(process: subprocess.Popen[bytes]) -> str:
     """Returns the letter of a process's state: T where it is paused, S where it waits, as for its input, Z where it has ended."""
     return pathlib.Path(f"/proc/{process.pid}/stat").read_text().rpartition(")")[2].split()[0]
 
 
-def wait_for(process, states):
+def wait_for(process: subprocess.Popen[bytes], states: str) -> None:
     """Waits until a process is in one of these states. One that isn't so in time is killed, and fails the test."""
     last = time.monotonic() + SECONDS
     while state_of(process) not in states:
@@ -85,6 +104,6 @@ def wait_for(process, states):
             raise AssertionError(f"a program is in none of the states {states} within {SECONDS} seconds")
 
 
-def environment(more):
+def environment(more: Mapping[str, str] | None) -> dict[str, str]:
     """Returns the environment of this process with some variables more."""
     return {**os.environ, **(more or {})}

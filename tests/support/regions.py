@@ -3,6 +3,9 @@ from __future__ import annotations
 
 import re
 import shutil
+import types
+from collections.abc import Iterable, Mapping, Sequence
+from typing import Any
 
 from tests.support.cases import FolderTestCase
 from tests.support.program import TOP
@@ -12,9 +15,9 @@ from tests.support.tools import Repository, loaded
 class RegionsTestCase(FolderTestCase):
     """A test case over a copy of the files that a tool writes. It is a base of others, which have TOOLS, the first of them the tool, and `described`."""
 
-    TOOLS = ()
+    TOOLS: tuple[str, ...] = ()
 
-    def setUp(self):
+    def setUp(self) -> None:
         super().setUp()
         self.tool = loaded(self.TOOLS[0])
         # A region with its two comments; a file that is generated as a whole has the first alone.
@@ -27,23 +30,27 @@ class RegionsTestCase(FolderTestCase):
             (self.repository.folder / place).parent.mkdir(parents=True, exist_ok=True)
             shutil.copy(TOP / place, self.repository.folder / place)
 
-    def texts(self):
+    def described(self, tool: types.ModuleType) -> Sequence[Any]:
+        """Returns the regions that the tool's description gives, each with its place and name."""
+        raise NotImplementedError
+
+    def texts(self) -> dict[str, str]:
         """Returns the files below crates/."""
         folder = self.repository.folder
         return {str(it.relative_to(folder)): it.read_text() for it in (folder / "crates").rglob("*") if it.is_file()}
 
-    def replace(self, place, old, new):
+    def replace(self, place: str, old: str, new: str) -> None:
         """Replaces a text that a file has once."""
         text = self.repository.read(place)
         self.check(f"{old!r} in {place}", text.count(old), 1)
         self.repository.write(place, text.replace(old, new))
 
-    def written(self, *words):
+    def written(self, *words: str) -> tuple[int, str]:
         """Runs the tool; returns its status and errors."""
         ended = self.repository.run(self.TOOLS[0], *words)
         return ended.status, ended.errors
 
-    def check_files(self):
+    def check_files(self) -> None:
         """Checks that the files are what the description gives, and that no region is left that the tool doesn't write."""
         before = self.texts()
         self.check("the check", self.written("--check"), (0, ""))
@@ -56,7 +63,7 @@ class RegionsTestCase(FolderTestCase):
             found = [text.split("\n")[0][len(self.whole) :]] if text.startswith(self.whole) else [it["name"] for it in self.region.finditer(text)]
             self.check(place, sorted(found), sorted(listed))
 
-    def check_found_and_written_anew(self, place, old, new):
+    def check_found_and_written_anew(self, place: str, old: str, new: str) -> None:
         """Checks that a region that was changed by hand is found, and written anew."""
         before = self.texts()
         self.replace(place, old, new)
@@ -65,7 +72,7 @@ class RegionsTestCase(FolderTestCase):
         self.check("the writing", self.written(), (0, ""))
         self.check("the files", self.texts(), before)
 
-    def check_regions_alone(self, before, new_files):
+    def check_regions_alone(self, before: Mapping[str, str], new_files: list[str]) -> None:
         """Checks that what was added to the description changes regions and adds these files, and nothing else."""
         self.check("the check", self.written("--check")[0], 1)
         self.check("the writing", self.written(), (0, ""))
@@ -75,12 +82,12 @@ class RegionsTestCase(FolderTestCase):
             self.check(f"outside of the regions of {place}", self.region.sub("", after[place]), self.region.sub("", text))
         self.check("the check again", self.written("--check"), (0, ""))
 
-    def check_lines(self, lines):
+    def check_lines(self, lines: Iterable[tuple[str, str]]) -> None:
         """Checks that files have lines, each once."""
         for place, line in lines:
             self.check(line, self.repository.read(place).split("\n").count(line), 1)
 
-    def check_use(self):
+    def check_use(self) -> None:
         """Checks that other words are answered with the use."""
         status, errors = self.written("--help")
-        self.check("the answer", (status, errors.split("\n")[0]), (2, self.tool.__doc__.split("\n")[0]))
+        self.check("the answer", (status, errors.split("\n")[0]), (2, str(self.tool.__doc__).split("\n")[0]))

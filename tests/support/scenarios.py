@@ -1,7 +1,10 @@
 """Sessions that are long, or no text, so that they are made here and not written out."""
 from __future__ import annotations
 
-from tests.support import sessions
+from collections.abc import Iterable, Sequence
+from typing import Union
+
+from tests.support import Json, sessions
 from tests.support.commands import (
     GOODS, PLANNED, add_definition, add_recipe, approve, begin_batch, compact, consume, divide, hold, import_orders, lift, merge, phase_done,
     produce, recall, receive, release, say, scrap, settle, split, withdraw,
@@ -11,6 +14,10 @@ from tests.support.sessions import LINE_LIMIT, Session
 BAD_FORM = b'{"name":"BadForm","refused":1}\n'
 DESK = b'{"ask":"desk"}'
 NEW_DESK = b'{"schema":4,"seq":0}\n'
+
+# An item of a list as it is answered, and a place of a list, behind which a page goes on.
+Item = dict[str, Json]
+Place = Union[str, int, None]
 
 # How many lots the chains and fans of the traces have, and the chain of which it is asked where its goods stand.
 TRACED, STANDING = 600, 260
@@ -22,7 +29,7 @@ COUNTS = (99, 100, 101, 201)
 # ---- limits that are reached, and passed by one
 
 
-def lines_of_a_recipe():
+def lines_of_a_recipe() -> Session:
     session = Session("a recipe has 128 lines and an import 1000 orders").accepted(*GOODS)
     session.refused("BadForm", 1, add_recipe(128)).accepted(add_recipe(127))
     return session.refused("BadForm", 1, import_orders(1001)).accepted(import_orders(1000)).asked(
@@ -31,7 +38,7 @@ def lines_of_a_recipe():
     )
 
 
-def greatest_amount():
+def greatest_amount() -> Session:
     session = Session("sixteen lots become one of the greatest amount").accepted(*GOODS)
     session.accepted(*[receive(f"P-{it}", 62_500_000_000_000) for it in range(16)])
     session.accepted(merge([(f"P-{it}", 0, 62_500_000_000_000) for it in range(16)])).asked(
@@ -43,13 +50,13 @@ def greatest_amount():
     return session.refused("TooLittle", 13, scrap("L-1", 1))
 
 
-def parts_of_a_merge():
+def parts_of_a_merge() -> Session:
     session = Session("a merge has sixteen parts at most").accepted(*GOODS, receive("L-1", 480))
     session.refused("UnknownSublot", 10, merge([("L-1", it, 1) for it in range(16)]))
     return session.refused("BadForm", 1, merge([("L-1", it, 1) for it in range(17)]))
 
 
-def attempts_of_a_batch():
+def attempts_of_a_batch() -> Session:
     session = Session("a batch has 99 attempts").accepted(*GOODS, add_recipe(1))
     session.accepted(approve(), import_orders(1), release("O-0", "B-1"))
     attempt = [say("start"), say("abort"), settle()]
@@ -59,48 +66,48 @@ def attempts_of_a_batch():
     return session.accepted(say("abort"), settle()).refused("TooMany", 28, say("reset"))
 
 
-def sublots_of_a_lot():
+def sublots_of_a_lot() -> Session:
     session = Session("a lot has a thousand sublots at most").accepted(*GOODS, receive("L-1", 2000))
     return session.accepted(*[divide("L-1")] * 999).refused("TooMany", 28, divide("L-1"))
 
 
-def limits():
+def limits() -> list[Session]:
     return [lines_of_a_recipe(), greatest_amount(), parts_of_a_merge(), attempts_of_a_batch(), sublots_of_a_lot()]
 
 
 # ---- traces along more nodes than are looked up one by one, and recalls that reach as many
 
 
-def lots_told(lots):
+def lots_told(lots: Iterable[str]) -> list[dict[str, str]]:
     """Returns lots as they are answered, in order."""
     return [{"lot": it} for it in lots]
 
 
-def traced(lots):
+def traced(lots: Iterable[str]) -> str:
     """Returns the answer of a trace that comes to these lots, which are in order, and to no batch."""
     return compact({"nodes": lots_told(lots)})
 
 
-def recalled(lots):
+def recalled(lots: Sequence[str]) -> str:
     """Returns the answer of an open recall of the first of these lots, which are in order, and which are all that it reaches."""
     return compact({"lot": lots[0], "nodes": lots_told(lots), "recall": "RC-1", "state": "open"})
 
 
-def long_chain():
+def long_chain() -> Session:
     lots = [f"C-{it:03}" for it in range(TRACED)]
     session = Session("a long chain is traced both ways").accepted(*GOODS, receive(lots[0], 1000))
     session.accepted(*[split(lots[it - 1], 1000 - it, lots[it]) for it in range(1, TRACED)])
     return trace_and_recall(session, lots[-1], lots[1:], lots[:-1])
 
 
-def wide_fan():
+def wide_fan() -> Session:
     lots = [f"D-{it:03}" for it in range(TRACED)]
     session = Session("a wide fan is traced both ways").accepted(*GOODS, receive("C-000", 1000))
     session.accepted(*[split("C-000", 1, it) for it in lots])
     return trace_and_recall(session, lots[-1], lots, ["C-000"])
 
 
-def trace_and_recall(session, last, forward, back):
+def trace_and_recall(session: Session, last: str, forward: Sequence[str], back: Sequence[str]) -> Session:
     """Traces the first lot forward and the last one back; then recalls the first one, which blocks the last until the recall is lifted."""
     session.asked('{"ask":"forward","lot":"C-000"}', traced(forward))
     session.asked(f'{{"ask":"back","lot":"{last}"}}', traced(back))
@@ -112,7 +119,7 @@ def trace_and_recall(session, last, forward, back):
 # ---- where the goods of many lots stand
 
 
-def standing():
+def standing() -> Session:
     """Returns a session of where the goods of a chain of lots stand, and of the genealogy around them: lots that lie close, and lots with more
     than a page of others between each and the next; some are held, divided or empty."""
     lots = [f"C-{it:03}" for it in range(STANDING)]
@@ -132,18 +139,18 @@ def standing():
     return session.asked(f'{{"ask":"back_edges","lot":"{lots[-1]}"}}', genealogy)
 
 
-def lot_standing(lots, at):
+def lot_standing(lots: Sequence[str], at: int) -> Item:
     """Returns what is answered of a lot of that chain: 3 g, and 223 g of the last, of which each seventh had one divided off, each fifth but the
     last its first sublot scrapped, and each fiftieth is held."""
     stock = (223 if at == 259 else 3) - (at % 7 == 0)
-    sublots = [{"no": 0, "place": "", "stock": 0 if at % 5 == 0 and at < 259 else stock}]
+    sublots: list[Item] = [{"no": 0, "place": "", "stock": 0 if at % 5 == 0 and at < 259 else stock}]
     if at % 7 == 0:
         sublots.append({"no": 1, "place": "A1", "stock": 1})
     total = sum(it["stock"] for it in sublots)
     return {"def": "SUGAR", "held": at % 50 == 0, "lot": lots[at], "recalled": False, "stock": total, "sublots": sublots}
 
 
-def genealogy_standing(lots, known):
+def genealogy_standing(lots: Sequence[str], known: Iterable[Item]) -> Item:
     """Returns what is answered of the genealogy of that chain."""
     edges = [{"amount": 1000 - 3 * it, "from": {"lot": lots[it - 1]}, "to": {"lot": lots[it]}} for it in range(1, STANDING)]
     nodes = [{**it, "unit": "g"} for it in known]
@@ -155,18 +162,18 @@ def genealogy_standing(lots, known):
 # ---- lists that are told by the page
 
 
-def question(word, above, **members):
+def question(word: str, above: Place, **members: str) -> str:
     """Returns a question for a page that goes on behind a place, or for the front of the list."""
     place = {} if above is None else {"above": above}
     return compact({"ask": word, **place, **members})
 
 
-def page(name, items):
+def page(name: str, items: Sequence[Item]) -> str:
     """Returns the answer of a page of these items, all that come behind a place, in their order."""
     return compact({"more": len(items) > 100, name: items[:100]})
 
 
-def page_of_lots(lots, is_recalled):
+def page_of_lots(lots: Sequence[str], is_recalled: bool) -> str:
     """Returns the answer of a page of these lots, of which those with an odd number have one gram left."""
     told = [
         {"held": False, "lot": it, "recalled": is_recalled, "stock": 1, "sublots": [{"no": 0, "place": "", "stock": 1}]}
@@ -176,7 +183,7 @@ def page_of_lots(lots, is_recalled):
     return compact({"last": lots[:100][-1] if lots else None, "lots": told, "more": len(lots) > 100})
 
 
-def lists(count):
+def lists(count: int) -> Session:
     """Returns a session of so many classes, orders, lots, holds and recalls, asked for by the page and from each place around its ends; then the
     recalls are lifted, and asked for again."""
     session = Session(f"a list of {count} is told by the page").accepted(*GOODS, add_recipe(1))
@@ -193,8 +200,9 @@ def lists(count):
         session.asked(question("holds", at, lot="L-0"), page("holds", rest))
         session.asked(question("all_holds", at and f"L-0.{at}"), page("holds", [{**it, "lot": "L-0"} for it in rest]))
     for at in [None, *sorted(f"C-{it}" for it in range(count))[96:102]]:
-        rest = sorted([("RAW", ""), *((f"C-{it}", str(it)) for it in range(count))])
-        session.asked(question("classes", at), page("classes", [{"class": it, "name": name} for it, name in rest if at is None or it > at]))
+        classes = sorted([("RAW", ""), *((f"C-{it}", str(it)) for it in range(count))])
+        behind = [{"class": it, "name": name} for it, name in classes if at is None or it > at]
+        session.asked(question("classes", at), page("classes", behind))
     for at in [None, *recalls[96:102]]:
         rest = [{"at": 100, "by": "", "lot": "L" + it[2:], "note": "", "recall": it} for it in recalls if at is None or it > at]
         session.asked(question("recalls", at), page("recalls", rest))
@@ -208,16 +216,16 @@ def lists(count):
     return session
 
 
-def ask_for_orders(session, orders, state="open"):
+def ask_for_orders(session: Session, orders: Sequence[str], state: str = "open") -> None:
     """Asks for the orders in a state from the front, and behind each order around the ends of pages and behind what comes next to it."""
     around = [orders[at] for at in (0, 97, 98, 99, 100, 199, 200) if at < len(orders)]
-    order = {"due": "2027-03-01", "priority": 5, "recipe": "R", "size": 1, "version": 1}
+    order: Item = {"due": "2027-03-01", "priority": 5, "recipe": "R", "size": 1, "version": 1}
     for at in [None, "A", "Z", *(it for name in around for it in (name, name + "-"))]:
         rest = [{**order, "order": it} for it in orders if at is None or it > at]
         session.asked(question("orders", at, state=state), page("orders", rest))
 
 
-def paired_lists(count):
+def paired_lists(count: int) -> Session:
     """Returns a session of lists whose places have two values: so many versions of recipes, and a ledger of so many movements."""
     session = Session(f"recipes and a ledger of {count} are told by the page").accepted(*GOODS)
     recipes = [(f"R-{it % 7}", it + 1) for it in range(count)]
@@ -232,18 +240,24 @@ def paired_lists(count):
     session.asked(question("recipes", None, state="approved"), page("recipes", []))
     shown = {"at": 100, "batch": None, "by": "", "line": 1, "lot": "L-1", "note": "", "sub": 0, "to": None, "to_sub": None}
     moved = [{**shown, "seq": first + it, "kind": "scrapped" if it else "received", "amount": 2 if it else 900} for it in range(count)]
-    for at in [None, (0, 0), (first, 0), (first, 1), (first + 98, 1), (first + 99, 0), (first + 99, 1), (10**15, 999)]:
-        rest = [it for it in moved if at is None or (it["seq"], it["line"]) > at]
-        session.asked(question("movements", at and "%d.%d" % at, lot="L-1"), page("movements", rest))
+    for row in [None, (0, 0), (first, 0), (first, 1), (first + 98, 1), (first + 99, 0), (first + 99, 1), (10**15, 999)]:
+        rest = [it for it in moved if row is None or (it["seq"], it["line"]) > row]
+        session.asked(question("movements", row and "%d.%d" % row, lot="L-1"), page("movements", rest))
     return session
 
 
-def by_due(count):
+def by_due(count: int) -> Session:
     """Returns a session of so many orders, due on seven days in turn, asked for by their due dates from each place around the ends of pages."""
     session = Session(f"{count} orders are listed by their due dates").accepted(*GOODS, add_recipe(1), approve())
-    orders = [{"due": f"2027-03-0{1 + it * 5 % 7}", "order": f"O-{it}", "priority": 1 + it % 9, "recipe": "R", "size": 1, "version": 1} for it in range(count)]
+    order = {"recipe": "R", "size": 1, "version": 1}
+    orders: list[Item] = [
+        {**order, "due": f"2027-03-0{1 + it * 5 % 7}", "order": f"O-{it}", "priority": 1 + it % 9} for it in range(count)
+    ]
     session.accepted('"do":"import_orders","orders":' + compact(orders), *['"do":"cancel_order","order":"O-%d"' % it for it in range(0, count, 10)])
-    for state, some in ("open", [it for n, it in enumerate(orders) if n % 10]), ("cancelled", orders[::10]), ("released", []):
+    listed: list[tuple[str, list[Item]]] = [
+        ("open", [it for n, it in enumerate(orders) if n % 10]), ("cancelled", orders[::10]), ("released", []),
+    ]
+    for state, some in listed:
         some.sort(key=lambda it: (it["due"], it["order"]))
         around = [(it["due"], it["order"]) for n in (0, 98, 99, 100, 179) if n < len(some) for it in [some[n]]]
         for at in [None, ("2000-01-01", "A"), ("2027-03-03", "A"), ("2027-03-03", "Z"), ("2099-12-31", "Z"), *around]:
@@ -252,10 +266,10 @@ def by_due(count):
     return session
 
 
-def booked(count):
+def booked(count: int) -> Session:
     """Returns a session of so many commands with references between those without, asked for from each place around the ends of pages."""
     session = Session(f"{count} commands with references are listed by their numbers").accepted(*GOODS)
-    rows = []
+    rows: list[Item] = []
     for it in range(count):
         session.accepted(f'"do":"add_class","class":"C-{it}","name":"","note":"as {it}","ref":"K-{count - it}"')
         rows.append({"at": 100, "by": "", "do": "add_class", "note": f"as {it}", "ref": f"K-{count - it}", "seq": session.count()})
@@ -270,31 +284,36 @@ def booked(count):
 # ---- lists and recalls above a page
 
 
-def long_ledger():
+def long_ledger() -> Session:
     """Returns a session of a lot merged of sixteen parts, with more rows than a page that took from it, and as many that came to it."""
     session = Session("a ledger has all that came to a lot and left it").accepted(*GOODS)
     parts = [(f"P-{it:02}", 0, 100) for it in range(16)]
     session.accepted(*[receive(lot, amount) for lot, _, amount in parts], merge(parts))
-    shown, seq = {"at": 100, "batch": None, "by": "", "note": ""}, session.count()
+    shown: Item = {"at": 100, "batch": None, "by": "", "note": ""}
+    seq = session.count()
     came = {"kind": "merged", "to": "M-1", "to_sub": 0, "amount": 100}
-    moved = [{**shown, **came, "seq": seq, "line": line, "lot": lot, "sub": sub} for line, (lot, sub, _) in enumerate(parts, 1)]
+    moved: list[Item] = [
+        {**shown, **came, "seq": seq, "line": line, "lot": lot, "sub": sub} for line, (lot, sub, _) in enumerate(parts, 1)
+    ]
     for it in range(1, 113):
-        for body, rest in [
+        bookings: list[tuple[str, Item]] = [
             (divide("M-1"), {"kind": "divided", "to": "M-1", "to_sub": it, "amount": 1}),
             (split("M-1", 2, f"S-{it}"), {"kind": "split", "to": f"S-{it}", "to_sub": 0, "amount": 2}),
             (scrap("M-1", 3), {"kind": "scrapped", "to": None, "to_sub": None, "amount": 3}),
-        ]:
+        ]
+        for body, booked_as in bookings:
             session.accepted(body)
-            moved.append({**shown, **rest, "seq": seq + len(moved) - 15, "line": 1, "lot": "M-1", "sub": 0})
+            moved.append({**shown, **booked_as, "seq": seq + len(moved) - 15, "line": 1, "lot": "M-1", "sub": 0})
     around = [moved[at] for at in (0, 14, 15, 16, 99, 100, 115, 199, 251, 252, len(moved) - 2, len(moved) - 1)]
-    for at in [None, (0, 0), (seq, 0), (seq, 999), *((it["seq"], it["line"]) for it in around)]:
+    places: list[tuple[int, int] | None] = [None, (0, 0), (seq, 0), (seq, 999), *((it["seq"], it["line"]) for it in around)]
+    for at in places:
         rest = [it for it in moved if at is None or (it["seq"], it["line"]) > at]
         session.asked(question("movements", at and "%d.%d" % at, lot="M-1"), page("movements", rest))
     part = {**moved[3], "seq": 6, "line": 1, "kind": "received", "to": None, "to_sub": None, "lot": "P-03"}
     return session.asked(question("movements", None, lot="P-03"), page("movements", [part, moved[3]]))
 
 
-def long_batches():
+def long_batches() -> Session:
     """Returns a session of more open batches than a page, of a recipe of 128 lines, of which some have come far."""
     session = Session("batches of a long recipe are told by the page").accepted(*GOODS)
     phases = "".join(f',{{"kind":"phase","unit":"U","oper":"O","phase":"P-{it}"}}' for it in range(1, 128))
@@ -305,7 +324,7 @@ def long_batches():
     for batch, count in {"B-000": 127, "B-001": 126, "B-050": 1, "B-098": 99, "B-099": 100, "B-100": 101, "B-102": 127}.items():
         session.accepted(say("start", batch), *[phase_done(batch, it) for it in range(1, count + 1)])
         batches[batch] = count
-    told = []
+    told: list[Item] = []
     for it, (batch, count) in enumerate(batches.items()):
         rest = {"phase": None if count == 127 else f"P-{count + 1}", "phases": 127, "state": "running" if count else "idle"}
         told.append({"attempt": 1, "batch": batch, "next": count + 1, "order": f"O-{it}", **rest})
@@ -315,7 +334,7 @@ def long_batches():
     return session
 
 
-def versions_of_one_recipe():
+def versions_of_one_recipe() -> Session:
     """Returns a session of a recipe that has more versions in one state than a page, and more behind a place within them."""
     session = Session("versions of one recipe are told by the page").accepted(*GOODS)
     versions = [("Q", 1), *(("R", it) for it in range(1, 251)), ("S", 1), ("S", 2)]
@@ -332,7 +351,7 @@ def versions_of_one_recipe():
     return session
 
 
-def definitions_and_cancelled_orders():
+def definitions_and_cancelled_orders() -> Session:
     """Returns a session of more definitions of a class than two pages, between those of others, and of as many orders that were cancelled."""
     session = Session("definitions and cancelled orders are told by the page").accepted(*GOODS, add_recipe(1), approve(), import_orders(402))
     classes = ["A", "RAX", "Z"]
@@ -350,7 +369,7 @@ def definitions_and_cancelled_orders():
     return session
 
 
-def ask_for_recipes(session, state, versions, places):
+def ask_for_recipes(session: Session, state: str, versions: Sequence[tuple[str, int]], places: Iterable[int]) -> None:
     """Asks for the recipes in a state, from the front, and behind these versions of the recipe R."""
     shown = {"base": 1, "max": 900, "min": 1, "product": "SUGAR", "title": ""}
     for at in [None, ("Q", 1), *(("R", it) for it in places), ("S", 1)]:
@@ -358,7 +377,7 @@ def ask_for_recipes(session, state, versions, places):
         session.asked(question("recipes", at and "%s.%d" % at, state=state), page("recipes", rest))
 
 
-def recalls_of_one_lot(count=120):
+def recalls_of_one_lot(count: int = 120) -> Session:
     """Returns a session of a lot under so many recalls: it and what comes of it are blocked until the last of them is lifted."""
     session = Session(f"a lot stays blocked under {count} recalls").accepted(*PLANNED)
     session.accepted(receive("F-1", 900, "FLOUR"), receive("F-2", 9, "FLOUR"), *begin_batch("B-1", 1), consume("B-1", "F-1", 7))
@@ -377,7 +396,7 @@ def recalls_of_one_lot(count=120):
     return session.accepted(*blocked)
 
 
-def ask_for_blocked(session, blocked, is_recalled):
+def ask_for_blocked(session: Session, blocked: Iterable[str], is_recalled: bool) -> None:
     """Tells commands that are refused as recalled, and asks for the genealogy around what they take of, forward and back."""
     for body in blocked:
         session.refused("Recalled", 32, body)
@@ -392,14 +411,14 @@ def ask_for_blocked(session, blocked, is_recalled):
     session.asked('{"ask":"forward_edges","lot":"F-1"}', answer).asked('{"ask":"back_edges","lot":"D-1"}', answer)
 
 
-def above_a_page():
+def above_a_page() -> list[Session]:
     return [long_ledger(), long_batches(), versions_of_one_recipe(), definitions_and_cancelled_orders(), recalls_of_one_lot()]
 
 
 # ---- bytes that are a line, a bad one, or none
 
 
-def lines():
+def lines() -> list[Session]:
     nested = b"[" * 200 + b"]" * 200 + b"\n"
     longest = DESK + b" " * (LINE_LIMIT - len(DESK))
     arne = b'{"at":1,"by":"\\u00e4","do":"add_class","class":"A","name":""}\n'
@@ -455,7 +474,7 @@ SCRAPS = [
 ]
 
 
-def scraps():
+def scraps() -> Session:
     """Returns a session of lines that scrap, of which each is read or bad by its numbers and members."""
     session = Session("numbers and members of a line").accepted(*GOODS, receive("L-1", 480))
     for sub, amount, more, is_read in SCRAPS:
@@ -468,7 +487,7 @@ def scraps():
     )
 
 
-def every():
+def every() -> list[Session]:
     """Returns all sessions, those that are written out and those that are made here."""
     pages = [session(count) for count in COUNTS for session in (lists, paired_lists, by_due, booked)]
     made = [*limits(), long_chain(), wide_fan(), standing(), *pages, *above_a_page(), *lines(), scraps()]

@@ -8,11 +8,11 @@ import random
 VARIABLE, USUAL = "DESK_SEED", 42
 
 
-def seed():
+def seed() -> int:
     """Returns the seed."""
     return int(os.environ.get(VARIABLE, USUAL))
 
 
-def chance(name):
+def chance(name: str) -> random.Random:
     """Returns random numbers that the seed and this name determine, so that what is made of them doesn't depend on what else is made."""
     return random.Random(f"{seed()} {name}")

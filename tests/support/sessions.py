@@ -2,6 +2,7 @@
 from __future__ import annotations
 
 import dataclasses
+import pathlib
 import re
 
 from tests.support import program, sqlite
@@ -35,49 +36,49 @@ class Session:
     told: bytes = b""
     wanted: bytes = b""
 
-    def accepted(self, *bodies):
+    def accepted(self, *bodies: str) -> Session:
         """Adds commands that are accepted."""
         for number, body in enumerate(bodies, self.count() + 1):
             self.told += b'{"at":100,"by":"",%s}\n' % body.encode()
             self.wanted += b'{"ok":%d}\n' % number
         return self
 
-    def refused(self, name, number, body):
+    def refused(self, name: str, number: int, body: str) -> Session:
         """Adds a command that is refused."""
         self.told += b'{"at":100,"by":"",%s}\n' % body.encode()
         self.wanted += b'{"name":"%s","refused":%d}\n' % (name.encode(), number)
         return self
 
-    def asked(self, question, answer):
+    def asked(self, question: str, answer: str) -> Session:
         """Adds a question."""
         self.told += question.encode() + b"\n"
         self.wanted += answer.encode() + b"\n"
         return self
 
-    def count(self):
+    def count(self) -> int:
         """Returns how many commands are accepted: a repeat is answered the number that it got."""
         return len({it for it in self.wanted.split(b"\n") if it.startswith(b'{"ok":')})
 
-    def status(self):
+    def status(self) -> int:
         """Returns with which status a run of the session ends: 1 where a line is refused. That a command would be refused is an answer."""
         return int(any(b'"refused":' in it for it in self.wanted.split(b"\n") if not it.startswith(b'{"accepted":')))
 
-    def ended(self):
+    def ended(self) -> tuple[int, bytes, bytes]:
         """Returns how a run of the session ends."""
         return (self.status(), self.wanted, b"")
 
 
-def lines_of(text):
+def lines_of(text: bytes) -> list[bytes]:
     """Returns the lines of a text, each with the LF that ends it."""
     return re.findall(rb"[^\n]*\n|[^\n]+", text)
 
 
-def files():
+def files() -> list[pathlib.Path]:
     """Returns the paths of the sessions that are written out."""
     return sorted(FOLDER.glob("*.txt"))
 
 
-def read(path):
+def read(path: pathlib.Path) -> Session:
     """Returns the session of a file."""
     session = Session(path.stem)
     for line in lines_of(path.read_bytes()):
@@ -88,17 +89,17 @@ def read(path):
     return session
 
 
-def named(name):
+def named(name: str) -> Session:
     """Returns the session of the file of this name."""
     return read(FOLDER / f"{name}.txt")
 
 
-def whole_batch():
+def whole_batch() -> Session:
     """Returns the session of a batch from its class to its closing."""
     return named("a_batch_runs_to_its_close")
 
 
-def twenty_commands():
+def twenty_commands() -> Session:
     """Returns a session of twenty commands, of which the first fifteen are those of the whole batch that are accepted."""
     batch = whole_batch()
     pairs = zip(lines_of(batch.told), lines_of(batch.wanted))
@@ -111,14 +112,14 @@ def twenty_commands():
 class SessionTestCase(DeskTestCase):
     """A test case that runs sessions."""
 
-    def check_session(self, session):
+    def check_session(self, session: Session) -> None:
         """Runs a session over memory, and over a file in two runs, the second of which reopens what the first left. The file is then good,
         with as many commands as were accepted, and the marks in it are what the open recalls reach."""
         self.check(session.name, self.desk.run(told=session.told), session.ended())
         self.check_over_file(session, "session.db")
         (self.folder / "session.db").unlink()
 
-    def check_over_file(self, session, file):
+    def check_over_file(self, session: Session, file: str) -> None:
         """Runs a session over a file in two runs, and looks at what they leave."""
         told = lines_of(session.told)
         half = len(told) // 2
@@ -129,7 +130,7 @@ class SessionTestCase(DeskTestCase):
         marks, wanted = sqlite.marks_and_reached(self.folder / file)
         self.check(f"{session.name}, its marks", marks, wanted)
 
-    def run_uncounted(self, file, session):
+    def run_uncounted(self, file: str, session: Session) -> None:
         """Runs a session over a file that a test begins with."""
         ended = self.desk.run("run", file, told=session.told)
         if ended != session.ended():

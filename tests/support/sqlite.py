@@ -4,9 +4,17 @@ from __future__ import annotations
 import contextlib
 import pathlib
 import sqlite3
+from collections.abc import Iterable, Iterator, Mapping, Sequence
+from typing import Any
+
+from tests.support.program import File
 
 # The folder of good and broken rows.
 FOLDER = pathlib.Path(__file__).resolve().parent.parent / "tables"
+
+# A row of a table with its texts, whole numbers and nulls, and a node: its kind and its id.
+Row = tuple[Any, ...]
+Node = tuple[int, str]
 
 # The tables of a desk as they are published: each with its columns and the sets of columns that are unique. A column holds text, or whole
 # numbers where # stands behind its name; it may be null where ? stands behind it.
@@ -88,33 +96,33 @@ DAMAGES = [
 
 
 @contextlib.contextmanager
-def opened(file):
+def opened(file: File) -> Iterator[sqlite3.Connection]:
     """Opens a file; what is done to it is committed at the end."""
     with contextlib.closing(sqlite3.connect(file)) as store:
         yield store
         store.commit()
 
 
-def changed(file, statements):
+def changed(file: File, statements: str) -> None:
     """Executes statements over a file."""
     with opened(file) as store:
         store.executescript(statements)
 
 
-def rows(file, query):
+def rows(file: File, query: str) -> list[Row]:
     """Returns the rows of a query over a file."""
     with opened(file) as store:
         return store.execute(query).fetchall()
 
 
-def dumped(file):
+def dumped(file: File) -> list[str]:
     """Returns a statement for each table and row that a file holds."""
     with opened(file) as store:
         store.text_factory = lambda it: it.decode("latin-1")
         return list(store.iterdump())
 
 
-def filled(file, tables, seq):
+def filled(file: File, tables: Mapping[str, Sequence[Row]], seq: int) -> None:
     """Writes rows into the tables of a file, and sets the number of its last command."""
     with opened(file) as store:
         for table, values in tables.items():
@@ -123,12 +131,12 @@ def filled(file, tables, seq):
         store.execute("UPDATE meta SET seq = ?, at = 200", (seq,))
 
 
-def edges(file):
+def edges(file: File) -> list[Row]:
     """Returns the edges that stand in a file."""
     return rows(file, "SELECT kind, a, b FROM edge ORDER BY kind, a, b")
 
 
-def reached(ends, start):
+def reached(ends: Mapping[Node, Iterable[Node]], start: Node) -> set[Node]:
     """Returns a node and all that `ends` leads to from it."""
     found, ahead = {start}, [start]
     while ahead:
@@ -139,10 +147,11 @@ def reached(ends, start):
     return found
 
 
-def marks_and_reached(file):
+def marks_and_reached(file: File) -> tuple[list[Row], list[Row]]:
     """Returns the rows of table mark, and those that it has to have: what the edges lead to from the lot of each open recall."""
     with opened(file) as store:
-        ends, wanted = {}, []
+        ends: dict[Node, list[Node]] = {}
+        wanted: list[Row] = []
         for kind, start, end in store.execute("SELECT kind, a, b FROM edge"):
             first, second = EDGE_ENDS[kind]
             ends.setdefault((first, start), []).append((second, end))
@@ -151,29 +160,30 @@ def marks_and_reached(file):
         return store.execute("SELECT recall, kind, id FROM mark ORDER BY recall, kind, id").fetchall(), sorted(wanted)
 
 
-def column_told(row):
+def column_told(row: Row) -> str:
     """Returns a column, given as PRAGMA table_info tells it, as TABLES tells it."""
     _, name, kind, is_never_null, *_ = row
-    return name + {"TEXT": "", "INTEGER": "#"}.get(kind, kind) + ("" if is_never_null else "?")
+    told: str = name + {"TEXT": "", "INTEGER": "#"}.get(kind, kind) + ("" if is_never_null else "?")
+    return told
 
 
-def row_told(table, row):
+def row_told(table: str, row: Row) -> str:
     """Returns a row as rows_of_each_word.txt has it: its table, and each value behind a bar."""
     return "|".join([table, *("NULL" if it is None else str(it).replace("\n", "/") for it in row)])
 
 
-def good_desk(file):
+def good_desk(file: File) -> None:
     """Writes the rows of a desk that obeys all rules into the file of a new one."""
     changed(file, "DELETE FROM meta;" + (FOLDER / "good_desk.sql").read_text())
 
 
-def broken_rules():
+def broken_rules() -> list[tuple[int, str]]:
     """Returns statements over the rows of `good_desk`, each with the number of the first rule that it breaks, 0 for none."""
     lines = (FOLDER / "broken_rules.txt").read_text().splitlines()
     pairs = [line.split(": ", 1) for line in lines if line and not line.startswith("#")]
     return [(int(number), statement) for number, statement in pairs]
 
 
-def rows_of_each_command():
+def rows_of_each_command() -> list[str]:
     """Returns the rows that a command of each kind leaves, as `row_told` tells them."""
     return (FOLDER / "rows_of_each_word.txt").read_text().splitlines()

@@ -4,11 +4,15 @@ from __future__ import annotations
 import importlib.util
 import json
 import os
+import pathlib
 import shutil
 import subprocess
 import sys
+import types
+from collections.abc import Iterable, Mapping
+from typing import NamedTuple
 
-from tests.support.program import SECONDS, TOP, Ended
+from tests.support.program import SECONDS, TOP
 
 # What the command rt of a small repository does. It notes each of its calls in calls.jsonl: its words and the folder's name. `rt doc` names
 # the kit, `rt version` prints what stands in version.txt, and others do what the files of the crate's src say: they print `says`, build
@@ -41,12 +45,21 @@ sys.exit(int(ends.read_text()) if ends.exists() else 0)
 """
 
 
-def loaded(place):
+class ToolEnded(NamedTuple):
+    """How a tool ended, as text."""
+
+    status: int
+    output: str
+    errors: str
+
+
+def loaded(place: str) -> types.ModuleType:
     """Returns a tool as a module of its own; its folder is where it looks for other tools."""
     path = TOP / place
     if str(path.parent) not in sys.path:
         sys.path.insert(0, str(path.parent))
     spec = importlib.util.spec_from_file_location(f"loaded_{path.stem}", path)
+    assert spec and spec.loader, f"{place} can't be loaded"
     module = importlib.util.module_from_spec(spec)
     sys.modules[spec.name] = module
     spec.loader.exec_module(module)
@@ -56,7 +69,7 @@ def loaded(place):
 class Repository:
     """A small repository in a folder, with copies of the tools and a command rt."""
 
-    def __init__(self, folder, crates, tools):
+    def __init__(self, folder: pathlib.Path, crates: Mapping[str, Mapping[str, str]], tools: Iterable[str]) -> None:
         """Makes it of crates, each by its line of crates.txt with the files of its folder."""
         self.folder, self.bin = folder / "repository", folder / "bin"
         self.bin.mkdir()
@@ -72,22 +85,24 @@ class Repository:
         (self.bin / "rt").write_text(RT % {"python": sys.executable})
         (self.bin / "rt").chmod(0o755)
 
-    def write(self, name, text):
+    def write(self, name: str, text: str) -> None:
         """Writes a file."""
         (self.folder / name).parent.mkdir(parents=True, exist_ok=True)
         (self.folder / name).write_text(text)
 
-    def read(self, name):
+    def read(self, name: str) -> str:
         return (self.folder / name).read_text()
 
-    def run(self, tool, *words, path=None):
+    def run(self, tool: str, *words: str, path: str | None = None) -> ToolEnded:
         """Runs a tool, with the command rt on its PATH or this PATH instead; returns how it ended, as text."""
         path = f"{self.bin}:{os.environ['PATH']}" if path is None else path
-        how = {"capture_output": True, "text": True, "timeout": SECONDS, "stdin": subprocess.DEVNULL}
-        ran = subprocess.run([sys.executable, self.folder / tool, *words], env={**os.environ, "PATH": path}, cwd=self.folder, **how)
-        return Ended(ran.returncode, ran.stdout, ran.stderr)
+        ran = subprocess.run(
+            [sys.executable, self.folder / tool, *words], env={**os.environ, "PATH": path}, cwd=self.folder,
+            capture_output=True, text=True, timeout=SECONDS, stdin=subprocess.DEVNULL,
+        )
+        return ToolEnded(ran.returncode, ran.stdout, ran.stderr)
 
-    def calls(self):
+    def calls(self) -> list[tuple[str, list[str]]]:
         """Returns the calls of rt since the last time, each with the name of the crate and the words."""
         file = self.bin / "calls.jsonl"
         lines = file.read_text().splitlines() if file.exists() else []

@@ -49,6 +49,14 @@ class How(typing.TypedDict, total=False):
     extra_groups: list[int]
 
 
+class Process(subprocess.Popen[bytes]):
+    """The process of a program. Its output and errors are pipes, and its input where it was started so."""
+
+    stdin: typing.IO[bytes]
+    stdout: typing.IO[bytes]
+    stderr: typing.IO[bytes]
+
+
 class Ended(typing.NamedTuple):
     """How a program ended."""
 
@@ -82,12 +90,11 @@ class Program:
         ran = subprocess.run([self.path, *words], **options)
         return Ended(ran.returncode, ran.stdout, ran.stderr)
 
-    def start(self, *words: Word, env: Mapping[str, str] | None = None, **how: typing.Any) -> subprocess.Popen[bytes]:
+    def start(self, *words: Word, env: Mapping[str, str] | None = None, **how: typing.Any) -> Process:
         """Starts the program, with `env` added to the environment; returns its process, whose output and errors are pipes."""
         streams = {"stdin": subprocess.DEVNULL, "stdout": subprocess.PIPE, "stderr": subprocess.PIPE}
         options: dict[str, typing.Any] = {**streams, "cwd": self.folder, "env": environment(env), **how}
-        process: subprocess.Popen[bytes] = subprocess.Popen([self.path, *words], **options)
-        return process
+        return Process([self.path, *words], **options)
 
 
 def state_of(process: subprocess.Popen[bytes]) -> str:

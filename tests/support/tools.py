@@ -12,7 +12,7 @@ import types
 from collections.abc import Iterable, Mapping
 from typing import NamedTuple
 
-from tests.support.program import SECONDS, TOP
+from tests.support.program import SECONDS, TOP, File
 
 # What the command rt of a small repository does. It notes each of its calls in calls.jsonl: its words and the folder's name. `rt doc` names
 # the kit, `rt version` prints what stands in version.txt, and others do what the files of the crate's src say: they print `says`, build
@@ -93,7 +93,7 @@ class Repository:
     def read(self, name: str) -> str:
         return (self.folder / name).read_text()
 
-    def run(self, tool: str, *words: str, path: str | None = None) -> ToolEnded:
+    def run(self, tool: str, *words: File, path: str | None = None) -> ToolEnded:
         """Runs a tool, with the command rt on its PATH or this PATH instead; returns how it ended, as text."""
         path = f"{self.bin}:{os.environ['PATH']}" if path is None else path
         ran = subprocess.run(

@@ -2,9 +2,11 @@
 from __future__ import annotations
 
 import json
+import pathlib
 import shutil
 import time
 
+from tests.support.browser import Tab
 from tests.support.pages import MORNINGS, BrowserTestCase
 
 # Sets the clock of a page back by so many seconds.
@@ -51,32 +53,32 @@ class Journeys(BrowserTestCase):
 
     IS_LONG = True
 
-    def go(self, tab, place):
+    def go(self, tab: Tab, place: str) -> None:
         """Goes to a view, and waits until it is shown."""
         anew = f"if (location.hash === '#{place}') show(); else location.hash = '{place}';"
         tab.run(f"(() => {{ document.getElementById('view').dataset.ready = ''; {anew} }})()")
         tab.until("document.getElementById('view').dataset.ready", f"the view {place}")
 
-    def check_booked(self, tab, what, number):
+    def check_booked(self, tab: Tab, what: str, number: int) -> None:
         """Checks that the page says that this was booked under this number, shows the desk as it is then, and that the desk has come so far."""
         tab.has(f"{what} Number {number}.")
         tab.until(f"document.getElementById('view').dataset.ready.endsWith(' {number}')", f"the view of a desk of {number} bookings")
         tab.until("!document.getElementById('dialog').open", "the form to be closed")
         self.check(f"the number behind {what!r}", self.served.ask("/desk")["seq"], number)
 
-    def end(self, tab, number):
+    def end(self, tab: Tab, number: int) -> None:
         """Checks that the page met no error, and that the desk's file is good."""
         self.check("what the console tells of errors", tab.errors(), [])
         self.served.end()
         self.check_verified("the file", self.served.file, number)
 
-    def send(self, tab, **fields):
+    def send(self, tab: Tab, **fields: str | int) -> None:
         """Fills a form that is open and sends it by Enter."""
         for name, value in fields.items():
             tab.fill(name, value)
         tab.key("Enter")
 
-    def test_order_file_is_taken_in_whole_or_not_at_all(self):
+    def test_order_file_is_taken_in_whole_or_not_at_all(self) -> None:
         self.serve()
         tab = self.open("planner")
         wrong, right = self.folder / "wrong.csv", self.folder / "right.csv"
@@ -99,7 +101,7 @@ class Journeys(BrowserTestCase):
         self.check("an order of the file", self.served.ask("/orders/O-7")["size"], 200)
         self.end(tab, 36)
 
-    def test_order_is_released_made_and_closed(self):
+    def test_order_is_released_made_and_closed(self) -> None:
         self.serve()
         tab = self.open("planner")
         tab.click("Lines", row="BREAD 1")
@@ -140,7 +142,7 @@ class Journeys(BrowserTestCase):
         tab.has("BATCH RECORD B-4")
         self.end(tab, 41)
 
-    def test_hold_bars_a_lot_until_it_is_taken_away(self):
+    def test_hold_bars_a_lot_until_it_is_taken_away(self) -> None:
         self.serve()
         tab = self.open("quality")
         tab.fill("find", "d-1")
@@ -167,7 +169,7 @@ class Journeys(BrowserTestCase):
         self.check("whether the lot is held", self.served.ask("/lots/D-1")["held"], False)
         self.end(tab, 36)
 
-    def test_lots_are_divided_split_and_merged(self):
+    def test_lots_are_divided_split_and_merged(self) -> None:
         self.serve()
         tab = self.open("warehouse/FLOUR")
         tab.click("Receive a lot")
@@ -198,7 +200,7 @@ class Journeys(BrowserTestCase):
         tab.lacks("F-5", "document.getElementById('view')")
         self.end(tab, 39)
 
-    def test_form_says_why_it_would_be_refused_before_it_is_sent(self):
+    def test_form_says_why_it_would_be_refused_before_it_is_sent(self) -> None:
         self.serve()
         tab = self.open("warehouse/FLOUR")
         form, said = "document.querySelector('dialog[open]')", "As it stands, this would be refused"
@@ -219,7 +221,7 @@ class Journeys(BrowserTestCase):
         self.check_booked(tab, "6 kg as F-5 received.", 35)
         self.end(tab, 35)
 
-    def test_form_is_sent_where_its_check_has_no_answer(self):
+    def test_form_is_sent_where_its_check_has_no_answer(self) -> None:
         self.serve()
         tab = self.open("warehouse/FLOUR")
         tab.run(f"globalThis.lost = () => new Promise(() => {{}}); {LOSE_CHECKS}")
@@ -232,7 +234,7 @@ class Journeys(BrowserTestCase):
         self.check_booked(tab, "5 kg as F-5 received.", 35)
         self.end(tab, 35)
 
-    def test_recall_in_the_middle_of_a_batch_bars_what_came_of_its_lot(self):
+    def test_recall_in_the_middle_of_a_batch_bars_what_came_of_its_lot(self) -> None:
         self.serve()
         tab = self.open("quality/lot/F-1")
         self.check("the boxes of the picture", tab.run("document.querySelectorAll('svg .box').length"), 6)
@@ -263,7 +265,7 @@ class Journeys(BrowserTestCase):
         self.end(tab, 38)
 
 
-    def test_aborted_batch_is_reset_and_begins_anew(self):
+    def test_aborted_batch_is_reset_and_begins_anew(self) -> None:
         self.serve()
         tab = self.open("shift/B-2")
         tab.click("Abort")
@@ -284,7 +286,7 @@ class Journeys(BrowserTestCase):
         tab.has("no power")
         self.end(tab, 38)
 
-    def test_double_click_books_once(self):
+    def test_double_click_books_once(self) -> None:
         self.serve()
         tab = self.open("planner")
         tab.click("Release", row="O-4", times=2)
@@ -309,7 +311,7 @@ class Journeys(BrowserTestCase):
         self.check_booked(tab, "100 pcs as BREAD-B-4 produced.", 38)
         self.end(tab, 38)
 
-    def test_desk_that_was_killed_under_a_booking_gets_it_once(self):
+    def test_desk_that_was_killed_under_a_booking_gets_it_once(self) -> None:
         self.serve()
         tab = self.open("warehouse/FLOUR")
         self.served.kill()
@@ -325,7 +327,7 @@ class Journeys(BrowserTestCase):
         self.check_lost_answer_is_asked_for_again_after_a_reload(tab)
         self.end(tab, 37)
 
-    def check_lost_answer_is_asked_for_again_after_a_reload(self, tab):
+    def check_lost_answer_is_asked_for_again_after_a_reload(self, tab: Tab) -> None:
         """Checks that a booking that the desk took, and whose answer was lost, counts once when it is sent again behind a later one."""
         tab.run(f"globalThis.lost = () => new Response('bad gateway', {{status: 502}}); {LOSE_ANSWERS}")
         tab.click("Receive a lot")
@@ -340,7 +342,7 @@ class Journeys(BrowserTestCase):
         self.check("the number behind a booking that was sent again", self.served.ask("/desk")["seq"], 37)
         self.check("the lot", self.served.ask("/lots/F-7")["stock"], 7)
 
-    def test_booking_without_an_answer_isnt_sent_to_another_desk(self):
+    def test_booking_without_an_answer_isnt_sent_to_another_desk(self) -> None:
         """Desks that are served in turn at one address share what the browser keeps."""
         other = self.other_desk()
         self.serve()
@@ -364,7 +366,7 @@ class Journeys(BrowserTestCase):
         self.check_booked(tab, "20 kg of F-1 brought to A9.", 36)
         self.end(tab, 36)
 
-    def other_desk(self):
+    def other_desk(self) -> pathlib.Path:
         """Makes a desk that began as this one did, and whose first command under a reference is another one."""
         file = self.folder / "other.db"
         shutil.copy(self.mornings, file)
@@ -372,7 +374,7 @@ class Journeys(BrowserTestCase):
         self.desk.run("run", file.name, told=json.dumps(command).encode() + b"\n")
         return file
 
-    def test_clock_that_is_behind_takes_the_moment_of_the_desk(self):
+    def test_clock_that_is_behind_takes_the_moment_of_the_desk(self) -> None:
         self.serve()
         tab = self.open("shift/B-2", CLOCK_BACK % 86_400)
         tab.has("ahead:")
@@ -385,7 +387,7 @@ class Journeys(BrowserTestCase):
         self.check("the moment of the last booking", self.served.ask("/moment")["at"], before + 3600)
         self.end(tab, 37)
 
-    def test_keyboard_alone_suffices(self):
+    def test_keyboard_alone_suffices(self) -> None:
         self.serve(is_empty=True)
         tab = self.open("planner", kept="")
         tab.has("This desk is new")
@@ -416,7 +418,7 @@ class Journeys(BrowserTestCase):
         tab.has("No recall is open.")
         self.end(tab, 8)
 
-    def test_what_is_pressed_right_behind_a_form_counts(self):
+    def test_what_is_pressed_right_behind_a_form_counts(self) -> None:
         """Until its next frame, which is when a browser tells that a form was closed, another form can be opened and a key pressed."""
         self.serve(is_empty=True)
         tab = self.open("planner")
@@ -429,12 +431,12 @@ class Journeys(BrowserTestCase):
         tab.has("No batch is open.")
         self.end(tab, 0)
 
-    def send_by_keys(self, tab, what, number):
+    def send_by_keys(self, tab: Tab, what: str, number: int) -> None:
         """Sends a form by Enter."""
         tab.key("Enter")
         self.check_booked(tab, what, number)
 
-    def make_materials_by_keys(self, tab):
+    def make_materials_by_keys(self, tab: Tab) -> None:
         """Makes a class and two materials. The first form asks for the operator, who isn't known yet."""
         tab.key("3")
         tab.has("Materials")
@@ -453,7 +455,7 @@ class Journeys(BrowserTestCase):
             tab.type("kg")
             self.send_by_keys(tab, f"Material {name.upper()} made.", number)
 
-    def make_recipe_by_keys(self, tab):
+    def make_recipe_by_keys(self, tab: Tab) -> None:
         """Writes a recipe and approves it."""
         tab.key("1")
         tab.has("Recipes")
@@ -479,7 +481,7 @@ class Journeys(BrowserTestCase):
 class NarrowScreens(BrowserTestCase):
     """The page on a narrow screen."""
 
-    def test_no_view_is_wider_than_a_narrow_screen(self):
+    def test_no_view_is_wider_than_a_narrow_screen(self) -> None:
         self.serve()
         for width in (380, 1280):
             for place in ("planner", "shift/B-2", "warehouse/FLOUR", "quality/lot/F-1", "quality/batch/B-1"):

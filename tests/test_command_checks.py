@@ -4,7 +4,7 @@ from __future__ import annotations
 import hashlib
 import json
 
-from tests.support import program, scenarios, sessions
+from tests.support import Json, program, scenarios, sessions
 from tests.support.cases import DeskTestCase, ProgramTestCase, good
 from tests.support.commands import EACH_COMMAND, GOODS, PLANNED, approve, compact, hold, line, merge, receive, recall
 from tests.support.http import Server, answer, answered, got, posted, status_answer
@@ -30,26 +30,28 @@ STOCK = [
 ]
 
 
-def check_line(command):
+def check_line(command: bytes) -> bytes:
     """Returns the line that asks what would become of a command, which is given as it stands in a line."""
     return b'{"ask":"check","command":' + command.strip() + b"}\n"
 
 
-def refused(name, number, **more):
+def refused(name: str, number: int, **more: Json) -> str:
     """Returns the answer to a check of what is refused."""
     return compact({"accepted": False, "name": name, "refused": number, **more})
 
 
-def order(name, size=300, recipe="CAKE", version=1, due="2027-03-01"):
+def order(
+    name: str, size: int = 300, recipe: str = "CAKE", version: int = 1, due: str = "2027-03-01",
+) -> dict[str, Json]:
     """Returns an order of an import."""
     return {"order": name, "recipe": recipe, "version": version, "size": size, "due": due, "priority": 5}
 
 
-def imported(*orders):
+def imported(*orders: dict[str, Json]) -> str:
     return f'"do":"import_orders","orders":{compact(orders)}'
 
 
-def recipe(product, *lines):
+def recipe(product: str, *lines: str) -> str:
     """Returns a new recipe of a product, with these inputs."""
     listed = [{"kind": "in", "def": it, "qty": 1} for it in lines]
     whole = [*listed, {"kind": "out", "def": product, "qty": 1}, {"kind": "phase", "unit": "U", "oper": "O", "phase": "P"}]
@@ -97,13 +99,13 @@ FORETOLD = [
 ]
 
 
-def reply_foretold(reply):
+def reply_foretold(reply: bytes) -> dict[str, Json]:
     """Returns what a check has to say of a command that is answered so: but for the item and the reason."""
     told = json.loads(reply)
     return {"accepted": True} if "ok" in told else {"accepted": False, **told}
 
 
-def object_in(text):
+def object_in(text: bytes) -> dict[str, Json] | None:
     """Returns the object that a line is, or none."""
     try:
         value = json.loads(text)
@@ -112,18 +114,18 @@ def object_in(text):
     return value if isinstance(value, dict) else None
 
 
-def is_command(text):
+def is_command(text: bytes) -> bool:
     """Returns whether a line is an object with the word of a command."""
     return "do" in (object_in(text) or {})
 
 
-def checked_for(text, reason):
+def checked_for(text: bytes, reason: str) -> str:
     """Returns the reason of a check of a bad line, which has this one as a line: a question lacks `do`."""
     members = object_in(text) or {}
     return "member do is missing" if "ask" in members and "do" not in members else reason
 
 
-def checked_session(session):
+def checked_session(session: Session) -> tuple[bytes, list[bool]]:
     """Returns the lines of a session with a check before each command, and for each line whether it is such a check."""
     told, checks = b"", []
     for text in lines_of(session.told):
@@ -139,7 +141,7 @@ def checked_session(session):
 class Foretelling(SessionTestCase):
     """What a check says, and what the command is answered behind it."""
 
-    def check_foretold(self, session):
+    def check_foretold(self, session: Session) -> None:
         """Runs a session with a check before each command: the answers to the session are those without the checks, and each check says what
         the command behind it is answered."""
         told, checks = checked_session(session)
@@ -152,18 +154,18 @@ class Foretelling(SessionTestCase):
                 said = {name: it for name, it in json.loads(text).items() if name not in ("item", "reason")}
                 self.check(f"{session.name}, {text!r} before {reply!r}", said, reply_foretold(reply))
 
-    def test_each_command_of_each_written_session_is_answered_as_its_check_said(self):
+    def test_each_command_of_each_written_session_is_answered_as_its_check_said(self) -> None:
         for path in sessions.files():
             self.check_foretold(sessions.read(path))
 
-    def test_each_command_of_the_worked_batch_is_answered_as_its_check_said(self):
+    def test_each_command_of_the_worked_batch_is_answered_as_its_check_said(self) -> None:
         worked = Session("the worked batch", (program.EXAMPLES / "batch.jsonl").read_bytes(), (program.EXAMPLES / "batch.out").read_bytes())
         self.check_foretold(worked)
 
-    def test_command_of_each_kind_is_answered_as_its_check_said(self):
+    def test_command_of_each_kind_is_answered_as_its_check_said(self) -> None:
         self.check_foretold(Session("a command of each kind").accepted(*(body for body, _ in EACH_COMMAND)))
 
-    def test_bad_lines_are_answered_as_their_checks_said(self):
+    def test_bad_lines_are_answered_as_their_checks_said(self) -> None:
         for session in scenarios.lines():
             self.check_foretold(session)
 
@@ -171,11 +173,11 @@ class Foretelling(SessionTestCase):
 class Answers(DeskTestCase):
     """The answers to checks of one desk, by lines and over HTTP, over memory and over a file."""
 
-    def setUp(self):
+    def setUp(self) -> None:
         super().setUp()
         self.stock = Session("stock").accepted(*STOCK)
 
-    def test_each_refusal_has_its_item_or_its_reason(self):
+    def test_each_refusal_has_its_item_or_its_reason(self) -> None:
         commands = [line(body) for body, _ in FORETOLD]
         told = self.stock.told + b"".join(map(check_line, commands))
         wanted = self.stock.wanted + "".join(f"{it}\n" for _, it in FORETOLD).encode()
@@ -188,7 +190,7 @@ class Answers(DeskTestCase):
                 self.check(body, server.answered(posted("/v1/check", command)), answer(text))
             self.check("the server", server.end(), (0, b"", b""))
 
-    def test_command_is_answered_as_its_check_said_over_a_file(self):
+    def test_command_is_answered_as_its_check_said_over_a_file(self) -> None:
         for number, (body, text) in enumerate(FORETOLD):
             self.keep(self.folder, f"stock{number}", self.stock)
             ended = self.desk.run("run", f"stock{number}.db", told=check_line(line(body)) + line(body))
@@ -197,7 +199,7 @@ class Answers(DeskTestCase):
             wanted = {name: it for name, it in json.loads(text).items() if name not in ("item", "reason")}
             self.check(f"{body}, booked", reply_foretold(reply), wanted)
 
-    def test_file_stays_byte_for_byte_as_commands_are_checked(self):
+    def test_file_stays_byte_for_byte_as_commands_are_checked(self) -> None:
         file = self.keep(self.folder, "stock", self.stock)
         self.check("verified", self.desk.run("verify", file.name), good(len(STOCK)))
         before = self.stands()
@@ -211,19 +213,19 @@ class Answers(DeskTestCase):
         self.check("the file behind requests", self.stands(), before)
         self.check("verified again", self.desk.run("verify", file.name), good(len(STOCK)))
 
-    def stands(self):
+    def stands(self) -> tuple[str, dict[str, int]]:
         """Returns the checksum of the desk's file and the sizes of the files beside it: an opening begins the log anew, under a name of its own."""
         file = self.folder / "stock.db"
         return hashlib.sha256(file.read_bytes()).hexdigest(), {it.name: it.stat().st_size for it in self.folder.iterdir() if it != file}
 
-    def test_reference_that_is_kept_is_accepted_with_the_same_content_alone(self):
+    def test_reference_that_is_kept_is_accepted_with_the_same_content_alone(self) -> None:
         stamp, other = '"at":200,"by":"","ref":"K-1"', '"at":201,"by":"","ref":"K-1"'
         told = Session().accepted(*GOODS).told + line(receive("L-1", 1), stamp)
         told += check_line(line(receive("L-1", 1), stamp)) + check_line(line(receive("L-1", 2), stamp)) + check_line(line(receive("L-1", 1), other))
         answers = [*(f'{{"ok":{it}}}' for it in (1, 2, 3)), ACCEPTED, *2 * [refused("RefReused", 31)]]
         self.check("references", self.desk.run(told=told), (0, "".join(f"{it}\n" for it in answers).encode(), b""))
 
-    def test_check_of_another_shape_is_a_bad_line(self):
+    def test_check_of_another_shape_is_a_bad_line(self) -> None:
         command = line('"do":"settle","batch":"B-1"').decode().strip()
         bad = [
             '{"ask":"check"}',
@@ -243,7 +245,7 @@ class Answers(DeskTestCase):
         wanted = "".join(f'{refused("BadForm", 1, reason=it)}\n' for it in reasons).encode()
         self.check("checks of no command", self.desk.run(told=nested), (0, wanted, b""))
 
-    def test_last_command_of_two_is_checked(self):
+    def test_last_command_of_two_is_checked(self) -> None:
         told = '{"ask":"check","command":1,"command":{"at":1,"by":"","do":"settle","batch":"B-1"}}\n'.encode()
         self.check("two commands", self.desk.run(told=told), (0, refused("UnknownBatch", 8).encode() + b"\n", b""))
 
@@ -253,7 +255,7 @@ class Requests(DeskTestCase):
 
     PROGRAMS = ("desk", "line_check")
 
-    def test_methods_lengths_and_bodies_are_judged_as_those_of_commands(self):
+    def test_methods_lengths_and_bodies_are_judged_as_those_of_commands(self) -> None:
         body = line(GOODS[0]).strip()
         post = b'HTTP/1.1 405 Method Not Allowed\r\nContent-Type: application/json\r\nContent-Length: 14\r\nConnection: close\r\nAllow: POST\r\n\r\n'
         requests = [
@@ -278,11 +280,11 @@ class Requests(DeskTestCase):
                 self.check(case, server.answered(request, is_last=True), wanted)
             self.check("the server", server.end(), (0, b"", b""))
 
-    def test_page_of_another_site_checks_nothing(self):
+    def test_page_of_another_site_checks_nothing(self) -> None:
         body = line(GOODS[0]).strip()
         length = f"Content-Length: {len(body)}"
 
-        def request(*fields):
+        def request(*fields: str) -> bytes:
             return "\r\n".join(["POST /v1/check HTTP/1.1", *fields, length, "", ""]).encode() + body
 
         requests = [
@@ -295,9 +297,10 @@ class Requests(DeskTestCase):
                 wanted = answer(ACCEPTED) if status == 200 else status_answer(status)
                 self.check(case, answered(server.port, told), wanted)
 
-    def test_reasons_are_the_words_of_line_check(self):
+    def test_reasons_are_the_words_of_line_check(self) -> None:
         lines = (LINE_CHECK / "stdin").read_bytes().split(b"\n")
-        reasons = dict(it.split(b": ", 1) for it in (LINE_CHECK / "stdout").read_bytes().splitlines())
+        parts = (it.split(b": ", 1) for it in (LINE_CHECK / "stdout").read_bytes().splitlines())
+        reasons = {place: reason for place, reason in parts}
         bad = [(text, reasons[b"line %d" % number].decode()) for number, text in enumerate(lines, 1) if b"line %d" % number in reasons]
         with Server(self.desk, ":memory:", len(bad)) as server:
             for text, reason in bad:
@@ -309,7 +312,7 @@ class Requests(DeskTestCase):
         self.check("by lines", self.desk.run(told=told), (0, wanted, b""))
         self.check_true("many reasons", len(objects) > 20)
 
-    def test_object_without_a_word_has_one_reason_by_lines_over_http_and_of_line_check(self):
+    def test_object_without_a_word_has_one_reason_by_lines_over_http_and_of_line_check(self) -> None:
         objects = [b"{}", b'{"at":1}', b'{"at":1,"by":"anna"}', b'{"lot":"F-1"}']
         reason = "neither do nor ask is there"
         with Server(self.desk, ":memory:", len(objects)) as server:
@@ -326,6 +329,6 @@ class LineCheck(ProgramTestCase):
 
     PROGRAMS = ("line_check",)
 
-    def test_check_is_counted_as_a_question_be_its_command_one_or_none(self):
+    def test_check_is_counted_as_a_question_be_its_command_one_or_none(self) -> None:
         told = check_line(line(GOODS[0])) + check_line(b"{}") + line(GOODS[0])
         self.check("two checks and a command", program.Program("line_check", self.folder).run(told=told), (0, b"1 commands, 2 questions\n", b""))

@@ -4,6 +4,10 @@ It runs over a copy of the files that it writes.
 """
 from __future__ import annotations
 
+import types
+from collections.abc import Sequence
+from typing import Any
+
 from tests.support.regions import RegionsTestCase
 
 # A command on goods with a member of each kind, before the end of the list.
@@ -15,33 +19,34 @@ class CommandsTestCase(RegionsTestCase):
 
     TOOLS = ("make/commands.py", "make/command_regions.py", "make/regions.py")
 
-    def described(self, tool):
-        return tool.command_regions.regions(tool.COMMANDS)
+    def described(self, tool: types.ModuleType) -> Sequence[Any]:
+        regions: Sequence[Any] = tool.command_regions.regions(tool.COMMANDS)
+        return regions
 
-    def add_weigh(self):
+    def add_weigh(self) -> None:
         """Adds a command to the description."""
-        self.replace(self.TOOLS[0], "]\n\n\ndef main():\n", f"{WEIGH}]\n\n\ndef main():\n")
+        self.replace(self.TOOLS[0], "]\n\n\ndef main()", f"{WEIGH}]\n\n\ndef main()")
 
 
 class Files(CommandsTestCase):
     """What is in the repository."""
 
-    def test_files_are_what_the_description_gives(self):
+    def test_files_are_what_the_description_gives(self) -> None:
         self.check_files()
 
 
 class Changes(CommandsTestCase):
     """What the tool finds and writes."""
 
-    def test_changed_region_is_found_and_written_anew(self):
+    def test_changed_region_is_found_and_written_anew(self) -> None:
         self.check_found_and_written_anew("crates/plant_message_schema/src/words.rt", '"add_class" => ', '"make_class" => ')
 
-    def test_another_command_changes_regions_alone(self):
+    def test_another_command_changes_regions_alone(self) -> None:
         before = self.texts()
         self.add_weigh()
         self.check_regions_alone(before, [])
 
-    def test_another_command_has_its_lines(self):
+    def test_another_command_has_its_lines(self) -> None:
         self.add_weigh()
         self.written()
         self.check_lines([
@@ -63,5 +68,5 @@ class Changes(CommandsTestCase):
             ("crates/plant_rules/src/commands.rt", "        Command::Weigh(c) => decide_weigh(alloc, view, seq, stamp, c),"),
         ])
 
-    def test_other_words_are_answered_with_the_use(self):
+    def test_other_words_are_answered_with_the_use(self) -> None:
         self.check_use()

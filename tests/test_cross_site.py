@@ -7,6 +7,8 @@ import json
 import threading
 import time
 
+from tests.support import Json
+from tests.support.browser import Tab
 from tests.support.http import free_port
 from tests.support.pages import MORNINGS, BrowserTestCase
 
@@ -20,7 +22,7 @@ SENT = "fetch(%s, %s).then(async (reply) => `${reply.type} ${reply.status} ${awa
 class OtherSite(http.server.BaseHTTPRequestHandler):
     """Answers each request with an empty page."""
 
-    def do_GET(self):
+    def do_GET(self) -> None:
         body = b"<!doctype html><title>other</title><p>another site"
         self.send_response(200)
         self.send_header("Content-Type", "text/html")
@@ -28,7 +30,7 @@ class OtherSite(http.server.BaseHTTPRequestHandler):
         self.end_headers()
         self.wfile.write(body)
 
-    def log_message(self, *_):
+    def log_message(self, *_: object) -> None:
         pass
 
 
@@ -37,8 +39,11 @@ class OtherSites(BrowserTestCase):
 
     NAMES = (OTHER,)
 
+    # The port of the other site.
+    port: int
+
     @classmethod
-    def setUpClass(cls):
+    def setUpClass(cls) -> None:
         super().setUpClass()
         cls.port = free_port()
         server = http.server.ThreadingHTTPServer(("127.0.0.1", cls.port), OtherSite)
@@ -47,12 +52,12 @@ class OtherSites(BrowserTestCase):
         cls.addClassCleanup(server.server_close)
         cls.addClassCleanup(server.shutdown)
 
-    def setUp(self):
+    def setUp(self) -> None:
         super().setUp()
         self.serve()
         self.desk_url = self.served.url.rstrip("/")
 
-    def visit(self, url, text=None):
+    def visit(self, url: str, text: str | None = None) -> Tab:
         """Opens a page in a tab of its own."""
         tab = self.browser.tab(url)
         self.addCleanup(tab.close)
@@ -61,22 +66,23 @@ class OtherSites(BrowserTestCase):
             tab.has(text)
         return tab
 
-    def sites(self):
+    def sites(self) -> list[tuple[str, Tab]]:
         """Returns a tab of each other site with its name: another port of this machine, and another name."""
         names = ("127.0.0.1", "localhost", OTHER)
         return [(it, self.visit(f"http://{it}:{self.port}/", "another site")) for it in names]
 
-    def check_nothing_booked(self, case):
+    def check_nothing_booked(self, case: str) -> None:
         self.check(f"the number behind {case}", self.served.ask("/desk")["seq"], MORNINGS)
 
-    def command(self):
+    def command(self) -> str:
         return json.dumps({"at": int(time.time()), "by": "evil", "do": "add_class", "class": "EVIL", "name": ""})
 
-    def sent(self, tab, path, **options):
+    def sent(self, tab: Tab, path: str, **options: Json) -> str:
         """Has a page send a request to the desk, and returns what it came to."""
-        return tab.run(SENT % (json.dumps(self.desk_url + path), json.dumps(options)))
+        came_to: str = tab.run(SENT % (json.dumps(self.desk_url + path), json.dumps(options)))
+        return came_to
 
-    def test_other_site_books_nothing(self):
+    def test_other_site_books_nothing(self) -> None:
         for name, tab in self.sites():
             for mode in ("no-cors", "cors"):
                 told = self.sent(tab, "/v1/commands", method="POST", mode=mode, body=self.command())
@@ -86,7 +92,7 @@ class OtherSites(BrowserTestCase):
             self.check(f"an order file of {name}", told, "not sent or not read")
             self.check_nothing_booked(name)
 
-    def test_form_of_another_site_books_nothing(self):
+    def test_form_of_another_site_books_nothing(self) -> None:
         for name, tab in self.sites():
             tab.run(f"""(() => {{
               const form = document.createElement('form'), field = document.createElement('input');
@@ -97,12 +103,12 @@ class OtherSites(BrowserTestCase):
             tab.has('{"status":403}')
             self.check_nothing_booked(f"a form of {name}")
 
-    def test_other_site_reads_nothing(self):
+    def test_other_site_reads_nothing(self) -> None:
         for name, tab in self.sites():
             self.check(f"what {name} reads", self.sent(tab, "/v1/desk"), "not sent or not read")
             self.check(f"what of the page {name} reads", self.sent(tab, "/"), "not sent or not read")
 
-    def test_name_that_leads_to_this_machine_reads_and_books_nothing(self):
+    def test_name_that_leads_to_this_machine_reads_and_books_nothing(self) -> None:
         self.desk_url = self.desk_url.replace("127.0.0.1", OTHER)
         tab = self.visit(self.desk_url + "/", '{"status":403}')
         for path in ("/", "/v1/desk", "/v1/lists/recalls"):
@@ -110,7 +116,7 @@ class OtherSites(BrowserTestCase):
         self.check("a booking", self.sent(tab, "/v1/commands", method="POST", body=self.command()), 'basic 403 {"status":403}')
         self.check_nothing_booked("a name that leads to this machine")
 
-    def test_other_site_frames_nothing(self):
+    def test_other_site_frames_nothing(self) -> None:
         for name, tab in self.sites():
             tab.run(f"""new Promise((then) => {{
               const frame = document.createElement('iframe');
@@ -120,7 +126,7 @@ class OtherSites(BrowserTestCase):
             urls = [it["frame"]["url"] for it in frames]
             self.check(f"the frame in {name}", [it for it in urls if it.startswith(self.desk_url)], [])
 
-    def test_own_page_books(self):
+    def test_own_page_books(self) -> None:
         tab = self.open("planner")
         self.desk_url = ""
         told = self.sent(tab, "/v1/commands", method="POST", body=self.command())

@@ -9,16 +9,19 @@ from __future__ import annotations
 import errno
 import json
 import os
+import pathlib
 import resource
 import shutil
 import subprocess
 import sys
+from collections.abc import Callable, Sequence
+from typing import Any
 
-from tests.support import faults, sessions, sqlite
+from tests.support import Json, faults, sessions, sqlite
 from tests.support.cases import DeskTestCase
 from tests.support.faults import as_nobody
 from tests.support.http import Server
-from tests.support.program import Program
+from tests.support.program import Ended, How, Process, Program, Word
 
 GOOD = """The file opens.
 It holds a desk of schema 4 and 20 commands, the last at 310.
@@ -74,17 +77,18 @@ WANTED = {
 
 # The rules of columns by a name of ours: values of the column's type that break it, as SQL writes them, with what the check tells of each; and
 # what it wants. Any whole number is a line's, and any text is read as a receipt's content.
+ValueRule = tuple[list[tuple[str, str]], str]
 A_TEXT = "a text of at most 60 bytes from the space to ~"
 LONG, ODD = "a text of more than 60 bytes", "a text with a byte that isn't from the space to ~"
 NO_TEXTS = [("printf('%61s', 'x')", LONG), ("'Brot' || char(9)", ODD), ("'Käse'", ODD)]
 
 
-def from_to(low, high, wanted=""):
+def from_to(low: int, high: int, wanted: str = "") -> ValueRule:
     """Returns the rule of whole numbers from one to another."""
     return [(it, it) for it in (f"{low - 1}", f"{high + 1}", "-9223372036854775808")], f"a whole number from {low} to {high}{wanted}"
 
 
-VALUE_RULES = {
+VALUE_RULES: dict[str, ValueRule] = {
     "id": ([("'f-1'", "'f-1'"), ("''", "''"), ("'F-12345678901234567890123'", "'F-12345678901234567890123'"), *NO_TEXTS], "an id"),
     "id?": ([("'f-1'", "'f-1'"), ("''", "''")], "an id or NULL"),
     "id or ''": ([("'mix'", "'mix'"), ("' '", "' '")], "an id or the empty text"),
@@ -178,7 +182,11 @@ sys.stdin.read()
 """
 
 
-def standing(folder):
+# What gives a program a limit of this kind, at so many.
+Limit = Callable[[int, int], How]
+
+
+def standing(folder: pathlib.Path) -> dict[str, tuple[bytes, int, int, int]]:
     """Returns all that stands in a folder: of each file its bytes, where they can be read, and when it was changed."""
     found = {}
     for it in sorted(folder.rglob("*")):
@@ -188,7 +196,7 @@ def standing(folder):
     return found
 
 
-def opened(desk):
+def opened(desk: Json) -> dict[str, Json]:
     """Returns the object of a file that opens and holds this."""
     return {"desk": desk, "obstacle": None, "opens": True, "taken": None}
 
@@ -198,17 +206,20 @@ class FileCheckTestCase(DeskTestCase):
 
     PROGRAMS = ("desk", "desk_check")
 
+    # The file of twenty commands.
+    first: pathlib.Path
+
     @classmethod
-    def setUpClass(cls):
+    def setUpClass(cls) -> None:
         super().setUpClass()
         cls.first = cls.keep(cls.class_folder(), "twenty", sessions.twenty_commands())
 
-    def setUp(self):
+    def setUp(self) -> None:
         super().setUp()
         self.checker = Program("desk_check", self.folder)
         self.copy("twenty.db")
 
-    def copy(self, name, statements=""):
+    def copy(self, name: str, statements: str = "") -> pathlib.Path:
         """Returns a fresh copy of the file of twenty commands, over which statements were executed."""
         file = self.folder / name
         shutil.copyfile(self.first, file)
@@ -216,20 +227,24 @@ class FileCheckTestCase(DeskTestCase):
             sqlite.changed(file, statements)
         return file
 
-    def checked(self, *words, **how):
+    def checked(self, *words: Word, **how: Any) -> Ended:
         """Runs the check, which has to leave every file as it is."""
         before = standing(self.folder)
-        ended = self.checker.run(*words, **{"stdin": subprocess.DEVNULL, **how})
+        options: dict[str, Any] = {"stdin": subprocess.DEVNULL, **how}
+        ended = self.checker.run(*words, **options)
         self.check(f"{words}: what stands there", standing(self.folder), before)
         return ended
 
-    def object(self, file, *words, **how):
+    def object(self, file: str, *words: Word, **how: Any) -> tuple[int, Json]:
         """Returns the status of the check, and the object that it prints."""
         status, output, errors = self.checked(file, "--json", *words, **how)
-        self.check(f"{file}: {errors}, {output}", (errors, output.count(b"\n")), (b"", 1))
+        self.check(f"{file}: {errors!r}, {output!r}", (errors, output.count(b"\n")), (b"", 1))
         return status, json.loads(output)
 
-    def check_cause(self, case, file, cause, status=3, opens=None, words=(), **how):
+    def check_cause(
+        self, case: str, file: str, cause: str | None, status: int = 3, opens: bool | None = None,
+        words: Sequence[Word] = (), **how: Any,
+    ) -> Json:
         """Checks a file that the desk can't use, for this cause, or that it can."""
         found, told = self.object(file, *words, **how)
         obstacle = told["obstacle"] or {}
@@ -245,11 +260,11 @@ class FileCheckTestCase(DeskTestCase):
             self.check(f"{case}: what it holds", bool(told["desk"]), opens)
         return told
 
-    def check_told(self, case, file, text, status):
+    def check_told(self, case: str, file: str, text: str, status: int) -> None:
         """Checks what is told of a file in sentences."""
         self.check(f"{case}, in sentences", self.checked(file), (status, text.encode(), b""))
 
-    def killed(self, name):
+    def killed(self, name: str) -> pathlib.Path:
         """Makes a file whose program was killed, so that its commands stand in the log; returns the path of the log."""
         killed = self.desk.start("run", name, stdin=subprocess.PIPE)
         killed.stdin.write(b'{"at":7,"by":"","do":"add_class","class":"RAW","name":""}\n')
@@ -261,7 +276,7 @@ class FileCheckTestCase(DeskTestCase):
         self.check_true(f"a log of {name}", log.stat().st_size > 0)
         return log
 
-    def check_usable(self, case, file, **how):
+    def check_usable(self, case: str, file: str, **how: Any) -> Json:
         """Checks a file that the desk can use."""
         return self.check_cause(case, file, None, status=0, opens=True, **how)
 
@@ -269,31 +284,31 @@ class FileCheckTestCase(DeskTestCase):
 class Desks(FileCheckTestCase):
     """Files that hold a desk, or none."""
 
-    def test_good_desk_is_told_in_sentences_and_as_an_object(self):
+    def test_good_desk_is_told_in_sentences_and_as_an_object(self) -> None:
         self.check("a desk", self.checked("twenty.db"), (0, GOOD.encode(), b""))
         wanted = {"at": 310, "batches": 1, "broken": [], "lots": 4, "movements": 8, "orders": 1, "schema": 4, "seq": 20}
         self.check("a desk as an object", self.object("twenty.db"), (0, opened(wanted)))
 
-    def test_new_desk_and_one_of_a_later_program_are_told(self):
+    def test_new_desk_and_one_of_a_later_program_are_told(self) -> None:
         self.desk.run("init", "new.db")
         self.check("a new desk", self.object("new.db")[1]["desk"]["seq"], 0)
         sqlite.changed(self.folder / "new.db", "UPDATE meta SET schema = 5")
         self.check("a later desk", self.object("new.db"), (3, opened({"newer": 5})))
         self.check_told("a later desk", "new.db", LATER, 3)
 
-    def test_file_without_a_desk_is_told(self):
+    def test_file_without_a_desk_is_told(self) -> None:
         (self.folder / "empty.db").write_bytes(b"")
         sqlite.changed(self.folder / "other.db", "CREATE TABLE shift (id TEXT)")
         for name in ["empty.db", "other.db"]:
             self.check(name, self.object(name), (1, opened(None)))
             self.check_told(name, name, NONE, 1)
 
-    def test_name_that_begins_with_a_colon_is_a_file(self):
+    def test_name_that_begins_with_a_colon_is_a_file(self) -> None:
         for name in ":x", ":memory":
             self.copy(name)
             self.check_told(name, name, GOOD, 0)
 
-    def test_taken_name_of_an_index_is_told(self):
+    def test_taken_name_of_an_index_is_told(self) -> None:
         """Gives something else the name of one of the desk's indexes, in a file without a desk and beside older ones."""
         file = self.folder / "named.db"
         for schema, statements, name in [
@@ -313,7 +328,7 @@ class Desks(FileCheckTestCase):
             self.check(f"{name}: in sentences", self.checked(file.name).output.decode().splitlines()[-1], sentence)
             self.check_run(f"{name}: the desk", ["init", file.name], (3, b"", b"fault: store\n"))
 
-    def test_trigger_or_index_that_keeps_a_table_from_standing_is_named(self):
+    def test_trigger_or_index_that_keeps_a_table_from_standing_is_named(self) -> None:
         for table, name, statement in [
             ("lot", "watch", "CREATE TRIGGER watch AFTER INSERT ON lot BEGIN DELETE FROM lot WHERE id = 'none'; END"),
             ("movement", "large", "CREATE INDEX large ON movement (seq) WHERE amount > 100"),
@@ -329,7 +344,7 @@ class Desks(FileCheckTestCase):
         self.copy("bound.db", "ALTER TABLE lot RENAME TO lots")
         self.check("a table that isn't there", self.object("bound.db")[1]["desk"]["bound"], None)
 
-    def test_log_of_a_killed_program_is_read(self):
+    def test_log_of_a_killed_program_is_read(self) -> None:
         """Checks a desk whose program was killed, so that its commands stand in the log."""
         self.killed("killed.db")
         status, told = self.object("killed.db")
@@ -339,7 +354,7 @@ class Desks(FileCheckTestCase):
 class Causes(FileCheckTestCase):
     """What keeps the desk from a file."""
 
-    def test_missing_file_and_what_is_no_file_are_told(self):
+    def test_missing_file_and_what_is_no_file_are_told(self) -> None:
         (self.folder / "folder").mkdir()
         os.mkfifo(self.folder / "pipe")
         (self.folder / "link").symlink_to("nothing")
@@ -349,13 +364,13 @@ class Causes(FileCheckTestCase):
             self.check_cause(name, name, "nofile")
         self.check_cause("a file as a folder", "twenty.db/plant.db", "folder")
 
-    def test_file_that_a_server_or_a_reader_has_is_locked(self):
+    def test_file_that_a_server_or_a_reader_has_is_locked(self) -> None:
         self.copy("served.db")
         with Server(self.desk, "served.db", 100):
             self.check_cause("a server", "served.db", "locked", opens=False)
         # Another process reads: this one looks at the file's bytes, which would give up locks of its own.
-        words = [sys.executable, "-c", READER, self.folder / "served.db"]
-        reader = subprocess.Popen(words, stdin=subprocess.PIPE, stdout=subprocess.PIPE)
+        words: list[Word] = [sys.executable, "-c", READER, self.folder / "served.db"]
+        reader = Process(words, stdin=subprocess.PIPE, stdout=subprocess.PIPE)
         try:
             reader.stdout.readline()
             self.check_cause("a reader", "served.db", "locked", opens=False)
@@ -363,7 +378,7 @@ class Causes(FileCheckTestCase):
             reader.communicate()
         self.check_usable("none any more", "served.db")
 
-    def test_missing_rights_are_told(self):
+    def test_missing_rights_are_told(self) -> None:
         """Checks files that this user may not read, or not write, and one that has two names."""
         file, log = self.copy("rights.db"), self.folder / "rights.db-wal"
         os.chmod(self.folder, 0o755)
@@ -384,10 +399,10 @@ class Causes(FileCheckTestCase):
         os.link(file, self.folder / "second.db")
         self.check_cause("two names", "rights.db", "linked")
 
-    def test_limit_of_the_size_of_files_is_told(self):
+    def test_limit_of_the_size_of_files_is_told(self) -> None:
         size, page = (self.folder / "twenty.db").stat().st_size, LEAST_GROWTH
         for limited in faults.limited, faults.softly_limited:
-            def within(bytes_more, limited=limited):
+            def within(bytes_more: int, limited: Limit = limited) -> How:
                 return limited(resource.RLIMIT_FSIZE, size + bytes_more)
 
             name = limited.__name__
@@ -397,7 +412,7 @@ class Causes(FileCheckTestCase):
         (self.folder / "empty.db").write_bytes(b"")
         self.check_cause("a limit of no byte", "empty.db", "limit", opens=False, **faults.limited(resource.RLIMIT_FSIZE, 0))
 
-    def test_log_that_may_not_grow_is_told(self):
+    def test_log_that_may_not_grow_is_told(self) -> None:
         """Checks a file that is smaller than its log, which may grow by a page, or by a byte less."""
         size = self.killed("killed.db").stat().st_size
         self.check_true("a log that is larger than its file", size > (self.folder / "killed.db").stat().st_size)
@@ -407,7 +422,7 @@ class Causes(FileCheckTestCase):
             limit = limited(resource.RLIMIT_FSIZE, size + LEAST_GROWTH - 1)
             self.check_cause(f"a log, {name} to less than a page more", "killed.db", "limit", opens=True, **limit)
 
-    def test_disk_that_is_full_or_fails_is_told_where_it_is_tried(self):
+    def test_disk_that_is_full_or_fails_is_told_where_it_is_tried(self) -> None:
         """A library put before the programs makes them see what such a disk tells."""
         self.check_usable("a disk with room", "twenty.db", words=["--room"])
         self.copy("disk.db")
@@ -418,7 +433,7 @@ class Causes(FileCheckTestCase):
             self.check_usable(f"a disk that tells {name}, and isn't tried", "disk.db", env=room)
             self.check_cause(f"a disk that tells {name}", "disk.db", cause, opens=True, words=["--room"], env=room)
 
-    def test_folder_of_a_group_is_told_where_it_is_tried(self):
+    def test_folder_of_a_group_is_told_where_it_is_tried(self) -> None:
         if os.geteuid() != 0:
             self.skipTest("only root can give a folder to another group's user")
         os.chmod(self.copy("group.db"), 0o666)
@@ -426,7 +441,7 @@ class Causes(FileCheckTestCase):
         self.check_usable("a folder of a group, which isn't tried", "group.db", **as_nobody())
         self.check_cause("a folder of a group that the user isn't of", "group.db", "nolog", opens=True, words=["--room"], **as_nobody())
 
-    def test_file_that_is_no_sound_database_is_told(self):
+    def test_file_that_is_no_sound_database_is_told(self) -> None:
         """Checks texts, databases that the desk can't read, and damaged ones."""
         (self.folder / "text").write_bytes(b"FLOUR 500 kg\n" * 500)
         sqlite.changed(self.folder / "wide.db", "PRAGMA encoding = 'UTF-16'; CREATE TABLE a (b TEXT); INSERT INTO a VALUES ('c')")
@@ -443,7 +458,7 @@ class Causes(FileCheckTestCase):
         (self.folder / "twenty.db-journal").write_bytes(b"\xd9")
         self.check_cause("a journal", "twenty.db", "journal")
 
-    def test_want_of_memory_is_told_by_the_status(self):
+    def test_want_of_memory_is_told_by_the_status(self) -> None:
         sqlite.changed(self.folder / "large.db", "CREATE TABLE a (b TEXT); INSERT INTO a SELECT hex(zeroblob(8000000))")
         self.check("little memory", self.checked("large.db", **faults.limited(resource.RLIMIT_AS, LITTLE)).status, 4)
 
@@ -451,7 +466,7 @@ class Causes(FileCheckTestCase):
 class Rules(FileCheckTestCase):
     """Rules of good tables that are broken."""
 
-    def test_each_broken_rule_is_told_with_its_row(self):
+    def test_each_broken_rule_is_told_with_its_row(self) -> None:
         """Breaks each rule in a file of twenty commands, and looks at the row that is told."""
         for number, statement in enumerate(sqlite.DAMAGES, 1):
             file = self.copy("damaged.db", statement)
@@ -466,7 +481,7 @@ class Rules(FileCheckTestCase):
                 self.check(f"{statement}: what is wanted", row["wanted"], WANTED[number])
             self.check(f"{statement}: verify", self.desk.run("verify", file.name).errors, b"fault: damaged G%d\n" % number)
 
-    def test_value_that_breaks_its_rule_is_told_with_key_and_column(self):
+    def test_value_that_breaks_its_rule_is_told_with_key_and_column(self) -> None:
         """Breaks each column of each table in the last row of its key."""
         first = self.good_desk()
         for table, rules in COLUMN_RULES.items():
@@ -482,7 +497,7 @@ class Rules(FileCheckTestCase):
                     key = self.key_of(file, table, order, number, column in key_columns and (rule == "id" or value[0] == "-"))
                     self.check_row(f"{table}, {column} = {value}", file, (table, key, column, told, wanted))
 
-    def test_first_row_and_column_of_several_are_told(self):
+    def test_first_row_and_column_of_several_are_told(self) -> None:
         first = self.good_desk()
         for statement, wanted in SEVERAL_VALUES:
             file = self.folder / "value.db"
@@ -493,20 +508,20 @@ class Rules(FileCheckTestCase):
         sentence = "table job, row O-1, column size: -5 stands there, wanted is a whole number from 1 to 1000000000000000"
         self.check("in sentences", self.checked(file).output.decode().splitlines()[-1], sentence)
 
-    def good_desk(self):
+    def good_desk(self) -> pathlib.Path:
         """Returns a file of the rows of good_desk.sql."""
         first = self.folder / "good.db"
         self.desk.run("init", first.name)
         sqlite.good_desk(first)
         return first
 
-    def key_of(self, file, table, order, number, unreadable):
+    def key_of(self, file: pathlib.Path, table: str, order: str, number: int, unreadable: bool) -> Json:
         """Returns the key of the row of this rowid, or its place in the order of the key."""
         rows = sqlite.rows(file, f"SELECT rowid, {order} FROM {table} ORDER BY {order}")
         at = [row[0] for row in rows].index(number)
         return {"place": at + 1} if unreadable else list(rows[at][1:])
 
-    def check_row(self, case, file, wanted):
+    def check_row(self, case: str, file: pathlib.Path, wanted: tuple[Json, ...]) -> None:
         """Checks what is told of the first row of a file that breaks rule 2: so much as is wanted."""
         broken = self.object(file.name)[1]["desk"]["broken"]
         self.check(f"{case}: the rule", [it["rule"] for it in broken], [2])
@@ -514,7 +529,7 @@ class Rules(FileCheckTestCase):
         found = tuple(row.get(it) for it in ("table", "key", "column", "found", "wanted"))
         self.check(f"{case}: the row", found[:len(wanted)], wanted)
 
-    def test_row_of_the_same_number_is_not_told_as_one_whose_moment_falls(self):
+    def test_row_of_the_same_number_is_not_told_as_one_whose_moment_falls(self) -> None:
         """Gives the two movements of a merge two moments, which breaks no rule; then an event has one that falls."""
         rows = "UPDATE movement SET at = 305 WHERE seq IN (16, 17) OR (seq = 18 AND line = 2)"
         self.check("two moments of one number", self.checked(self.copy("merged.db", rows).name).status, 0)
@@ -524,14 +539,15 @@ class Rules(FileCheckTestCase):
         wanted = ("batch_event", [15], "at", "259", "no moment before 260, which stands with a lower number")
         self.check("a moment that falls", found, wanted)
 
-    def test_three_broken_rules_are_told_in_order(self):
+    def test_three_broken_rules_are_told_in_order(self) -> None:
         file = self.copy("several.db", "; ".join(sqlite.DAMAGES[it - 1] for it in (13, 7, 3)))
         _, told = self.object(file.name)
         self.check("three rules", [it["rule"] for it in told["desk"]["broken"]], [3, 7, 13])
         self.check_told("three rules", file.name, BROKEN, 3)
 
-    def test_first_broken_rule_is_that_of_verify_for_each_change_of_a_good_desk(self):
-        first, file, without = self.folder / "good.db", self.folder / "changed.db", {}
+    def test_first_broken_rule_is_that_of_verify_for_each_change_of_a_good_desk(self) -> None:
+        first, file = self.folder / "good.db", self.folder / "changed.db"
+        without: dict[int, int] = {}
         self.desk.run("init", first.name)
         sqlite.good_desk(first)
         for number, statement in sqlite.broken_rules():
@@ -548,22 +564,23 @@ class Rules(FileCheckTestCase):
 class Words(FileCheckTestCase):
     """The words and streams of the check."""
 
-    def test_help_and_version_are_told_and_wrong_words_refused(self):
+    def test_help_and_version_are_told_and_wrong_words_refused(self) -> None:
         status, output, errors = self.checked("--help")
         self.check("--help", (status, b"Usage: desk_check" in output, errors), (0, True, b""))
         self.check("--version", self.checked("--version").status, 0)
-        for words in [[], ["a.db", "b.db"], ["--jsn", "a.db"]]:
+        wrong: list[list[str]] = [[], ["a.db", "b.db"], ["--jsn", "a.db"]]
+        for words in wrong:
             status, output, errors = self.checked(*words)
             self.check(words, (status, output, errors[:7]), (2, b"", b"error: "))
 
-    def test_failed_write_is_a_fault(self):
+    def test_failed_write_is_a_fault(self) -> None:
         with open("/dev/full", "wb") as full:
             ended = self.checker.run("twenty.db", stdout=full)
         self.check("a failed write", (ended.status, ended.errors), (3, b"fault: write\n"))
 
-    def test_closed_standard_streams_are_not_written_into_the_file(self):
+    def test_closed_standard_streams_are_not_written_into_the_file(self) -> None:
         """Closes the standard streams, into whose places an opened file would come."""
-        def close():
+        def close() -> None:
             for stream in range(3):
                 os.close(stream)
 

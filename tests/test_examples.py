@@ -34,7 +34,7 @@ REPORTS = {
 class Reports(DeskTestCase):
     """examples/reports.sql over the desk of the mornings."""
 
-    def test_reports_are_those_of_the_mornings(self):
+    def test_reports_are_those_of_the_mornings(self) -> None:
         self.desk.run("run", "plant.db", told=(EXAMPLES / "mornings.jsonl").read_bytes())
         parts = (EXAMPLES / "reports.sql").read_text().split(";\n")
         texts = {begin: [it for it in parts if f"-- {begin}" in it] for begin in REPORTS}
@@ -47,7 +47,7 @@ class Reports(DeskTestCase):
 class Client(DeskTestCase):
     """examples/client.py over a desk that is served."""
 
-    def test_client_books_a_lot_and_asks_for_its_stock(self):
+    def test_client_books_a_lot_and_asks_for_its_stock(self) -> None:
         with Server(self.desk, "plant.db", 100) as server:
             for number in (3, 4):
                 ran = subprocess.run([sys.executable, EXAMPLES / "client.py", f"http://127.0.0.1:{server.port}"], capture_output=True, text=True, timeout=60)

@@ -14,7 +14,7 @@ WORDS = ("init", "run", "import", "trace", "record", "verify", "serve")
 VERSION = b"1.0.0"
 
 
-def text_of(name):
+def text_of(name: str) -> bytes:
     """Returns the help that is kept under a name."""
     return (FOLDER / f"{name}.txt").read_bytes()
 
@@ -24,7 +24,7 @@ class Help(ProgramTestCase):
 
     PROGRAMS = PACKED
 
-    def test_help_of_each_program_is_as_kept(self):
+    def test_help_of_each_program_is_as_kept(self) -> None:
         for name in PACKED:
             program = Program(name, self.folder)
             for word in "--help", "-h":
@@ -32,23 +32,23 @@ class Help(ProgramTestCase):
             for word in "--version", "-V":
                 self.check(f"{name} {word}", program.run(word), (0, b"%s %s\n" % (name.encode(), VERSION), b""))
 
-    def test_help_of_each_word_of_the_desk_is_as_kept(self):
+    def test_help_of_each_word_of_the_desk_is_as_kept(self) -> None:
         desk = Program("desk", self.folder)
         for name in WORDS:
             for word in "--help", "-h":
                 self.check(f"desk {name} {word}", desk.run(name, word), (0, text_of(f"desk_{name}"), b""))
 
-    def test_help_is_kept_for_nothing_else(self):
+    def test_help_is_kept_for_nothing_else(self) -> None:
         found = sorted(it.stem for it in FOLDER.glob("*"))
         self.check("the texts", found, sorted([*PACKED, *(f"desk_{it}" for it in WORDS)]))
 
-    def test_help_makes_no_file_and_asks_no_input(self):
+    def test_help_makes_no_file_and_asks_no_input(self) -> None:
         desk = Program("desk", self.folder)
         for words in [["run", "help.db", "--help"], ["import", "help.db", "--at", "1", "--help"], ["serve", "help.db", "8080", "1", "-h"]]:
             self.check(words, desk.run(*words), (0, text_of(f"desk_{words[0]}"), b""))
         self.check("no file is made", list(self.folder.iterdir()), [])
 
-    def test_help_that_is_not_written_is_a_fault(self):
+    def test_help_that_is_not_written_is_a_fault(self) -> None:
         """Asks for help with a full device as standard output."""
         for name in PACKED:
             with open("/dev/full", "wb") as full:

@@ -7,9 +7,11 @@ many, and for each statement of tests/tables/broken_rules.txt over the rows of g
 from __future__ import annotations
 
 import contextlib
+import pathlib
 import shutil
 import socket
 import time
+from collections.abc import Iterable
 
 from tests.support import http, sessions, sqlite
 from tests.support.cases import DeskTestCase
@@ -43,18 +45,18 @@ ATTEMPTS = 5
 class DamageTestCase(DeskTestCase):
     """A test case over a file that is changed."""
 
-    def make(self, session):
+    def make(self, session: Session) -> None:
         """Makes the file that is changed."""
         self.check_run(session.name, ["run", "first.db"], session.ended(), session.told)
 
-    def change(self, statements):
+    def change(self, statements: str) -> pathlib.Path:
         """Returns a fresh copy of the file, over which statements were executed."""
         file = self.folder / "changed.db"
         shutil.copyfile(self.folder / "first.db", file)
         sqlite.changed(file, statements)
         return file
 
-    def check_refused(self, case, file, rule, words):
+    def check_refused(self, case: str, file: pathlib.Path, rule: int, words: Iterable[tuple[str, ...]]) -> None:
         """Gives a file that breaks a rule to each word, which has to name it and to leave the rows."""
         rows = sqlite.dumped(file)
         told = (3, b"", b"fault: damaged G%d\n" % rule)
@@ -66,7 +68,7 @@ class DamageTestCase(DeskTestCase):
 class DamagedFiles(DamageTestCase):
     """Files whose rows or tables somebody else has changed."""
 
-    def test_each_broken_rule_is_named_by_each_word(self):
+    def test_each_broken_rule_is_named_by_each_word(self) -> None:
         """Breaks each rule in turn in a file of twenty commands."""
         self.make(sessions.twenty_commands())
         self.check("their edges", sqlite.edges(self.folder / "first.db"), sessions.EDGES)
@@ -74,7 +76,7 @@ class DamagedFiles(DamageTestCase):
         for rule, statement in enumerate(sqlite.DAMAGES, 1):
             self.check_refused(statement, self.change(statement), rule, words)
 
-    def test_mark_that_no_recall_makes_or_that_is_missing_is_told(self):
+    def test_mark_that_no_recall_makes_or_that_is_missing_is_told(self) -> None:
         """Takes a mark away, and adds one, behind the recall of a lot and a production of the batch that took of it."""
         whole = sessions.named("a_recall_blocks_what_came_of_a_lot")
         told, wanted = (b"".join(lines_of(it)[:12]) for it in (whole.told, whole.wanted))
@@ -87,10 +89,10 @@ class DamagedFiles(DamageTestCase):
         ]:
             self.check_refused(statement, self.change(statement), 14, [("verify",), ("run",), ("trace", "back", "D-1")])
 
-    def test_first_broken_rule_is_told_of_each_change_of_a_good_desk(self):
+    def test_first_broken_rule_is_told_of_each_change_of_a_good_desk(self) -> None:
         self.check_changes(sqlite.broken_rules())
 
-    def test_first_broken_rule_is_told_of_files_of_older_schemas(self):
+    def test_first_broken_rule_is_told_of_files_of_older_schemas(self) -> None:
         """Of the older schemas the third has no recalls, the second no receipts and the first no edges."""
         self.check_changes([
             (0, sqlite.TO_SCHEMA_1),
@@ -103,7 +105,7 @@ class DamagedFiles(DamageTestCase):
             (1, sqlite.TO_SCHEMA_2 + "CREATE TABLE receipt (a INTEGER)"),
         ])
 
-    def test_command_is_listed_whole_only_where_its_receipt_begins_as_one_of_the_desk(self):
+    def test_command_is_listed_whole_only_where_its_receipt_begins_as_one_of_the_desk(self) -> None:
         self.desk.run("init", "first.db")
         sqlite.good_desk(self.folder / "first.db")
         [[seq]] = sqlite.rows(self.folder / "first.db", "SELECT seq FROM receipt WHERE id = 'K-1'")
@@ -126,7 +128,7 @@ class DamagedFiles(DamageTestCase):
             answer = self.desk.run("run", file.name, told=b'{"ask":"commands"}\n')
             self.check(repr(content), answer, (0, f'{{"commands":[{wanted}],"more":false}}\n'.encode(), b""))
 
-    def check_changes(self, changes):
+    def check_changes(self, changes: Iterable[tuple[int, str]]) -> None:
         """Changes a good desk by each of these statements, each with the first rule that it breaks, 0 for none."""
         self.desk.run("init", "first.db")
         sqlite.good_desk(self.folder / "first.db")
@@ -141,18 +143,18 @@ class DamagedFiles(DamageTestCase):
 # ---- requests
 
 
-def with_length(length):
+def with_length(length: bytes) -> bytes:
     """Returns a command whose length is told so."""
     return POST.replace(b"Content-Length: 59", b"Content-Length: " + length)
 
 
-def padded(size):
+def padded(size: int) -> bytes:
     """Returns a question whose head has so many bytes."""
     name, end = b"X: ", b"\r\n\r\n"
     return HOST + name + b"a" * (size - len(HOST + name + end)) + end
 
 
-def small_connection(port):
+def small_connection(port: int) -> socket.socket:
     """Returns a connection for which the system keeps few bytes that weren't read."""
     client = socket.socket()
     client.setsockopt(socket.SOL_SOCKET, socket.SO_RCVBUF, 4096)
@@ -183,21 +185,22 @@ REQUESTS = [
 class BrokenRequests(DeskTestCase):
     """Requests that end early, pass a limit, or have more bytes than they tell."""
 
-    def test_front_of_a_request_is_bad_and_changes_nothing(self):
+    def test_front_of_a_request_is_bad_and_changes_nothing(self) -> None:
         """Sends each front of a question and of a command, which are bad but for the empty one."""
         fronts = [request[:size] for request in (HOST + b"\r\n", POST) for size in range(1, len(request))] + [b""]
         with Server(self.desk, "fronts.db", len(fronts) + 1) as server:
             for front in fronts:
-                self.check(f"the front {front}", server.answered(front, is_last=True), status_answer(400) if front else b"")
+                wanted = status_answer(400) if front else b""
+                self.check(f"the front {front!r}", server.answered(front, is_last=True), wanted)
             self.check("a desk behind all fronts", server.answered(ASK), NEW)
             self.check("its server", server.end().status, 0)
 
-    def test_limits_of_requests_are_kept(self):
+    def test_limits_of_requests_are_kept(self) -> None:
         for case, request, wanted in REQUESTS:
             with Server(self.desk, ":memory:", 1) as server:
                 self.check(case, server.answered(request), wanted)
 
-    def test_answer_comes_whole_where_bytes_are_not_read(self):
+    def test_answer_comes_whole_where_bytes_are_not_read(self) -> None:
         """Sends bytes that no request asks for, before its answer and behind it: each answer comes whole, and so does the next."""
         much = b"-" * 50_000
         cases = [
@@ -221,7 +224,7 @@ class BrokenRequests(DeskTestCase):
             self.check("its server", server.end().status, 0)
 
 
-    def test_answers_stay_whole_where_next_connections_come_at_once(self):
+    def test_answers_stay_whole_where_next_connections_come_at_once(self) -> None:
         """Opens connections and sends on each a request, and bytes behind it, before the answer of any is read: each answer comes whole."""
         much = b"-" * 50_000
         held = posted("/v1/commands", COMMAND.replace(b"RAW", b"raw"))
@@ -241,7 +244,7 @@ class BrokenRequests(DeskTestCase):
 class Clients(DeskTestCase):
     """Clients that are slow, far away or the last."""
 
-    def test_slow_clients_are_served_and_other_addresses_refused(self):
+    def test_slow_clients_are_served_and_other_addresses_refused(self) -> None:
         """Serves a client behind one that says nothing, and one that pauses; and from no other address than 127.0.0.1."""
         with Server(self.desk, ":memory:", 4) as server:
             for address in ["127.0.0.2", "127.1.2.3"]:
@@ -260,7 +263,7 @@ class Clients(DeskTestCase):
             self.check("two requests behind one another", server.answered(ASK + ASK), NEW)
             self.check("its server", server.end().status, 0)
 
-    def test_silent_connections_hold_nobody_up(self):
+    def test_silent_connections_hold_nobody_up(self) -> None:
         """Opens ten connections and sends nothing: fifty clients are served at once, and the silent ones are dropped after ten seconds."""
         with Server(self.desk, ":memory:", 60) as server:
             silent = [connected(server.port) for _ in range(10)]
@@ -276,7 +279,7 @@ class Clients(DeskTestCase):
             self.check_true(f"they are dropped after ten seconds, {held}", SILENCE - PAUSE < held < MOST_HELD)
             self.check("its server", server.end().status, 0)
 
-    def test_oldest_of_too_many_silent_connections_is_dropped(self):
+    def test_oldest_of_too_many_silent_connections_is_dropped(self) -> None:
         """Opens one silent connection more than may wait: the oldest is dropped at once. The next is dropped for a client, which is served: of
         three that are counted, two are dropped."""
         with Server(self.desk, ":memory:", 3) as server:
@@ -290,7 +293,7 @@ class Clients(DeskTestCase):
             for one in silent:
                 one.close()
 
-    def test_end_of_the_last_client_is_waited_for(self):
+    def test_end_of_the_last_client_is_waited_for(self) -> None:
         """Sends less than was promised, as the last client, and looks whether the server waits for the rest behind its answer."""
         for _ in range(ATTEMPTS):
             with Server(self.desk, ":memory:", 1) as server:
@@ -312,7 +315,7 @@ class Trickling(DeskTestCase):
 
     IS_LONG = True
 
-    def test_request_that_trickles_in_is_dropped_after_twenty_seconds(self):
+    def test_request_that_trickles_in_is_dropped_after_twenty_seconds(self) -> None:
         """Sends a command of which every byte comes in time and the last one would come too late: it isn't executed, and the next client is served
         as it is dropped."""
         with Server(self.desk, "plant.db", 2, "--log") as server, connected(server.port) as slow:
@@ -332,7 +335,7 @@ class Trickling(DeskTestCase):
         self.check("what it left", self.desk.run("verify", "plant.db"), (0, b"good schema 4 seq 0\n", b""))
 
 
-def trickled(connection, text, end):
+def trickled(connection: socket.socket, text: bytes, end: float) -> int:
     """Sends a text byte by byte, with a pause behind each, until this moment or until the connection breaks; returns how many bytes were sent."""
     for count, byte in enumerate(text):
         if time.monotonic() > end:
@@ -348,7 +351,7 @@ def trickled(connection, text, end):
 class Readers(LimitTestCase):
     """Clients that read no answer."""
 
-    def test_client_that_never_reads_its_answer_holds_the_server_for_a_while_and_no_longer(self):
+    def test_client_that_never_reads_its_answer_holds_the_server_for_a_while_and_no_longer(self) -> None:
         """Has a client ask for an answer of more bytes than the system keeps for it, and not read it: the next client is answered behind waits
         of ten seconds. The answer that isn't read is not told as a whole one."""
         file, lots = "fan.db", [f"T-{it:05}" for it in range(UNREAD)]

@@ -2,6 +2,7 @@
 from __future__ import annotations
 
 import re
+from collections.abc import Sequence
 
 from tests.support import model, scenarios, sessions, sqlite
 from tests.support.cases import DeskTestCase
@@ -71,7 +72,7 @@ TOLD = b"""{"ok":21}
 """
 
 
-def questions_about(commands):
+def questions_about(commands: bytes) -> list[str]:
     """Returns each question about each id of the commands, and about one that isn't there, and each list from its front."""
     ids = sorted(set(re.findall(rb'"([A-Z][A-Z0-9-]*)"', commands))) + [b"X-9"]
     fronts = [f'{{"ask":"{it}"}}' for it in FRONTS]
@@ -83,7 +84,7 @@ class KeeperTestCase(DeskTestCase):
 
     PROGRAMS = ("desk", "lists")
 
-    def setUp(self):
+    def setUp(self) -> None:
         super().setUp()
         self.lists = Program("lists", self.folder)
 
@@ -91,7 +92,7 @@ class KeeperTestCase(DeskTestCase):
 class Questions(KeeperTestCase):
     """Every question about every id."""
 
-    def test_questions_behind_commands_and_recalls_are_answered_alike(self):
+    def test_questions_behind_commands_and_recalls_are_answered_alike(self) -> None:
         """Tells the twenty commands and the recalls, each twice under a reference, and asks each question; asks again once the file was taken
         back to the first schema and is raised."""
         session = sessions.twenty_commands()
@@ -107,7 +108,7 @@ class Questions(KeeperTestCase):
         self.check_raised_file(questions, answers.splitlines(keepends=True)[wanted.count(b"\n"):])
         self.check("the keeper of lists", self.lists.run(told=told), (1, answers, b""))
 
-    def check_raised_file(self, questions, answers):
+    def check_raised_file(self, questions: Sequence[str], answers: Sequence[bytes]) -> None:
         """Takes the file back to the first schema, and asks what was known there: it has no recalls, so that none reaches a lot, and no receipts."""
         sqlite.changed(self.folder / "twenty.db", sqlite.TO_SCHEMA_1)
         lasting = [(question, answer) for question, answer in zip(questions, answers) if "recall" not in question and '"commands"' not in question]
@@ -119,10 +120,10 @@ class Questions(KeeperTestCase):
 class Sessions(KeeperTestCase):
     """The keeper of lists answers all sessions that a desk answers."""
 
-    def test_lists_answer_all_sessions(self):
+    def test_lists_answer_all_sessions(self) -> None:
         for session in scenarios.every():
             self.check(f"{session.name}, by lists", self.lists.run(told=session.told), session.ended())
 
-    def test_lists_answer_all_computed_sessions(self):
+    def test_lists_answer_all_computed_sessions(self) -> None:
         for session in model.every(self.chance):
             self.check(f"{session.name}, by lists", self.lists.run(told=session.told), session.ended())

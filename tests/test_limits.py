@@ -9,6 +9,7 @@ from __future__ import annotations
 import pathlib
 import re
 import subprocess
+from collections.abc import Callable, Sequence
 
 from tests.support import scenarios, sqlite
 from tests.support.commands import (
@@ -19,6 +20,7 @@ from tests.support.large import LimitTestCase, consumed_row, received_row, scrap
 from tests.support.program import SECONDS
 from tests.support.scenarios import lots_told, traced
 from tests.support.sessions import LINE_LIMIT
+from tests.support.sqlite import Row
 
 # The longest text, and who books with it.
 LONG = "note " * 12
@@ -59,14 +61,14 @@ RECORD_HEAD = [
 class Counts(LimitTestCase):
     """A lot and a batch that have as much as they may."""
 
-    def test_lot_of_a_thousand_sublots_is_told(self):
+    def test_lot_of_a_thousand_sublots_is_told(self) -> None:
         session, file = scenarios.sublots_of_a_lot(), "sublots.db"
         self.check_run("a thousand sublots", ["run", file], session.ended(), session.told)
         sublots = [{"no": it, "place": "", "stock": 1 if it else 1001} for it in range(1000)]
         text = compact({"def": "SUGAR", "held": False, "lot": "L-1", "stock": 2000, "sublots": sublots})
         self.check_alike(file, [("a thousand sublots", '{"ask":"lot","lot":"L-1"}', "/v1/lots/L-1", text)])
 
-    def test_batch_of_99_attempts_is_told_and_recorded(self):
+    def test_batch_of_99_attempts_is_told_and_recorded(self) -> None:
         session, file = scenarios.attempts_of_a_batch(), "attempts.db"
         self.check_run("99 attempts", ["run", file], session.ended(), session.told)
         batch = {"attempt": 99, "batch": "B-1", "closed": False, "consumed": [], "next": 1, "order": "O-0", "phases": 1}
@@ -97,7 +99,7 @@ class Imports(LimitTestCase):
 
     ROWS = b"order,recipe,version,size,due,priority\n" + b"".join(b"P-%d,R,1,1,2027-03-01,5\n" % it for it in range(MOST_ORDERS))
 
-    def test_thousand_orders_are_imported_by_request_word_and_line(self):
+    def test_thousand_orders_are_imported_by_request_word_and_line(self) -> None:
         """Imports by a command of the longest body, by an order file that is posted, and by the word; the posted one again under its
         reference returns its number, and another one is refused."""
         file, rows = "imports.db", self.ROWS
@@ -128,7 +130,7 @@ class Imports(LimitTestCase):
 class Bookings(LimitTestCase):
     """Many bookings, and great ones."""
 
-    def test_batch_and_lot_of_5000_bookings_are_told_and_booked_again(self):
+    def test_batch_and_lot_of_5000_bookings_are_told_and_booked_again(self) -> None:
         """Books often on one batch, and scraps often of what it produced, each time with the longest texts; asks, and books again."""
         file, amount = "bookings.db", 10 * BOOKINGS
         first = [*PLANNED, receive("F-1", amount, "FLOUR"), *begin_batch("B-1", 1), produce("B-1", "D-1", amount=amount)]
@@ -141,7 +143,7 @@ class Bookings(LimitTestCase):
         self.check_lines("one booking and one scrap more", file, line(consume("B-1")) + line(scrap("D-1", 1)), replies(seq, 2))
         self.check_good("many bookings", file, seq + 1)
 
-    def check_many_bookings(self, file, begun, amount):
+    def check_many_bookings(self, file: str, begun: int, amount: int) -> None:
         """Asks about the batch, whose bookings begin at this number, and about its product, and has the batch recorded."""
         rows = [{"amount": 1, "def": "FLOUR", "lot": "F-1", "seq": begun + it, "sub": 0} for it in range(BOOKINGS)]
         batch = {"attempt": 1, "batch": "B-1", "closed": False, "consumed": rows, "next": 1, "order": "O-1", "phases": 1}
@@ -167,7 +169,7 @@ class Bookings(LimitTestCase):
             "END",
         ])
 
-    def test_record_of_more_than_64_bits_hold_is_exact(self):
+    def test_record_of_more_than_64_bits_hold_is_exact(self) -> None:
         """Has a batch consume lots of the greatest amount: its record is exact, and so are the tests of the file, by which an amount that is
         one less is found."""
         file, lots = "amounts.db", [f"F-{it}" for it in range(NODES)]
@@ -196,7 +198,7 @@ class Bookings(LimitTestCase):
         sqlite.changed(self.path(file), f"UPDATE movement SET amount = amount - 1 WHERE seq = {taken}")
         self.check_run("a great amount that is one less", ["verify", file], (3, b"", b"fault: damaged G7\n"))
 
-    def test_what_a_batch_made_costs_its_bookings_nothing(self):
+    def test_what_a_batch_made_costs_its_bookings_nothing(self) -> None:
         """Lets a batch that has led to many lots consume what was received, and one that has led to nothing: it takes as long."""
         file = "made.db"
         first = [*PLANNED, receive("F-1", 9000, "FLOUR"), *begin_batch("B-1", 1), *begin_batch("B-2", 2)]
@@ -212,7 +214,7 @@ class Bookings(LimitTestCase):
 class Chains(LimitTestCase):
     """A lot that was split into a chain of 20,000 more."""
 
-    def chain(self, file, nodes):
+    def chain(self, file: str, nodes: int) -> int:
         """Makes the file of a chain of so many lots behind the first, and returns the number of its last command."""
         seq = self.send(file, *GOODS)
         lots = [f"C-{it}" for it in range(nodes + 1)]
@@ -225,7 +227,7 @@ class Chains(LimitTestCase):
         }, seq + 1 + nodes)
         return seq + 1 + nodes
 
-    def test_long_chain_is_verified_traced_recalled_and_freed(self):
+    def test_long_chain_is_verified_traced_recalled_and_freed(self) -> None:
         """Verifies a chain and one of half its length, traces the longer one, and recalls its first lot."""
         half, whole, lots = "half.db", "chain.db", sorted(f"C-{it}" for it in range(1, NODES + 1))
         seconds = [self.check_good(f"a chain of {it}", file, self.chain(file, it)) for file, it in [(half, NODES // 2), (whole, NODES)]]
@@ -235,7 +237,7 @@ class Chains(LimitTestCase):
         self.check_run("a long trace, by the word", ["trace", whole, "forward", "C-0"], (0, text.encode(), b""))
         self.check_recall(whole, 3 + NODES, lots, seconds[1])
 
-    def check_recall(self, file, seq, lots, seconds):
+    def check_recall(self, file: str, seq: int, lots: Sequence[str], seconds: float) -> None:
         """Recalls the first lot of the chain, which is verified in so many seconds, and lifts the recall: the marks cost no more than the edges."""
         self.check_lines("a recall of a chain", file, line(recall("C-0")), replies(seq + 1, 1))
         text = compact({"lot": "C-0", "nodes": lots_told(["C-0", *lots]), "recall": "RC-1", "state": "open"})
@@ -251,7 +253,7 @@ class Chains(LimitTestCase):
 class LargeDesk(LimitTestCase):
     """A desk of 150,000 movements and 20,000 edges, many of one lot and of one batch."""
 
-    def test_large_desk_is_verified_traced_and_raised_from_the_first_schema(self):
+    def test_large_desk_is_verified_traced_and_raised_from_the_first_schema(self) -> None:
         file, fan = "large.db", [f"T-{it}" for it in range(NODES)]
         first = [*PLANNED, receive("F-1", LARGE_BOOKINGS, "FLOUR"), *begin_batch("B-1", 1)]
         self.check_lines("a large desk begins", file, b"".join(map(line, first)), replies(1, len(first)))
@@ -267,11 +269,12 @@ class LargeDesk(LimitTestCase):
         self.check_good("a large desk that was raised", file, seq + 1)
 
     @staticmethod
-    def fill(file, fan, seq):
+    def fill(file: pathlib.Path, fan: list[str], seq: int) -> int:
         """Writes the rows of bookings of one batch, of a fan of splits, and of lots that are received and scrapped; returns the last number."""
-        lots, movements = [f"L-{it}" for it in range(LARGE_LOTS)], []
+        lots = [f"L-{it}" for it in range(LARGE_LOTS)]
+        movements: list[Row] = []
 
-        def add(row, *values):
+        def add(row: Callable[..., Row], *values: str | int) -> None:
             movements.append(row(seq + 1 + len(movements), *values))
 
         for _ in range(LARGE_BOOKINGS):
@@ -292,7 +295,7 @@ class LargeDesk(LimitTestCase):
         sqlite.changed(file, "UPDATE sublot SET stock = 0 WHERE lot = 'F-1'")
         return seq + len(movements)
 
-    def check_genealogies(self, file):
+    def check_genealogies(self, file: str) -> None:
         """Asks for the genealogy of a lot that came of nothing, and back of one that was split off beside many others: it takes as long."""
         seconds = []
         for lots in ({"L-7": 91}, {"T": 0, "T-7": 1}):
@@ -310,7 +313,7 @@ class LargeDesk(LimitTestCase):
 class Reads(LimitTestCase):
     """How a run reads its input."""
 
-    def test_run_reads_by_the_piece(self):
+    def test_run_reads_by_the_piece(self) -> None:
         """Counts the reads of a run over memory, by what the system says of it while it waits: far fewer than bytes."""
         question, count = b'{"ask":"desk"}\n', 4000
         with self.desk.start(stdin=subprocess.PIPE) as run:
@@ -321,7 +324,8 @@ class Reads(LimitTestCase):
                 for _ in range(count):
                     run.stdout.readline()
                 counts = pathlib.Path(f"/proc/{run.pid}/io").read_text()
-                reads.append(int(re.search(r"syscr: (\d+)", counts)[1]))
+                [calls] = re.findall(r"syscr: (\d+)", counts)
+                reads.append(int(calls))
             run.stdin.close()
             self.check("a run that was counted", run.wait(timeout=SECONDS), 0)
         # a pipe gives less than a piece at a time only where the writer is slow

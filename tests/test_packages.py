@@ -15,9 +15,10 @@ import re
 import shutil
 import subprocess
 import tarfile
+from typing import Any
 
 from tests.support.cases import ProgramTestCase
-from tests.support.program import PACKED, SECONDS, TOP, path_of
+from tests.support.program import PACKED, SECONDS, TOP, File, path_of
 
 # Folders that are on every machine.
 COMMON = [pathlib.Path(it) for it in ("/", "/usr", "/usr/bin", "/usr/local", "/usr/local/bin")]
@@ -35,16 +36,19 @@ ALONE = [("order_check", "--version"), ("line_check", "--schema"), ("desk_check"
 DOC = "share/doc/desk"
 
 
-def ran(*words, **how):
+def ran(*words: File, **how: Any) -> tuple[int, str, str]:
     """Returns the status of a program, what it printed, and what it printed of errors."""
-    how = {"stdin": subprocess.DEVNULL, "capture_output": True, "text": True, "timeout": SECONDS, **how}
-    it = subprocess.run([str(word) for word in words], **how)
+    options: dict[str, Any] = {
+        "stdin": subprocess.DEVNULL, "capture_output": True, "text": True, "timeout": SECONDS, **how,
+    }
+    it = subprocess.run([str(word) for word in words], **options)
     return it.returncode, it.stdout, it.stderr
 
 
-def members(package):
+def members(package: pathlib.Path) -> dict[str, bytes]:
     """Returns the members of an ar archive by their names."""
-    found, content, at = {}, package.read_bytes(), len(b"!<arch>\n")
+    found: dict[str, bytes] = {}
+    content, at = package.read_bytes(), len(b"!<arch>\n")
     while at < len(content):
         name, size = content[at:at + 16].decode().strip(), int(content[at + 48:at + 58])
         found[name] = content[at + 60:at + 60 + size]
@@ -52,27 +56,28 @@ def members(package):
     return found
 
 
-def unpack(archive, folder):
+def unpack(archive: bytes, folder: pathlib.Path) -> None:
     """Unpacks a tar archive, given as bytes."""
     with tarfile.open(fileobj=io.BytesIO(archive)) as tar:
-        tar.extractall(folder, **({"filter": "data"} if hasattr(tarfile, "data_filter") else {}))
+        safely: dict[str, Any] = {"filter": "data"} if hasattr(tarfile, "data_filter") else {}
+        tar.extractall(folder, **safely)
 
 
-def files_of(folder):
+def files_of(folder: pathlib.Path) -> dict[str, tuple[bytes, int]]:
     """Returns the files below a folder by their places, each with its bytes and its mode."""
     return {str(it.relative_to(folder)): (it.read_bytes(), it.stat().st_mode) for it in folder.rglob("*") if it.is_file()}
 
 
-def help_text(program, *words):
+def help_text(program: pathlib.Path, *words: str) -> str:
     return ran("desk", *words, "--help", executable=program)[1]
 
 
-def words_of(text):
+def words_of(text: str) -> list[str]:
     """Returns the words that the help of the desk lists."""
     return re.findall(r"^  (\w+) ", text.partition("Commands:\n")[2].partition("\n\n")[0], re.M)
 
 
-def long_options(text):
+def long_options(text: str) -> list[str]:
     """Returns the long options that a help lists."""
     return re.findall(r"^  (?:-\w, |    )(--[\w-]+)", text.partition("Options:\n")[2], re.M)
 
@@ -82,8 +87,25 @@ class PackageTestCase(ProgramTestCase):
 
     PROGRAMS = PACKED
 
+    # The folder of the class, the built programs, and of the desk its version, its words and the options of each.
+    place: pathlib.Path
+    programs: dict[str, pathlib.Path]
+    version: str
+    words: list[str]
+    options: dict[str, list[str]]
+
+    # The names of the packages, and the folders in which what was unpacked of them stands.
+    archive: str
+    debian: str
+    tops: dict[str, pathlib.Path]
+
+    # Of the package for Debian its members, how it was unpacked, and its files, each with its bytes and its mode.
+    parts: dict[str, bytes]
+    unpacked: tuple[int, str, str]
+    files: dict[str, tuple[bytes, int]]
+
     @classmethod
-    def setUpClass(cls):
+    def setUpClass(cls) -> None:
         super().setUpClass()
         cls.place = cls.class_folder()
         cls.programs = {name: path_of(name) for name in PACKED}
@@ -95,7 +117,7 @@ class PackageTestCase(ProgramTestCase):
         cls.unpack()
 
     @classmethod
-    def has(cls, program, what):
+    def has(cls, program: str, what: str) -> bool:
         """Returns whether the system has a program; what wants one that it hasn't is left out."""
         found = shutil.which(program) is not None
         if not found:
@@ -103,7 +125,7 @@ class PackageTestCase(ProgramTestCase):
         return found
 
     @classmethod
-    def make(cls, name, **where):
+    def make(cls, name: str, **where: str) -> None:
         """Makes the packages in a folder of this name, with these variables more in the environment."""
         folder, copies = cls.place / name, cls.place / f"{name} programs"
         folder.mkdir()
@@ -113,7 +135,7 @@ class PackageTestCase(ProgramTestCase):
         cls.check_set_up(f"the packages are made, {errors}", status, 0)
 
     @classmethod
-    def unpack(cls):
+    def unpack(cls) -> None:
         """Unpacks both packages."""
         cls.parts = members(cls.place / "first" / cls.debian)
         if cls.has("dpkg-deb", "how dpkg-deb unpacks the package for Debian"):
@@ -126,7 +148,7 @@ class PackageTestCase(ProgramTestCase):
         cls.tops = {"tar": cls.place / "tar" / f"desk-{cls.version}", "deb": cls.place / "deb/usr"}
         cls.files = files_of(cls.tops["deb"])
 
-    def check_names_all(self, case, text, word_form, option_form):
+    def check_names_all(self, case: str, text: str, word_form: str, option_form: str) -> None:
         """Looks for each word and each long option of the desk's help in a text."""
         missing = [it for it in self.words if not re.search(word_form.format(word=it), text)]
         options = sorted({"--help", "--version"}.union(*self.options.values()))
@@ -137,14 +159,14 @@ class PackageTestCase(ProgramTestCase):
 class Packages(PackageTestCase):
     """The packages as a whole."""
 
-    def test_packages_made_twice_are_the_same_bytes(self):
+    def test_packages_made_twice_are_the_same_bytes(self) -> None:
         """Makes the packages once more, with another environment."""
         self.make("second", TZ="Asia/Tokyo", LC_ALL="C", HOME=str(self.place))
         for name in (self.archive, self.debian):
             first, second = ((self.place / it / name).read_bytes() for it in ("first", "second"))
             self.check_true(f"{name}, made twice, is there and the same", first and first == second)
 
-    def test_both_packages_hold_one_tree(self):
+    def test_both_packages_hold_one_tree(self) -> None:
         """The same stands in both, but for README, which stands on top of the archive as well."""
         self.check("the members", list(self.parts), ["debian-binary", "control.tar.gz", "data.tar.gz"])
         self.check("dpkg-deb", self.unpacked, (0, "", ""))
@@ -153,16 +175,17 @@ class Packages(PackageTestCase):
         for name, program in self.programs.items():
             self.check_true(f"{name} is the built one", self.files[f"bin/{name}"][0] == program.read_bytes())
 
-    def test_debian_is_told_the_version_the_sums_and_the_c_library(self):
+    def test_debian_is_told_the_version_the_sums_and_the_c_library(self) -> None:
         told = (self.place / "control/control").read_text()
         fields = dict(it.split(": ", 1) for it in told.splitlines() if not it.startswith(" "))
         self.check("the package", (fields["Package"], fields["Version"], fields["Architecture"]), ("desk", self.version, "amd64"))
-        sums = dict(reversed(it.split("  ")) for it in (self.place / "control/md5sums").read_text().splitlines())
+        lines = (self.place / "control/md5sums").read_text().splitlines()
+        sums = {place: checksum for checksum, place in (it.split("  ") for it in lines)}
         self.check("the sums", sums, {f"usr/{it}": hashlib.md5(content).hexdigest() for it, (content, _) in self.files.items()})
         if self.has("ldd", "what the package for Debian depends on"):
             self.check("Depends", fields.get("Depends"), self.wanted_of_debian())
 
-    def wanted_of_debian(self):
+    def wanted_of_debian(self) -> str | None:
         """Returns the package of the C library in the least version that holds all that the programs ask it for, as ldd finds that."""
         found = []
         for program in self.programs.values():
@@ -171,18 +194,19 @@ class Packages(PackageTestCase):
             found += re.findall(r"\(GLIBC_([\d.]+)\)", own)
         return f"libc6 (>= {max(found, key=lambda it: [int(part) for part in it.split('.')])})" if found else None
 
-    def test_no_file_names_a_place_of_this_machine(self):
+    def test_no_file_names_a_place_of_this_machine(self) -> None:
         """Looks for places of this machine in all files but the programs."""
         places = [TOP, pathlib.Path.home(), self.place, *(it.parent for it in self.programs.values())]
-        if self.has("rt", "whether a file names the place of the toolchain"):
-            places.append(pathlib.Path(shutil.which("rt")).resolve().parent.parent)
+        toolchain = shutil.which("rt")
+        if self.has("rt", "whether a file names the place of the toolchain") and toolchain:
+            places.append(pathlib.Path(toolchain).resolve().parent.parent)
         forms = [rf"(?<![\w.-]){re.escape(str(it))}(?![\w-])".encode() for it in places if it not in COMMON]
         for name, (content, _) in self.files.items():
             text = gzip.decompress(content) if name.endswith(".gz") else content
             if not name.startswith("bin/"):
                 self.check(f"places in {name}", [it for it in forms if re.search(it, text)], [])
 
-    def test_changelog_begins_with_the_version(self):
+    def test_changelog_begins_with_the_version(self) -> None:
         text = self.files[f"{DOC}/CHANGELOG.md"][0].decode()
         self.check("the newest version of CHANGELOG", re.findall(r"^## (\S+)", text, re.M)[:1], [self.version])
 
@@ -190,18 +214,18 @@ class Packages(PackageTestCase):
 class UnpackedPrograms(PackageTestCase):
     """The programs of both packages, with the unpacked examples."""
 
-    def test_programs_of_the_archive_run_the_batch(self):
+    def test_programs_of_the_archive_run_the_batch(self) -> None:
         self.check_batch("tar")
 
-    def test_programs_of_the_package_for_debian_run_the_batch(self):
+    def test_programs_of_the_package_for_debian_run_the_batch(self) -> None:
         self.check_batch("deb")
 
-    def check_batch(self, name):
+    def check_batch(self, name: str) -> None:
         """Runs the batch of the examples by the unpacked programs."""
         top = self.tops[name]
         examples = top / DOC / "examples"
 
-        def of(program, file, *words):
+        def of(program: str, file: File, *words: str) -> tuple[int, str, str]:
             with open(file) as it:
                 return ran(top / "bin" / program, *words, cwd=self.folder, env=PLAIN, stdin=it)
 
@@ -222,7 +246,7 @@ class UnpackedPrograms(PackageTestCase):
 class Texts(PackageTestCase):
     """What the package for Debian has beside the programs: pages, completions and a unit."""
 
-    def test_pages_are_set_without_a_warning_and_name_each_word_and_option(self):
+    def test_pages_are_set_without_a_warning_and_name_each_word_and_option(self) -> None:
         """Sets the page of each program by groff, which has to find nothing wrong."""
         for name in PACKED:
             source = gzip.decompress(self.files[f"share/man/man1/{name}.1.gz"][0]).decode()
@@ -235,7 +259,7 @@ class Texts(PackageTestCase):
             if name == "desk":
                 self.check_names_all("the page", text, r"\bdesk {word}\b", r"(?<!\S){option}\b")
 
-    def test_examples_of_the_manual_run_as_printed(self):
+    def test_examples_of_the_manual_run_as_printed(self) -> None:
         """Runs what each page has to be typed, one block after the other, but for what serves without an end."""
         for name in PACKED:
             folder = self.folder / name
@@ -248,7 +272,7 @@ class Texts(PackageTestCase):
                 status, output, errors = ran("bash", "-ec", typed, cwd=folder, env={**PLAIN, "PATH": f"{self.tops['deb']}/bin:/usr/bin:/bin"})
                 self.check(f"the manual of {name}: {block.strip()}, {output}", (status, errors), (0, ""))
 
-    def test_bash_completes_words_options_and_values(self):
+    def test_bash_completes_words_options_and_values(self) -> None:
         file = self.tops["deb"] / "share/bash-completion/completions/desk"
         cases = [("ver", ["verify"]), ("", [*self.words, "-h", "--help", "-V", "--version"]), ("trace plant.db ", ["back", "forward"])]
         cases += [(f"{it} --", options) for it, options in self.options.items()]
@@ -258,7 +282,7 @@ class Texts(PackageTestCase):
             found = ran("bash", "--noprofile", "--norc", "-c", BASH, file, "desk", *typed.split(" "), env=PLAIN)
             self.check(f"bash behind desk {typed}", found, (0, "".join(f"{it}\n" for it in wanted), ""))
 
-    def test_zsh_and_fish_are_told_each_word_and_option(self):
+    def test_zsh_and_fish_are_told_each_word_and_option(self) -> None:
         share = self.tops["deb"] / "share"
         for shell, place, word_form, option_form in (
             ("zsh", "zsh/vendor-completions/_desk", r"'{word}:", r"'(\(- \*\))?{option}[=\[]"),
@@ -267,7 +291,7 @@ class Texts(PackageTestCase):
             self.check_names_all(f"the completion of {shell}", (share / place).read_text(), word_form, option_form)
             self.check_read(shell, share / place)
 
-    def test_options_of_programs_without_words_are_completed(self):
+    def test_options_of_programs_without_words_are_completed(self) -> None:
         share = self.tops["deb"] / "share"
         for program, known in ALONE:
             options = long_options(ran(program, "--help", executable=self.programs[program])[1])
@@ -282,12 +306,12 @@ class Texts(PackageTestCase):
                 self.check(f"what the completion of {program} for {shell} doesn't name", missing, [])
                 self.check_read(shell, share / place)
 
-    def check_read(self, shell, file):
+    def check_read(self, shell: str, file: pathlib.Path) -> None:
         """Has a shell read a completion, where the shell is there."""
         if self.has(shell, f"how {shell} reads its completions"):
             self.check(f"{shell} reads {file.name}", ran(shell, "-n", file), (0, "", ""))
 
-    def test_unit_is_sound_and_its_words_are_understood(self):
+    def test_unit_is_sound_and_its_words_are_understood(self) -> None:
         """Has systemd look at the unit with the unpacked program in the place of the installed one, and gives that program its words."""
         text = self.files["lib/systemd/system/desk@.service"][0].decode()
         [line] = re.findall(r"^ExecStart=(.*)$", text, re.M)

@@ -148,7 +148,7 @@ class ProgramTestCase(FolderTestCase):
 class DeskTestCase(ProgramTestCase):
     """A test case over the built desk, `self.desk`, which runs in the test's folder."""
 
-    PROGRAMS = ("desk",)
+    PROGRAMS: tuple[str, ...] = ("desk",)
 
     def setUp(self) -> None:
         super().setUp()

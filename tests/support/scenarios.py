@@ -251,7 +251,8 @@ def by_due(count: int) -> Session:
     session = Session(f"{count} orders are listed by their due dates").accepted(*GOODS, add_recipe(1), approve())
     order = {"recipe": "R", "size": 1, "version": 1}
     orders: list[Item] = [
-        {**order, "due": f"2027-03-0{1 + it * 5 % 7}", "order": f"O-{it}", "priority": 1 + it % 9} for it in range(count)
+        {**order, "due": f"2027-03-0{1 + it * 5 % 7}", "order": f"O-{it}", "priority": 1 + it % 9}
+        for it in range(count)
     ]
     session.accepted('"do":"import_orders","orders":' + compact(orders), *['"do":"cancel_order","order":"O-%d"' % it for it in range(0, count, 10)])
     listed: list[tuple[str, list[Item]]] = [
@@ -293,7 +294,8 @@ def long_ledger() -> Session:
     seq = session.count()
     came = {"kind": "merged", "to": "M-1", "to_sub": 0, "amount": 100}
     moved: list[Item] = [
-        {**shown, **came, "seq": seq, "line": line, "lot": lot, "sub": sub} for line, (lot, sub, _) in enumerate(parts, 1)
+        {**shown, **came, "seq": seq, "line": line, "lot": lot, "sub": sub}
+        for line, (lot, sub, _) in enumerate(parts, 1)
     ]
     for it in range(1, 113):
         bookings: list[tuple[str, Item]] = [
@@ -305,8 +307,8 @@ def long_ledger() -> Session:
             session.accepted(body)
             moved.append({**shown, **booked_as, "seq": seq + len(moved) - 15, "line": 1, "lot": "M-1", "sub": 0})
     around = [moved[at] for at in (0, 14, 15, 16, 99, 100, 115, 199, 251, 252, len(moved) - 2, len(moved) - 1)]
-    places: list[tuple[int, int] | None] = [None, (0, 0), (seq, 0), (seq, 999), *((it["seq"], it["line"]) for it in around)]
-    for at in places:
+    places: list[tuple[int, int] | None] = [None, (0, 0), (seq, 0), (seq, 999)]
+    for at in [*places, *((it["seq"], it["line"]) for it in around)]:
         rest = [it for it in moved if at is None or (it["seq"], it["line"]) > at]
         session.asked(question("movements", at and "%d.%d" % at, lot="M-1"), page("movements", rest))
     part = {**moved[3], "seq": 6, "line": 1, "kind": "received", "to": None, "to_sub": None, "lot": "P-03"}

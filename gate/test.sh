@@ -16,7 +16,7 @@ make/tables.py --check
 make/commands.py --check
 make/page.py --check
 make/words.py --check
-bench/reading_list.py --check
+make/reading_list.py --check
 gate/edits.py apply
 gate/edits.py copy $copy
 (cd $copy && rt ci)

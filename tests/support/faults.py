@@ -1,6 +1,6 @@
 """Faults that are brought about: files that stop, calls that fail, refused memory, streams that are narrow or fail, limits of the system.
 
-The first of these are done by libraries of bench, which stand before a program by LD_PRELOAD. Each function returns what is added to the
+The first of these are done by libraries of bench/faults, which stand before a program by LD_PRELOAD. Each function returns what is added to the
 environment of the program. A C compiler builds the libraries, each once.
 """
 from __future__ import annotations
@@ -26,11 +26,11 @@ MOST_RUNS = 5_000
 
 @functools.lru_cache(maxsize=None)
 def library(name: str) -> pathlib.Path:
-    """Builds a library of bench, and returns its path."""
+    """Builds a library of bench/faults, and returns its path."""
     folder = tempfile.TemporaryDirectory(prefix="desk-faults-")
     atexit.register(folder.cleanup)
     built = pathlib.Path(folder.name) / f"{name}.so"
-    subprocess.run(["cc", "-shared", "-fPIC", "-O1", "-o", built, TOP / "bench" / f"{name}.c", "-ldl"], check=True)
+    subprocess.run(["cc", "-shared", "-fPIC", "-O1", "-o", built, TOP / "bench" / "faults" / f"{name}.c", "-ldl"], check=True)
     return built
 
 
@@ -74,7 +74,7 @@ def refused_memory(number: int, mark: pathlib.Path | None = None) -> dict[str, s
 
 
 def narrow_streams(**limits: int) -> dict[str, str]:
-    """The streams have limits: READ_MOST, WRITE_MOST, READS, READ_ERROR, WRITES, WRITE_ERROR and ACCEPTS, as bench/narrow.c says."""
+    """The streams have the limits that narrow.c says: READ_MOST, WRITE_MOST, READS, READ_ERROR, WRITES, WRITE_ERROR and ACCEPTS."""
     return preloaded("narrow", **limits)
 
 

@@ -5,9 +5,9 @@
  * beside, as the desk's commits sync twice. With `memory` the file is copied into a store in memory, and nothing is written
  * elsewhere. It knows no rules but that a stock is enough, and reads no more of a line than the members it wants. A command with a
  * reference is looked up among the receipts, and one is kept of it.
- * bench/commands.py builds it and runs it.
+ * commands.py builds it and runs it.
  *
- *     gcc -O2 -o peer bench/peer.c -lsqlite3
+ *     gcc -O2 -o peer bench/commands/peer.c -lsqlite3
  *     peer FILE journal|wal|twice|memory
  */
 #include <fcntl.h>

@@ -1,13 +1,13 @@
 #!/usr/bin/env python3
 """Measures what commands and openings cost of one or more built desks and of a peer, in one run, and prints one table.
 
-    bench/costs.py [--count N] [--folder FOLDER] [--only KIND] [--instructions] NAME=PROGRAM ..
+    bench/commands/costs.py [--count N] [--folder FOLDER] [--only KIND] [--instructions] NAME=PROGRAM ..
 
 For each kind of work a desk is made in a file and given so many commands of it, by default 20,000; then the file is verified. What is printed of
 the commands is their processor time, less that of the same program over the same file without them; of verifying its processor time and its peak
-memory beside the size of the file. The peer (bench/peer.py) takes the same lines over a copy of the file, with a log written ahead. All
-take turns, so that what else the machine does falls on all alike. With --instructions valgrind counts the instructions of the desks in place of
-their time, where the machine is noisy. FOLDER is in memory by default, so that no disk is measured.
+memory beside the size of the file. The peer (peer.py) takes the same lines over a copy of the file, with a log written ahead. All take turns, so
+that what else the machine does falls on all alike. With --instructions valgrind counts the instructions of the desks in place of their time,
+where the machine is noisy. FOLDER is in memory by default, so that no disk is measured.
 
 The first program makes the files that are verified. A ratio is to the peer, of verifying to the first program. Ids by chance are made by a seed,
 which is printed; the variable DESK_SEED says it.
@@ -23,10 +23,10 @@ import sys
 import tempfile
 
 HERE = pathlib.Path(__file__).resolve().parent
-sys.path.insert(0, str(HERE.parent))
+sys.path.insert(0, str(HERE.parents[1]))
 
 from commands import batch, beginning, line  # noqa: E402
-from tests.support import seeds  # noqa: E402  (the folder above is on the path now)
+from tests.support import seeds  # noqa: E402  (the top is on the path now)
 
 
 def receipts(count, ids, **more):

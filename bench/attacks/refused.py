@@ -1,11 +1,11 @@
-"""Refuses each allocation of each word of the built desk over a file in turn. bench/refused.sh calls it.
+"""Refuses each allocation of each word of the built desk over a file in turn. refused.sh calls it.
 
     refused.py PROGRAM LIBRARY FOLDER STEP
 
-LIBRARY is bench/refuse.c as it was built; with a STEP above 1 only each so many-th allocation is refused. A run ends with all done, or
-with a front of the right lines and then want of memory (status 4) or a store that failed for it (status 3), or as with wrong words
-before it has opened anything (status 2). Then the file is verified without refusals: what was answered is there, with at most one
-command more.
+LIBRARY is bench/faults/refuse.c as it was built; with a STEP above 1 only each so many-th allocation is refused. A run ends with all
+done, or with a front of the right lines and then want of memory (status 4) or a store that failed for it (status 3), or as with wrong
+words before it has opened anything (status 2). Then the file is verified without refusals: what was answered is there, with at most
+one command more.
 """
 import os
 import pathlib
@@ -16,7 +16,7 @@ import subprocess
 import sys
 import time
 
-ROOT = pathlib.Path(__file__).resolve().parent.parent
+HERE = pathlib.Path(__file__).resolve().parent
 SECONDS = 60
 ORDERS = b"order,recipe,version,size,due,priority\r\n" + b"".join(b"O-9%d,CAKE,1,500,2027-03-01,5\r\n" % it for it in range(5))
 STAMP = b'"at":999,"by":"anna"'
@@ -60,7 +60,7 @@ class Trial:
     def __init__(self, program, library, folder):
         self.program, self.library, self.folder = str(pathlib.Path(program).resolve()), library, pathlib.Path(folder)
         self.first, self.file, self.mark = self.folder / "first.db", self.folder / "plant.db", self.folder / "refused"
-        lines = (ROOT / "bench/batches.jsonl").read_bytes()
+        lines = (HERE / "batches.jsonl").read_bytes()
         ran = subprocess.run([self.program, "run", self.first], input=lines, capture_output=True)
         if ran.returncode not in (0, 1):
             raise Failed(f"the first file: {ran}")
@@ -153,7 +153,7 @@ def refuse_each_of_a_request(trial, port, step):
 
 def main(program, library, folder, step):
     trial = Trial(program, library, folder)
-    file, lines = str(trial.file), (ROOT / "bench/movements.jsonl").read_bytes()
+    file, lines = str(trial.file), (HERE / "movements.jsonl").read_bytes()
     more = b"{%s,%s}\n" % (STAMP, b'"do":"add_class","class":"NEW","name":""') + b'{"ask":"lot","lot":"F-1"}\n{"ask":"batch","batch":"B-1"}\n'
     for word in [
         Word(trial, "init of a new file", ["init", file], has_file=False),

@@ -1,8 +1,8 @@
 #!/usr/bin/env python3
 """Prints docs/READING.md: the definitions that the main theorem rests on, crate by crate, each file after those that it builds on.
 
-    bench/reading_list.py > docs/READING.md  makes it anew
-    bench/reading_list.py --check            ends with status 1 where docs/READING.md isn't what the definitions give
+    make/reading_list.py > docs/READING.md  makes it anew
+    make/reading_list.py --check           ends with status 1 where docs/READING.md isn't what the definitions give
 
 It is called at the root of the repository. It begins at the law that is the main theorem, and follows each definition to those that it names,
 through the files of definitions of this repository. It doesn't follow the relations that are the contracts of the calls: the law supposes them as
@@ -22,12 +22,12 @@ HEAD = """# What to read to believe the main theorem
 The main theorem is `Headline`, the clause of `headline_law` of plant_desk_store. Whoever agrees with the definitions below and with the premises in
 [ASSUMPTIONS](ASSUMPTIONS.md) needs to read neither code nor proofs. They are listed crate by crate and file by file of `specs/`, each after those
 that it builds on; lines are those of the definitions with their comments. The other definitions of a file belong to other contracts. The words for a
-store, such as `HasCleanDisk`, `IsDatabase` and `may_leave`, are the kit's (specs of sqlite). Made by bench/reading_list.py.
+store, such as `HasCleanDisk`, `IsDatabase` and `may_leave`, are the kit's (specs of sqlite). Made by make/reading_list.py.
 
 Not listed are the relations `HasAdopted`, `HasRefused`, `HasExecuted`, `HasForetold`, `HasAsked`, `HasRun`, `HasVerified` and `HasIndexed` of
 plant_desk_store/specs/Calls: the law supposes them of each call of a desk, and the call ensures them word for word (`Desk::adopt`, `Desk::run`,
-`Desk::verify`, `Desk::add_indexes`, `execute_with_outcome`, `check_with_outcome`, `ask_with_outcome`). Nor is how columns are decoded (the fields `read` of `Kind` and
-`Columns`), of which the law doesn't speak.
+`Desk::verify`, `Desk::add_indexes`, `execute_with_outcome`, `check_with_outcome`, `ask_with_outcome`). Nor is how columns are decoded (the fields
+`read` of `Kind` and `Columns`), of which the law doesn't speak.
 """
 
 
@@ -137,7 +137,7 @@ def main(options):
     if options == ["--check"]:
         with open(READING, encoding="utf-8") as it:
             if it.read() != reading_list():
-                print(f"{READING} isn't what the definitions give: bench/reading_list.py > {READING} makes it anew", file=sys.stderr)
+                print(f"{READING} isn't what the definitions give: make/reading_list.py > {READING} makes it anew", file=sys.stderr)
                 return 1
         return 0
     if options:

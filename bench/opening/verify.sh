@@ -4,9 +4,9 @@
 # first schema, to which Python's sqlite3 has taken it back; of verify once the file has as many receipts; and of one question to a file
 # that was empty. Of verify the least of five runs is told.
 # Python's sqlite3 writes the movements into a file that the desk made. Wants the built program (make desk), or another one as DESK.
-# Usage: [DESK=PROGRAM] bench/verify.sh [N ..], by default 1000 10000 100000.
+# Usage: [DESK=PROGRAM] bench/opening/verify.sh [N ..], by default 1000 10000 100000.
 set -eu
-cd "$(dirname "$0")/.."
+cd "$(dirname "$0")/../.."
 desk=$(realpath "${DESK:-build/desk}")
 work=$(mktemp -d)
 trap 'rm -rf "$work"' EXIT

@@ -1,4 +1,4 @@
-"""Attacks the built desk. bench/hostile.sh calls it.
+"""Attacks the built desk. hostile.sh calls it.
 
     hostile.py PROGRAM FOLDER LINES KILLS
 
@@ -17,10 +17,10 @@ import sys
 import threading
 import time
 
-ROOT = pathlib.Path(__file__).resolve().parent.parent
-sys.path.insert(0, str(ROOT))
+HERE = pathlib.Path(__file__).resolve().parent
+sys.path.insert(0, str(HERE.parents[1]))
 
-from tests.support import seeds  # noqa: E402  (the folder above is on the path now)
+from tests.support import seeds  # noqa: E402  (the top is on the path now)
 
 SECONDS = 600
 PIECE = 2000
@@ -36,8 +36,8 @@ def expect(is_so, told):
 
 
 def good_lines():
-    """Returns the lines of the benches' sessions."""
-    return [it for name in ("session", "movements", "plans", "batches") for it in (ROOT / f"bench/{name}.jsonl").read_bytes().splitlines()]
+    """Returns the lines of the sessions."""
+    return [it for name in ("session", "movements", "plans", "batches") for it in (HERE / f"{name}.jsonl").read_bytes().splitlines()]
 
 
 def broken(text, chance):

@@ -1,8 +1,8 @@
-"""Measures what the built desk serves in a second. bench/serve.sh calls it.
+"""Measures what the built desk serves in a second. serve.sh calls it.
 
     serving.py PROGRAM FOLDER QUESTIONS COMMANDS
 
-Each request is a connection of its own, made by a client in C (bench/client.c, built in FOLDER with gcc). Where one process of it sends
+Each request is a connection of its own, made by a client in C (client.c, built in FOLDER with gcc). Where one process of it sends
 them all, each once the one before it was answered, its own time is in the figure; where three share them, the next connection waits
 while one is answered, and the figure is what the server does. Beside each stands what the server's own processor would do, which tells
 how many requests a second one core would serve that did nothing else. The server of bare sockets does nothing but accept, read once, write a text that it holds and

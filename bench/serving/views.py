@@ -1,7 +1,7 @@
 #!/usr/bin/env python3
 """Measures how long the views of the page take over a desk of many movements and open orders, in a headless Chromium.
 
-    bench/views.py [MOVEMENTS [ORDERS]]
+    bench/serving/views.py [MOVEMENTS [ORDERS]]
 
 Fills a file of 100,000 movements and 900 open orders, where nothing else is said: lots of one definition that were received and scrapped, of
 which every second has stock, and 200 that were split off one. Has the desk of `build/` serve it (DESK_PROGRAMS names another place, as for the
@@ -16,9 +16,9 @@ import sys
 import tempfile
 import time
 
-sys.path.insert(0, str(pathlib.Path(__file__).resolve().parent.parent))
+sys.path.insert(0, str(pathlib.Path(__file__).resolve().parents[2]))
 
-from tests.support import browser, cases, pages, sqlite  # noqa: E402  (the folder above is on the path now)
+from tests.support import browser, cases, pages, sqlite  # noqa: E402  (the top is on the path now)
 from tests.support.large import fan_tables, received_row, scrapped_row  # noqa: E402
 from tests.support.program import Program  # noqa: E402
 

@@ -1,4 +1,4 @@
-"""Sends commands under references to a desk that is killed again and again. bench/once.sh calls it.
+"""Sends commands under references to a desk that is killed again and again. once.sh calls it.
 
     once.py PROGRAM FOLDER COMMANDS KILLS
 
@@ -13,9 +13,9 @@ import subprocess
 import sys
 import time
 
-sys.path.insert(0, str(pathlib.Path(__file__).resolve().parent.parent))
+sys.path.insert(0, str(pathlib.Path(__file__).resolve().parents[2]))
 
-from tests.support import seeds  # noqa: E402  (the folder above is on the path now)
+from tests.support import seeds  # noqa: E402  (the top is on the path now)
 
 SECONDS = 600
 GOODS = (

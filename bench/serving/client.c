@@ -1,9 +1,9 @@
 /* A client in measurements of servers: sends requests to a port of 127.0.0.1, each on a connection of its own, and reads each
  * answer up to its end. So many processes share them, each of which sends its next request once the one before it was
  * answered. Requests come on standard input, each behind a line with its number of bytes. Once all were answered it prints
- * how many seconds that took; it fails where an answer lacks the wanted text. bench/serving.py builds it and runs it.
+ * how many seconds that took; it fails where an answer lacks the wanted text. serving.py builds it and runs it.
  *
- *     gcc -O2 -o client bench/client.c
+ *     gcc -O2 -o client bench/serving/client.c
  *     client PORT WANTED PROCESSES
  */
 #define _GNU_SOURCE

@@ -7,7 +7,7 @@ Each command is committed durably before it is answered: with `journal` as sqlit
 journal, synchronous=FULL), with `wal` over a log written ahead, with `twice` likewise, and each commit syncs a second time, what it wrote
 to a file beside, as the desk's commits sync twice. With `memory` the file is copied into a store in memory, and nothing is written
 elsewhere. It knows no rules but that a stock is enough; a command with a reference is looked up among the receipts, and one is kept of it.
-bench/commands.py runs it.
+commands.py runs it.
 """
 import json
 import os

@@ -1,8 +1,8 @@
-"""Measures recalls over desks of some numbers of edges. bench/recalls.sh calls it.
+"""Measures recalls over desks of some numbers of edges. recalls.sh calls it.
 
     recalls.py PROGRAM FOLDER EDGES ..
 
-For each number and shape a desk is made in a file, as bench/genealogy.py makes it. Then its first lot, which leads to all others, is traced
+For each number and shape a desk is made in a file, as genealogy.py makes it. Then its first lot, which leads to all others, is traced
 forward, recalled, asked about and lifted, some times each in turn, every recall under an id of its own. What is told is the nodes that are
 reached and the middle time of each; of the recall and the lift also how many microseconds a mark they take beyond twice the trace. The
 answers are compared with the trace. At last the file is verified without an open recall, and with one of each of its last 100 lots.

@@ -1,4 +1,4 @@
-"""Measures pages of lists over desks of some numbers of orders and lots. bench/lists.sh calls it.
+"""Measures pages of lists over desks of some numbers of orders and lots. lists.sh calls it.
 
     lists.py PROGRAM FOLDER N ..
 

@@ -1,18 +1,18 @@
-"""Measures commands over desks of some sizes. bench/commands.sh calls it.
+"""Measures commands over desks of some sizes. commands.sh calls it.
 
     commands.py PROGRAM FOLDER COMMANDS file|memory SIZE ..
 
 For each size a desk of so many movements is made in a file, by receipts, scraps, splits and the bookings of batches; then COMMANDS
 commands of each kind are given to one run of the desk, each after the reply to the one before it. What is told of a kind is its commands
-a second and the middle time of one. As many receipts as movements stand in the file, or as SIZE says behind a `/`, as in 1000/1000000; scraps
-and splits are given with and without references in turn, and the scraps once more, as repeats. Beside it stand peers that take the same lines from a pipe, make the same look-ups and writes in
-the same tables of a copy of the file, commit each command durably before they answer it, and know no rules but those of stock:
-bench/peer.py, in Python over the standard library's sqlite3, and bench/peer.c, which is left out where gcc or sqlite3.h isn't there.
-Each is run three times: over a rollback journal, which is SQLite's default; over a log written ahead; and over such a log with a second
-sync at each commit, as the desk's commits have. With `memory` the desk and the peers keep their tables in memory instead, and none
-syncs. The kinds take turns in rounds, so that what else the machine does falls on all alike. Then the desk alone is given consumptions
-with no open recall and with 100 open ones, in turns, of which none reaches what is consumed. At last it is asked about a lot, an
-order, itself, a batch, and where a lot came from, and the greatest size of its log is told.
+a second and the middle time of one. As many receipts as movements stand in the file, or as SIZE says behind a `/`, as in 1000/1000000;
+scraps and splits are given with and without references in turn, and the scraps once more, as repeats. Beside it stand peers that take the
+same lines from a pipe, make the same look-ups and writes in the same tables of a copy of the file, commit each command durably before
+they answer it, and know no rules but those of stock: peer.py, in Python over the standard library's sqlite3, and peer.c, which is left
+out where gcc or sqlite3.h isn't there. Each is run three times: over a rollback journal, which is SQLite's default; over a log written
+ahead; and over such a log with a second sync at each commit, as the desk's commits have. With `memory` the desk and the peers keep their
+tables in memory instead, and none syncs. The kinds take turns in rounds, so that what else the machine does falls on all alike. Then the
+desk alone is given consumptions with no open recall and with 100 open ones, in turns, of which none reaches what is consumed. At last it
+is asked about a lot, an order, itself, a batch, and where a lot came from, and the greatest size of its log is told.
 """
 import json
 import pathlib
@@ -25,7 +25,6 @@ import threading
 import time
 
 AT = 1000
-
 
 HERE = pathlib.Path(__file__).resolve().parent
 

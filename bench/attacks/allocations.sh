@@ -5,16 +5,16 @@
 # that reads its words before anything else may also end as with wrong words, status 2 and nothing written.
 #
 # Wants gcc and the built program (make desk, make order_check, or `rt run` in crates/bench_lists for the keeper of lists). Usage:
-# bench/allocations.sh [PROGRAM [INPUT [STEP]]], by default build/desk, the session beside it, and each allocation; with a STEP only
+# bench/attacks/allocations.sh [PROGRAM [INPUT [STEP]]], by default build/desk, session.jsonl here, and each allocation; with a STEP only
 # each so many-th is refused.
 set -eu
-cd "$(dirname "$0")/.."
+cd "$(dirname "$0")/../.."
 program=$(realpath "${1:-build/desk}")
-input=$(realpath "${2:-bench/session.jsonl}")
+input=$(realpath "${2:-bench/attacks/session.jsonl}")
 step=${3:-1}
 work=$(mktemp -d)
 trap 'rm -rf "$work"' EXIT
-gcc -shared -fPIC -O1 -o "$work/refuse.so" bench/refuse.c -ldl
+gcc -shared -fPIC -O1 -o "$work/refuse.so" bench/faults/refuse.c -ldl
 status=0
 "$program" < "$input" > "$work/whole" || status=$?
 right=$status

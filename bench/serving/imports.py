@@ -1,7 +1,7 @@
 #!/usr/bin/env python3
 """Measures order files of 1,000 orders that are imported one after the other.
 
-    bench/imports.py PROGRAM [COUNT] [FOLDER]
+    bench/serving/imports.py PROGRAM [COUNT] [FOLDER]
 
 A served desk over a file takes COUNT order files (100 where it isn't given) by HTTP, each of 1,000 new orders; then the last of them as often again,
 whose orders it has. What is printed is the processor time of the desk for an import, in milliseconds: the mean of each tenth of the

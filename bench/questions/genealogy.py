@@ -1,4 +1,4 @@
-"""Measures traces over desks of some numbers of edges. bench/genealogy.sh calls it.
+"""Measures traces over desks of some numbers of edges. genealogy.sh calls it.
 
     genealogy.py PROGRAM FOLDER EDGES ..
 

@@ -8,9 +8,13 @@ It is called at the root of the repository. It begins at the law that is the mai
 through the files of definitions of this repository. It doesn't follow the relations that are the contracts of the calls: the law supposes them as
 the calls ensure them, and says of them nothing else. It leaves out how columns are read, the fields `read`, which no definition on the list takes.
 """
+from __future__ import annotations
+
 import glob
 import re
 import sys
+from collections.abc import Collection, Iterator, Mapping, Sequence
+from typing import NamedTuple
 
 READING = "docs/READING.md"
 LAW = ("plant_desk_store.specs.Headline", "Headline")
@@ -31,7 +35,20 @@ plant_desk_store/specs/Calls: the law supposes them of each call of a desk, and 
 """
 
 
-def without_reading(block):
+# A definition: its file and its name.
+Definition = tuple[str, str]
+
+
+class Listed(NamedTuple):
+    """A file on the list, with how many definitions of it are listed, how many it has, and the lines of those listed."""
+
+    file: str
+    names: int
+    of: int
+    lines: int
+
+
+def without_reading(block: str) -> str:
     """A definition without how columns are read."""
     for field in (r"\n  pub read : .*", r"\n  read = [^;}]*;", r"; read = [^;}]*(?= })"):
         block = re.sub(field, "", block)
@@ -41,10 +58,12 @@ def without_reading(block):
 class File:
     """A file of definitions: what it takes from others, and its own definitions as (text, lines)."""
 
-    def __init__(self, path):
+    def __init__(self, path: str) -> None:
         with open(path, encoding="utf-8") as it:
             text = it.read()
-        self.imports, self.aliases, self.defined = {}, {}, {}
+        self.imports: dict[str, str] = {}
+        self.aliases: dict[str, str] = {}
+        self.defined: dict[str, tuple[str, int]] = {}
         for module, names in re.findall(r"^(?:pub )?use Rattle\.(\S+?)\.\{([^}]*)\}", text, re.M):
             self.imports.update({name.strip(): module for name in names.split(",")})
         self.aliases.update({name: module for module, name in re.findall(r"^use Rattle\.(\S+) as (\w+)", text, re.M)})
@@ -56,9 +75,9 @@ class File:
                 self.defined[found[1]] = ("\n".join(lines), len(lines))
 
 
-def passed_on():
+def passed_on() -> dict[tuple[str, str], str]:
     """The file of each name that the root of a crate's definitions passes on, by the root and the name."""
-    homes = {}
+    homes: dict[tuple[str, str], str] = {}
     for path in glob.glob("crates/*/specs/Lib.antt"):
         root = path[len("crates/") : -len("/Lib.antt")].replace("/", ".")
         with open(path, encoding="utf-8") as it:
@@ -67,8 +86,9 @@ def passed_on():
     return homes
 
 
-def read_files():
-    files, homes = {}, passed_on()
+def read_files() -> dict[str, File]:
+    files: dict[str, File] = {}
+    homes = passed_on()
     for path in glob.glob("crates/*/specs/**/*.antt", recursive=True):
         if "/declared/" not in path and not path.endswith("/Lib.antt"):
             file = File(path)
@@ -77,22 +97,22 @@ def read_files():
     return files
 
 
-def named_in(files, module, name):
+def named_in(files: Mapping[str, File], module: str, name: str) -> Iterator[Definition]:
     """The definitions that one names."""
     file = files[module]
     text, _ = file.defined[name]
     for word in set(re.findall(r"[^\s(){}\[\],;]+", text)) | set(re.findall(r"\w+", text)):
         first, _, rest = word.partition(".")
         for module_of, it in ((module, first), (file.imports.get(first), first), (file.aliases.get(first), rest)):
-            if module_of in files and it in files[module_of].defined:
+            if module_of is not None and module_of in files and it in files[module_of].defined:
                 yield module_of, it
 
 
-def in_order(modules, files, crates):
+def in_order(modules: Collection[str], files: Mapping[str, File], crates: Sequence[str]) -> list[str]:
     """The files crate by crate, and in a crate each behind those that it imports."""
-    rows = []
+    rows: list[str] = []
 
-    def add(module):
+    def add(module: str) -> None:
         if module not in rows:
             for below in sorted(set(files[module].imports.values()) | set(files[module].aliases.values())):
                 if below in modules and below.split(".")[0] == module.split(".")[0]:
@@ -104,10 +124,11 @@ def in_order(modules, files, crates):
     return rows
 
 
-def reading_list():
+def reading_list() -> str:
     """The text of the list."""
     files = read_files()
-    todo, found = [LAW], set()
+    todo = [LAW]
+    found: set[Definition] = set()
     while todo:
         it = todo.pop()
         if it not in found and it not in [(CALLS, name) for name in CONTRACTS]:
@@ -116,24 +137,24 @@ def reading_list():
     taken = [it for it in found if re.search(r"\.read\b", files[it[0]].defined[it[1]][0])]
     if taken:
         raise SystemExit(f"these take how columns are read: {taken}")
-    with open("crates.txt", encoding="utf-8") as it:
-        crates = [line.split(":")[0] for line in it if ":" in line and not line.startswith("#")]
-    rows = {}
+    with open("crates.txt", encoding="utf-8") as table:
+        crates = [line.split(":")[0] for line in table if ":" in line and not line.startswith("#")]
+    rows: dict[str, list[Listed]] = {}
     for module in in_order({module for module, _ in found}, files, crates):
         names = [name for of, name in found if of == module]
         lines = sum(files[module].defined[name][1] for name in names)
         crate, _, file = module.split(".", 2)
-        rows.setdefault(crate, []).append((file.replace(".", "/"), len(names), len(files[module].defined), lines))
-    total = sum(it[3] for row in rows.values() for it in row)
+        rows.setdefault(crate, []).append(Listed(file.replace(".", "/"), len(names), len(files[module].defined), lines))
+    total = sum(it.lines for row in rows.values() for it in row)
     text = f"{HEAD}\nIn all {len(found)} definitions in {sum(map(len, rows.values()))} files, {total} lines.\n\n"
     text += "| crate | files | definitions, of all in them | lines |\n|---|---|---|---|\n"
     for crate, row in rows.items():
-        names, of, lines = (sum(it[at] for it in row) for at in (1, 2, 3))
-        text += f"| {crate} | {', '.join(it[0] for it in row)} | {names} of {of} | {lines} |\n"
+        listed, of, lines = sum(it.names for it in row), sum(it.of for it in row), sum(it.lines for it in row)
+        text += f"| {crate} | {', '.join(it.file for it in row)} | {listed} of {of} | {lines} |\n"
     return text
 
 
-def main(options):
+def main(options: Sequence[str]) -> int:
     if options == ["--check"]:
         with open(READING, encoding="utf-8") as it:
             if it.read() != reading_list():

@@ -6,8 +6,12 @@ LINES lines and as many requests are made of good ones by changes at random plac
 variable DESK_SEED says it. KILLS runs over one file are killed at a random moment. After each attack the file is verified, and what was
 acknowledged is compared with what the file has: a command that was answered is there, and at most one more.
 """
+from __future__ import annotations
+
+import functools
 import json
 import pathlib
+import random
 import re
 import resource
 import signal
@@ -16,6 +20,8 @@ import subprocess
 import sys
 import threading
 import time
+from collections.abc import Callable
+from typing import IO
 
 HERE = pathlib.Path(__file__).resolve().parent
 sys.path.insert(0, str(HERE.parents[1]))
@@ -25,41 +31,50 @@ from tests.support import seeds  # noqa: E402  (the top is on the path now)
 SECONDS = 600
 PIECE = 2000
 
+# The commands that make a definition.
+GOODS = (
+    b'{"at":1,"by":"","do":"add_class","class":"RAW","name":""}\n'
+    b'{"at":1,"by":"","do":"add_definition","def":"SUGAR","class":"RAW","name":"","unit":"g"}\n'
+)
+
+# What is put into a text.
+PIECES = (b'"', b"{", b"}", b"[", b"]", b",", b"\\u0000", b"-1", b"1e9", b"null", b"\xff", b"\n", b"\r\n", b"0" * 30)
+
 
 class Failed(Exception):
     """The desk did not withstand an attack."""
 
 
-def expect(is_so, told):
+def expect(is_so: bool, told: str) -> None:
     if not is_so:
         raise Failed(told)
 
 
-def good_lines():
+def good_lines() -> list[bytes]:
     """Returns the lines of the sessions."""
     return [it for name in ("session", "movements", "plans", "batches") for it in (HERE / f"{name}.jsonl").read_bytes().splitlines()]
 
 
-def broken(text, chance):
+def broken(text: bytes, chance: random.Random) -> bytes:
     """Returns a text with a few bytes changed, taken away, put in, or a piece of it doubled."""
-    text = bytearray(text)
+    changed = bytearray(text)
     for _ in range(chance.randint(0, 3)):
-        at = chance.randrange(len(text) + 1)
+        at = chance.randrange(len(changed) + 1)
         how = chance.randrange(5)
         if how == 0:
-            text[at:at] = bytes([chance.randrange(256)])
+            changed[at:at] = bytes([chance.randrange(256)])
         elif how == 1:
-            del text[at : at + chance.randint(1, 8)]
-        elif how == 2 and at < len(text):
-            text[at] = chance.randrange(256)
+            del changed[at : at + chance.randint(1, 8)]
+        elif how == 2 and at < len(changed):
+            changed[at] = chance.randrange(256)
         elif how == 3:
-            text[at:at] = text[at : at + chance.randint(1, 40)]
+            changed[at:at] = changed[at : at + chance.randint(1, 40)]
         else:
-            text[at:at] = chance.choice([b'"', b"{", b"}", b"[", b"]", b",", b"\\u0000", b"-1", b"1e9", b"null", b"\xff", b"\n", b"\r\n", b"0" * 30])
-    return bytes(text)
+            changed[at:at] = chance.choice(PIECES)
+    return bytes(changed)
 
 
-def replies_wanted(text):
+def replies_wanted(text: bytes) -> int:
     """Returns how many lines of a text have a reply: those that are not empty, without the CR before the LF that ends them."""
     lines = text.split(b"\n")
     last = lines.pop()
@@ -69,20 +84,27 @@ def replies_wanted(text):
 class Desk:
     """The built desk, and a file for it."""
 
-    def __init__(self, program, folder):
+    def __init__(self, program: str, folder: str) -> None:
         self.program, self.folder = str(pathlib.Path(program).resolve()), pathlib.Path(folder)
 
-    def run(self, *words, told=b"", **more):
-        return subprocess.run([self.program, *map(str, words)], input=told, stdout=more.pop("stdout", subprocess.PIPE), stderr=subprocess.PIPE, timeout=SECONDS, **more)
+    def run(
+        self, *words: str | pathlib.Path, told: bytes = b"", stdout: int | IO[bytes] = subprocess.PIPE,
+        preexec_fn: Callable[[], None] | None = None,
+    ) -> subprocess.CompletedProcess[bytes]:
+        return subprocess.run(
+            [self.program, *map(str, words)], input=told, stdout=stdout, stderr=subprocess.PIPE, timeout=SECONDS,
+            preexec_fn=preexec_fn,
+        )
 
-    def seq(self, file):
+    def seq(self, file: pathlib.Path) -> int:
         """Verifies a file, and returns how many commands it has accepted."""
         ran = self.run("verify", file)
         found = re.fullmatch(rb"good schema 4 seq (\d+)\n", ran.stdout)
-        expect(ran.returncode == 0 and found, f"{file}: {ran.stdout!r} {ran.stderr!r}")
+        if ran.returncode or not found:
+            raise Failed(f"{file}: {ran.stdout!r} {ran.stderr!r}")
         return int(found[1])
 
-    def lines_are_answered(self, count, chance):
+    def lines_are_answered(self, count: int, chance: random.Random) -> str:
         """Tells broken lines, some thousands a run, over one file: each has one reply of JSON, and what was accepted is there."""
         file, good, accepted = self.folder / "lines.db", good_lines(), 0
         for _ in range(0, count, PIECE):
@@ -95,10 +117,11 @@ class Desk:
         expect(self.seq(file) == accepted, f"{accepted} accepted, {self.seq(file)} kept")
         return f"{count} broken lines, {accepted} of them accepted"
 
-    def requests_are_answered(self, count, chance):
+    def requests_are_answered(self, count: int, chance: random.Random) -> str:
         """Sends broken requests: each has an answer that is whole, or none where it was cut off or said nothing."""
         file, good, accepted = self.folder / "requests.db", [request_of(it) for it in good_lines()], 0
-        good += [b"GET /v1/desk HTTP/1.1\r\nHost: a\r\n\r\n", b"HEAD /v1/lots/L-1 HTTP/1.1\r\nHost: a\r\n\r\n", b"GET /v1/batches/B-1/record HTTP/1.1\r\nHost: a\r\n\r\n"]
+        questions = (b"GET /v1/desk", b"HEAD /v1/lots/L-1", b"GET /v1/batches/B-1/record")
+        good += [it + b" HTTP/1.1\r\nHost: a\r\n\r\n" for it in questions]
         server, port = self.serving(file, count)
         for _ in range(count):
             answer = sent(port, broken(chance.choice(good), chance))
@@ -108,7 +131,7 @@ class Desk:
         expect(self.seq(file) == accepted, f"{accepted} accepted over HTTP, {self.seq(file)} kept")
         return f"{count} broken requests, {accepted} of them accepted"
 
-    def serving(self, file, count):
+    def serving(self, file: pathlib.Path, count: int) -> tuple[subprocess.Popen[bytes], int]:
         port = free_port()
         server = subprocess.Popen([self.program, "serve", str(file), str(port), str(count + 1)], stderr=subprocess.PIPE)
         for _ in range(500):
@@ -119,18 +142,17 @@ class Desk:
                 time.sleep(0.02)
         raise Failed("no server")
 
-    def kills_lose_nothing(self, count, chance):
+    def kills_lose_nothing(self, count: int, chance: random.Random) -> str:
         """Kills runs over one file at a random moment: what was answered is there, and at most one command more."""
         file = self.folder / "kills.db"
         self.run("init", file)
-        told = json.dumps({"at": 1, "by": "", "do": "add_class", "class": "RAW", "name": ""}).encode() + b"\n"
-        told += json.dumps({"at": 1, "by": "", "do": "add_definition", "def": "SUGAR", "class": "RAW", "name": "", "unit": "g"}).encode() + b"\n"
-        self.run("run", file, told=told)
+        self.run("run", file, told=GOODS)
         kept = self.seq(file)
         for number in range(count):
             lines = b"".join(receipt(f"K-{number}-{it}") for it in range(400))
             process = subprocess.Popen([self.program, "run", str(file)], stdin=subprocess.PIPE, stdout=subprocess.PIPE)
-            feeder = threading.Thread(target=feed, args=(process, lines))
+            assert process.stdin and process.stdout
+            feeder = threading.Thread(target=feed, args=(process.stdin, lines))
             feeder.start()
             time.sleep(chance.uniform(0.002, 0.06))
             process.send_signal(signal.SIGKILL)
@@ -142,15 +164,14 @@ class Desk:
             kept = found
         return f"{count} kills, {kept} commands kept"
 
-    def files_may_not_grow(self, chance):
+    def files_may_not_grow(self, chance: random.Random) -> str:
         """Bounds how far a file may grow: the run ends with the fault of its store, and what was answered is there."""
         times = 0
         for most in [2**it for it in range(12, 20)] + [chance.randrange(5_000, 400_000) for _ in range(20)]:
             file = self.folder / f"bound-{most}.db"
             self.run("init", file)
-            lines = b'{"at":1,"by":"","do":"add_class","class":"RAW","name":""}\n{"at":1,"by":"","do":"add_definition","def":"SUGAR","class":"RAW","name":"","unit":"g"}\n'
-            lines += b"".join(receipt(f"G-{it}") for it in range(3000))
-            ran = self.run("run", file, told=lines, preexec_fn=lambda: bound(most))
+            lines = GOODS + b"".join(receipt(f"G-{it}") for it in range(3000))
+            ran = self.run("run", file, told=lines, preexec_fn=functools.partial(bound, most))
             answered = ran.stdout.count(b'{"ok":')
             expect(ran.returncode in (0, 3), f"a bound of {most}: status {ran.returncode}")
             if ran.returncode == 3 and not ran.stdout:
@@ -162,7 +183,7 @@ class Desk:
             times += ran.returncode == 3
         return f"{times} runs over files that could not grow"
 
-    def outputs_may_be_full(self):
+    def outputs_may_be_full(self) -> str:
         """Writes to a device that is full: the run ends, and at most the one command that was under way is there."""
         file = self.folder / "full.db"
         self.run("init", file)
@@ -171,7 +192,7 @@ class Desk:
         expect(ran.returncode not in (0, 1) and self.seq(file) <= 1, f"a full output: status {ran.returncode}")
         return f"a full output, status {ran.returncode}"
 
-    def slow_clients_hold_for_a_while(self):
+    def slow_clients_hold_for_a_while(self) -> str:
         """Lets a client say nothing, and another send a byte a second: the server drops each and answers the next."""
         server, port = self.serving(self.folder / "slow.db", 4)
         told = []
@@ -189,24 +210,24 @@ class Desk:
         return ", ".join(told)
 
 
-def receipt(lot):
+def receipt(lot: str) -> bytes:
     return json.dumps({"at": 2, "by": "", "do": "receive", "lot": lot, "def": "SUGAR", "amount": 5, "place": ""}).encode() + b"\n"
 
 
-def request_of(line):
+def request_of(line: bytes) -> bytes:
     """Returns the request that has the line as its body."""
     return b"POST /v1/commands HTTP/1.1\r\nHost: a\r\nContent-Length: %d\r\n\r\n%s" % (len(line), line)
 
 
-def feed(process, lines):
+def feed(pipe: IO[bytes], lines: bytes) -> None:
     try:
-        process.stdin.write(lines)
-        process.stdin.close()
+        pipe.write(lines)
+        pipe.close()
     except (BrokenPipeError, ConnectionResetError):
         pass
 
 
-def drip(connection, count):
+def drip(connection: socket.socket, count: int) -> None:
     try:
         for _ in range(count):
             connection.sendall(b"G")
@@ -215,18 +236,19 @@ def drip(connection, count):
         pass
 
 
-def bound(most):
+def bound(most: int) -> None:
     signal.signal(signal.SIGXFSZ, signal.SIG_IGN)
     resource.setrlimit(resource.RLIMIT_FSIZE, (most, most))
 
 
-def free_port():
+def free_port() -> int:
     with socket.socket() as it:
         it.bind(("127.0.0.1", 0))
-        return it.getsockname()[1]
+        port: int = it.getsockname()[1]
+        return port
 
 
-def sent(port, request):
+def sent(port: int, request: bytes) -> bytes:
     """Sends a request, says that no more comes, and returns what is answered."""
     with socket.create_connection(("127.0.0.1", port), timeout=SECONDS) as it:
         answer = b""
@@ -240,7 +262,7 @@ def sent(port, request):
         return answer
 
 
-def is_whole(answer):
+def is_whole(answer: bytes) -> bool:
     """Returns whether an answer is none, or a head and as many bytes as it says, or none of them to HEAD."""
     if not answer:
         return True
@@ -249,7 +271,7 @@ def is_whole(answer):
     return bool(parted and head.startswith(b"HTTP/1.1 ") and length and len(body) in (0, int(length[1])))
 
 
-def main(program, folder, lines, kills):
+def main(program: str, folder: str, lines: str, kills: str) -> int:
     desk = Desk(program, folder)
     print(f"seed {seeds.seed()}", flush=True)
     try:

@@ -7,6 +7,8 @@ done, or with a front of the right lines and then want of memory (status 4) or a
 words before it has opened anything (status 2). Then the file is verified without refusals: what was answered is there, with at most
 one command more.
 """
+from __future__ import annotations
+
 import os
 import pathlib
 import re
@@ -15,6 +17,7 @@ import socket
 import subprocess
 import sys
 import time
+from collections.abc import Sequence
 
 HERE = pathlib.Path(__file__).resolve().parent
 SECONDS = 60
@@ -32,16 +35,16 @@ class Failed(Exception):
 class Word:
     """A word of the desk over a file, with what it is told and what it answers where nothing is refused."""
 
-    def __init__(self, trial, name, words, told=b"", has_file=True):
+    def __init__(self, trial: Trial, name: str, words: Sequence[str], told: bytes = b"", has_file: bool = True) -> None:
         self.trial, self.name, self.words, self.told, self.has_file = trial, name, words, told, has_file
         self.status, self.wanted, _ = self.run()
         self.before = trial.seq_of_the_first_file() if has_file else 0
 
-    def run(self, **refused):
+    def run(self, number: int = 0) -> tuple[int, bytes, bytes]:
         self.trial.take_file(self.has_file)
-        return self.trial.run(self.words, self.told, **refused)
+        return self.trial.run(self.words, self.told, number)
 
-    def end_of(self, status, out, err):
+    def end_of(self, status: int, out: bytes, err: bytes) -> str:
         """Returns how a run ended."""
         last = out.splitlines(keepends=True)[-1:]
         front = out[: -len(last[0])] if last and re.fullmatch(rb'\{"fault":[12]\}\n', last[0]) else out
@@ -57,7 +60,7 @@ class Word:
 class Trial:
     """The built desk with a library that refuses, over a file of its own."""
 
-    def __init__(self, program, library, folder):
+    def __init__(self, program: str, library: str, folder: str) -> None:
         self.program, self.library, self.folder = str(pathlib.Path(program).resolve()), library, pathlib.Path(folder)
         self.first, self.file, self.mark = self.folder / "first.db", self.folder / "plant.db", self.folder / "refused"
         lines = (HERE / "batches.jsonl").read_bytes()
@@ -65,33 +68,33 @@ class Trial:
         if ran.returncode not in (0, 1):
             raise Failed(f"the first file: {ran}")
 
-    def take_file(self, has_file):
+    def take_file(self, has_file: bool) -> None:
         for path in (self.file, pathlib.Path(f"{self.file}-wal"), self.mark):
             path.unlink(missing_ok=True)
         if has_file:
             shutil.copyfile(self.first, self.file)
 
-    def environment(self, number):
+    def environment(self, number: int) -> dict[str, str]:
         return os.environ | {"REFUSE": str(number), "REFUSED": str(self.mark), "LD_PRELOAD": str(self.library)}
 
-    def run(self, words, told, number=0):
+    def run(self, words: Sequence[str], told: bytes, number: int = 0) -> tuple[int, bytes, bytes]:
         ran = subprocess.run([self.program, *words], input=told, capture_output=True, env=self.environment(number), timeout=SECONDS)
         return ran.returncode, ran.stdout, ran.stderr
 
-    def seq(self, file):
+    def seq(self, file: pathlib.Path) -> int:
         ran = subprocess.run([self.program, "verify", file], capture_output=True, timeout=SECONDS)
         found = re.fullmatch(rb"good schema 4 seq (\d+)\n", ran.stdout)
         if ran.returncode or not found:
             raise Failed(f"the file isn't good: {ran}")
         return int(found[1])
 
-    def seq_of_the_first_file(self):
+    def seq_of_the_first_file(self) -> int:
         return self.seq(self.first)
 
 
-def refuse_each(trial, word, step):
+def refuse_each(trial: Trial, word: Word, step: int) -> None:
     """Refuses the allocations of a word in turn, and tells how its runs ended."""
-    ends = {}
+    ends: dict[str, int] = {}
     for number in range(1, 10**6, step):
         status, out, err = word.run(number=number)
         try:
@@ -108,7 +111,7 @@ def refuse_each(trial, word, step):
         ends[end] = ends.get(end, 0) + 1
 
 
-def request(trial, port, number):
+def request(trial: Trial, port: int, number: int) -> tuple[bytes, int, bytes, bytes]:
     """Serves one request with this allocation refused, and returns what it is answered and how the server ends."""
     trial.take_file(True)
     words = [trial.program, "serve", str(trial.file), str(port), "1"]
@@ -127,9 +130,10 @@ def request(trial, port, number):
     return answer, server.returncode, out, err
 
 
-def refuse_each_of_a_request(trial, port, step):
+def refuse_each_of_a_request(trial: Trial, port: int, step: int) -> None:
     """Refuses the allocations of a server of one request in turn."""
-    ends, before = {}, trial.seq_of_the_first_file()
+    ends: dict[str, int] = {}
+    before = trial.seq_of_the_first_file()
     whole, *_ = request(trial, port, 0)
     if not whole.endswith(b'{"ok":%d}' % (before + 1)):
         raise Failed(f"a request without refusals: {whole!r}")
@@ -151,7 +155,7 @@ def refuse_each_of_a_request(trial, port, step):
         ends[end] = ends.get(end, 0) + 1
 
 
-def main(program, library, folder, step):
+def main(program: str, library: str, folder: str, step: str) -> None:
     trial = Trial(program, library, folder)
     file, lines = str(trial.file), (HERE / "movements.jsonl").read_bytes()
     more = b"{%s,%s}\n" % (STAMP, b'"do":"add_class","class":"NEW","name":""') + b'{"ask":"lot","lot":"F-1"}\n{"ask":"batch","batch":"B-1"}\n'

@@ -14,6 +14,8 @@ tables in memory instead, and none syncs. The kinds take turns in rounds, so tha
 desk alone is given consumptions with no open recall and with 100 open ones, in turns, of which none reaches what is consumed. At last it
 is asked about a lot, an order, itself, a batch, and where a lot came from, and the greatest size of its log is told.
 """
+from __future__ import annotations
+
 import json
 import pathlib
 import shutil
@@ -23,10 +25,14 @@ import subprocess
 import sys
 import threading
 import time
+from collections.abc import Callable, Iterator, Sequence
 
 AT = 1000
 
 HERE = pathlib.Path(__file__).resolve().parent
+
+# The members of a line.
+Line = dict[str, object]
 
 # How many rounds the commands of a kind are given in.
 ROUNDS = 5
@@ -38,54 +44,56 @@ OPEN = 100
 class Keeper:
     """A program that takes lines from a pipe and answers each."""
 
-    def __init__(self, name, *words):
+    def __init__(self, name: str, *words: str | pathlib.Path) -> None:
         self.name = name
         self.process = subprocess.Popen(words, stdin=subprocess.PIPE, stdout=subprocess.PIPE)
+        assert self.process.stdin and self.process.stdout
+        self.input, self.output = self.process.stdin, self.process.stdout
 
-    def send(self, **fields):
+    def send(self, **fields: object) -> tuple[bytes, float]:
         """Gives a line, and returns the reply and how long it took."""
         line = json.dumps(fields, separators=(",", ":")).encode() + b"\n"
         start = time.perf_counter()
-        self.process.stdin.write(line)
-        self.process.stdin.flush()
-        reply = self.process.stdout.readline()
+        self.input.write(line)
+        self.input.flush()
+        reply = self.output.readline()
         return reply, time.perf_counter() - start
 
-    def accept(self, do, **fields):
+    def accept(self, do: str, **fields: object) -> float:
         reply, took = self.send(at=AT, by="", do=do, **fields)
         if not reply.startswith(b'{"ok":'):
             sys.exit(f"{do} {fields}: {reply!r}")
         return took
 
-    def give_all(self, lines):
+    def give_all(self, lines: Sequence[Line]) -> None:
         """Gives lines without waiting for each reply."""
         text = "".join(json.dumps(it, separators=(",", ":")) + "\n" for it in lines)
         pieces = text.encode()
 
-        def feed():
-            self.process.stdin.write(pieces)
-            self.process.stdin.flush()
+        def feed() -> None:
+            self.input.write(pieces)
+            self.input.flush()
 
         feeder = threading.Thread(target=feed)
         feeder.start()
         for _ in lines:
-            reply = self.process.stdout.readline()
+            reply = self.output.readline()
             if not reply.startswith(b'{"ok":'):
                 sys.exit(f"refused: {reply!r}")
         feeder.join()
 
-    def memory(self):
+    def memory(self) -> int:
         """Returns the kilobytes that the program had at most."""
         status = pathlib.Path(f"/proc/{self.process.pid}/status").read_text()
         return int(next(it for it in status.splitlines() if it.startswith("VmHWM:")).split()[1])
 
-    def close(self):
-        self.process.stdin.close()
-        self.process.stdout.read()
+    def close(self) -> int:
+        self.input.close()
+        self.output.read()
         return self.process.wait()
 
 
-def line(do, **fields):
+def line(do: str, **fields: object) -> Line:
     return {"at": AT, "by": "", "do": do, **fields}
 
 
@@ -96,7 +104,7 @@ RECIPE = [
 ]
 
 
-def beginning():
+def beginning() -> Iterator[Line]:
     yield line("add_class", **{"class": "RAW", "name": ""})
     for name in ("FLOUR", "DOUGH"):
         yield line("add_definition", **{"def": name, "class": "RAW", "name": "", "unit": "kg"})
@@ -105,7 +113,7 @@ def beginning():
     yield line("receive", lot="F", **{"def": "FLOUR"}, amount=10**12, place="A1")
 
 
-def batch(number):
+def batch(number: int) -> Iterator[Line]:
     """A batch that took 3 times and brought 4 lots, one of which was split, and another scrapped a little: 9 movements."""
     order = {"order": f"O-{number}", "recipe": "CAKE", "version": 1, "size": 1000000, "due": "2027-03-01", "priority": 5}
     yield line("import_orders", orders=[order])
@@ -119,7 +127,7 @@ def batch(number):
     yield line("scrap", lot=f"D-{number}-1", sub=0, amount=1)
 
 
-def fill(desk, size, after_some=lambda: None):
+def fill(desk: Keeper, size: int, after_some: Callable[[], None] = lambda: None) -> None:
     """Gives a new desk so many movements, and calls what is to be done after some."""
     desk.give_all(list(beginning()))
     for first in range(0, size // 9, 100):
@@ -128,13 +136,13 @@ def fill(desk, size, after_some=lambda: None):
         after_some()
 
 
-def make(program, path, size):
+def make(program: str, path: pathlib.Path, size: int) -> tuple[int, int]:
     """Makes a file of so many movements, and returns the greatest size that its log had, as it is seen now and then, and the kilobytes of
     memory that the run had at most."""
     desk = Keeper("desk", program, "run", path)
     log, greatest = pathlib.Path(f"{path}-wal"), 0
 
-    def see_log():
+    def see_log() -> None:
         nonlocal greatest
         greatest = max(greatest, log.stat().st_size)
 
@@ -145,7 +153,7 @@ def make(program, path, size):
     return greatest, memory
 
 
-def write_receipts(path, count):
+def write_receipts(path: pathlib.Path, count: int) -> None:
     """Writes so many receipts into the file of a desk, and lets it have accepted as many commands at least."""
     store = sqlite3.connect(path)
     store.executemany("INSERT INTO receipt VALUES (?, ?, ?)", ((f"OLD-{it}", it, f"{AT}\n\n\nsettle\nB-{it}\n") for it in range(1, count + 1)))
@@ -154,9 +162,9 @@ def write_receipts(path, count):
     store.close()
 
 
-def kinds(count, last):
+def kinds(count: int, last: str) -> Iterator[dict[str, list[tuple[str, Line]]]]:
     """Gives the commands of each kind, by its name, those together that take turns: with `ref` under a reference, and without."""
-    def booked(do, **fields):
+    def booked(do: str, **fields: object) -> list[tuple[str, Line]]:
         return [(do, {name: it.format(k) if isinstance(it, str) else it for name, it in fields.items()}) for k in range(count)]
 
     scrap = {"lot": "N-{}", "sub": 0, "amount": 1}
@@ -171,23 +179,25 @@ def kinds(count, last):
     yield {"produce": booked("produce", batch=last, lot="P-{}", **{"def": "DOUGH"}, amount=1, place="A1")}
 
 
-def peers(folder, path, is_in_memory):
+def peers(folder: pathlib.Path, path: pathlib.Path, is_in_memory: bool) -> Iterator[Keeper]:
     """Returns the peers, each over a copy of the file."""
-    def copied(name):
+    def copied(name: str) -> pathlib.Path:
         return shutil.copyfile(path, folder / f"{path.stem}-{name}.db")
 
-    programs = {"python": [sys.executable, HERE / "peer.py"]}
+    programs: dict[str, list[str | pathlib.Path]] = {"python": [sys.executable, HERE / "peer.py"]}
     peer = folder / "peer"
-    if shutil.which("gcc") and subprocess.run(["gcc", "-O2", "-o", peer, HERE / "peer.c", "-lsqlite3"], stderr=subprocess.DEVNULL).returncode == 0:
+    build: list[str | pathlib.Path] = ["gcc", "-O2", "-o", peer, HERE / "peer.c", "-lsqlite3"]
+    if shutil.which("gcc") and subprocess.run(build, stderr=subprocess.DEVNULL).returncode == 0:
         programs["C"] = [peer]
     for name, program in programs.items():
         for way in ["memory"] if is_in_memory else ["journal", "wal", "twice"]:
             yield Keeper(f"{name} {way}", *program, copied(f"{name}-{way}"), way)
 
 
-def measured(keepers, count, last):
+def measured(keepers: Sequence[Keeper], count: int, last: str) -> dict[str, dict[str, list[float]]]:
     """Gives each kind of command to the keepers in turn, and returns how long each command took of each kind and keeper."""
-    took, step = {}, max(1, count // ROUNDS)
+    took: dict[str, dict[str, list[float]]] = {}
+    step = max(1, count // ROUNDS)
     for group in kinds(count, last):
         for first in range(0, count, step):
             for name, commands in group.items():
@@ -197,12 +207,13 @@ def measured(keepers, count, last):
     return took
 
 
-def beside_recalls(desk, count, size):
+def beside_recalls(desk: Keeper, count: int, size: int) -> None:
     """Gives the desk consumptions with no open recall and with many, in turns, and tells how long each took. A recall reaches a lot of
     another batch and the one that was split off it."""
     consumption = {"batch": f"B-{size // 9 - 1}", "lot": "F", "sub": 0, "amount": 1}
     step, recalls = max(1, count // ROUNDS), range(min(OPEN, size // 9))
-    plain, beside = [], []
+    plain: list[float] = []
+    beside: list[float] = []
     for turn in range(ROUNDS):
         plain += [desk.accept("consume", **consumption) for _ in range(step)]
         for number in recalls:
@@ -214,11 +225,11 @@ def beside_recalls(desk, count, size):
     print(f"           {len(recalls)} open recalls {rate(beside)} {statistics.median(beside) / statistics.median(plain):.2f}")
 
 
-def rate(times):
+def rate(times: Sequence[float]) -> str:
     return f"{len(times) / sum(times):7.0f}/s {statistics.median(times) * 1e6:7.0f} us"
 
 
-def asked(desk):
+def asked(desk: Keeper) -> None:
     """Asks the desk, and tells how long each kind of question takes."""
     questions = {
         "desk": {"ask": "desk"},
@@ -231,7 +242,7 @@ def asked(desk):
         print(f"  ask {name:6} {rate([desk.send(**question)[1] for _ in range(200)])}")
 
 
-def opened(program, path, size, is_in_memory):
+def opened(program: str, path: pathlib.Path, size: int, is_in_memory: bool) -> Keeper:
     """Returns the desk over the file, or one in memory that was given the same."""
     desk = Keeper("desk", program, "run", ":memory:" if is_in_memory else path)
     if is_in_memory:
@@ -240,7 +251,7 @@ def opened(program, path, size, is_in_memory):
     return desk
 
 
-def compared(taken):
+def compared(taken: dict[str, dict[str, list[float]]]) -> None:
     """Tells how many times as long a command with a reference takes as one without, in the middle."""
     for name, took in taken.items():
         if ", ref" in name:
@@ -248,13 +259,13 @@ def compared(taken):
             print(f"  {name}: {ours / plain:.2f} of one without")
 
 
-def measure(program, folder, count, is_in_memory, size, receipts):
+def measure(program: str, folder: pathlib.Path, count: int, is_in_memory: bool, size: int, receipts: int) -> None:
     """Measures commands over a desk of so many movements and receipts."""
     path = folder / f"{size}-{receipts}.db"
     start = time.perf_counter()
     log, memory = make(program, path, size)
-    took = time.perf_counter() - start
-    print(f"{size} movements, made in {took:.1f} s, with a log of {log} bytes and a memory of {memory} kB at most")
+    seconds = time.perf_counter() - start
+    print(f"{size} movements, made in {seconds:.1f} s, with a log of {log} bytes and a memory of {memory} kB at most")
     if not is_in_memory:
         write_receipts(path, receipts)
         print(f"  {receipts} receipts")
@@ -277,7 +288,7 @@ def measure(program, folder, count, is_in_memory, size, receipts):
     path.unlink()
 
 
-def main():
+def main() -> None:
     program, folder, count, is_in_memory, *sizes = sys.argv[1:]
     for it in sizes:
         size, _, receipts = it.partition("/")

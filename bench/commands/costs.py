@@ -12,6 +12,8 @@ where the machine is noisy. FOLDER is in memory by default, so that no disk is m
 The first program makes the files that are verified. A ratio is to the peer, of verifying to the first program. Ids by chance are made by a seed,
 which is printed; the variable DESK_SEED says it.
 """
+from __future__ import annotations
+
 import argparse
 import json
 import os
@@ -21,33 +23,38 @@ import shutil
 import subprocess
 import sys
 import tempfile
+from collections.abc import Callable, Sequence
+from typing import Protocol
 
 HERE = pathlib.Path(__file__).resolve().parent
 sys.path.insert(0, str(HERE.parents[1]))
 
-from commands import batch, beginning, line  # noqa: E402
+from commands import Line, batch, beginning, line  # noqa: E402
 from tests.support import seeds  # noqa: E402  (the top is on the path now)
 
 
-def receipts(count, ids, **more):
+def receipts(count: int, ids: Callable[[int], Sequence[int]], **more: object) -> list[Line]:
     return [line("receive", lot=f"N-{it}", **{"def": "FLOUR"}, amount=500, place="A1", **more) for it in ids(count)]
 
 
-def rising(count):
+def rising(count: int) -> range:
     return range(count)
 
 
-def at_random(count):
+def at_random(count: int) -> list[int]:
     return seeds.chance("ids").sample(range(10 * count), count)
 
 
-def splits(count, ids, source):
+def splits(count: int, ids: Callable[[int], Sequence[int]], source: Callable[[int | None], str]) -> list[Line]:
     """Splits, each off the lot that `source` names of the one before it."""
     numbers = list(ids(count))
-    return [line("split", lot=source(numbers[k - 1] if k else None), sub=0, amount=10**9 - k, new=f"N-{it}", place="A1") for k, it in enumerate(numbers)]
+    return [
+        line("split", lot=source(numbers[k - 1] if k else None), sub=0, amount=10**9 - k, new=f"N-{it}", place="A1")
+        for k, it in enumerate(numbers)
+    ]
 
 
-def diamonds(count):
+def diamonds(count: int) -> list[Line]:
     """Two splits off a lot and the merge of both parts, whose lot is the next one's."""
     lines, lot = [], "F"
     for it in range(count // 3):
@@ -58,13 +65,14 @@ def diamonds(count):
     return lines
 
 
-def orders(count):
+def orders(count: int) -> list[Line]:
     order = {"recipe": "CAKE", "version": 1, "size": 1000000, "due": "2027-03-01", "priority": 5}
-    return [line("import_orders", orders=[{"order": f"O-{it}", **order}]) for it in range(1, count + 1)]
+    files: list[list[Line]] = [[{"order": f"O-{it}", **order}] for it in range(1, count + 1)]
+    return [line("import_orders", orders=it) for it in files]
 
 
 # The kinds of work, with their commands. A batch is there for those that book it, and a lot of 10^12.
-KINDS = {
+KINDS: dict[str, Callable[[int], list[Line]]] = {
     "one lot": lambda n: [line("scrap", lot="F", sub=0, amount=1)] * n,
     "receipts": lambda n: receipts(n, rising),
     "receipts, random ids": lambda n: receipts(n, at_random),
@@ -79,11 +87,17 @@ KINDS = {
 }
 
 
-def text_of(lines):
+class Measure(Protocol):
+    """Runs a program; returns what it took, and the bytes of memory that it had at most, where they are known."""
+
+    def __call__(self, words: Sequence[str | pathlib.Path], told: bytes = b"") -> tuple[float, int | None]: ...
+
+
+def text_of(lines: Sequence[Line]) -> bytes:
     return "".join(json.dumps(it, separators=(",", ":")) + "\n" for it in lines).encode()
 
 
-def spent(words, told=b""):
+def spent(words: Sequence[str | pathlib.Path], told: bytes = b"") -> tuple[float, int]:
     """Runs a program; returns its processor time in seconds, and the bytes of memory that it had at most."""
     with tempfile.TemporaryFile() as given, tempfile.TemporaryFile() as output:
         given.write(told)
@@ -97,19 +111,22 @@ def spent(words, told=b""):
     return used.ru_utime + used.ru_stime, used.ru_maxrss * 1024
 
 
-def instructions(words, told=b""):
+def instructions(words: Sequence[str | pathlib.Path], told: bytes = b"") -> tuple[float, None]:
     """Runs a program under valgrind; returns how many millions of instructions it took, and no memory."""
     words = ["valgrind", "--tool=callgrind", "--callgrind-out-file=/dev/null", *map(str, words)]
     ran = subprocess.run(words, input=told, stdout=subprocess.DEVNULL, stderr=subprocess.PIPE, check=True)
-    return int(re.search(rb"Collected : (\d+)", ran.stderr)[1]) / 10**6, None
+    return int(re.findall(rb"Collected : (\d+)", ran.stderr)[0]) / 10**6, None
 
 
-def copied(file, name):
+def copied(file: pathlib.Path, name: str) -> pathlib.Path:
     """Returns a copy of a file."""
     return pathlib.Path(shutil.copyfile(file, file.with_name(f"{name}-{file.name}")))
 
 
-def cost_of_commands(measure, words, base, name, told, more=()):
+def cost_of_commands(
+    measure: Measure, words: Sequence[str | pathlib.Path], base: pathlib.Path, name: str, told: bytes,
+    more: Sequence[str] = (),
+) -> tuple[float, pathlib.Path]:
     """Returns what the commands cost over a copy of a file, and the file that they leave."""
     empty, _ = measure([*words, copied(base, f"{name}-empty"), *more])
     file = copied(base, name)
@@ -117,7 +134,7 @@ def cost_of_commands(measure, words, base, name, told, more=()):
     return full - empty, file
 
 
-def main():
+def main() -> None:
     parser = argparse.ArgumentParser(description=__doc__, formatter_class=argparse.RawDescriptionHelpFormatter)
     parser.add_argument("--count", type=int, default=20_000)
     parser.add_argument("--folder", default="/dev/shm")
@@ -134,15 +151,17 @@ def main():
             measure_kind(kind, given, programs, pathlib.Path(folder))
 
 
-def measure_kind(kind, given, programs, folder):
+def measure_kind(kind: str, given: argparse.Namespace, programs: dict[str, str], folder: pathlib.Path) -> None:
     """Measures one kind of work, and prints its rows."""
-    measure, told = instructions if given.instructions else spent, text_of(KINDS[kind](given.count))
+    measure: Measure = instructions if given.instructions else spent
+    told = text_of(KINDS[kind](given.count))
     base, first = folder / "base.db", next(iter(programs.values()))
     spent([first, "run", base], text_of([*beginning(), *batch(0)]))
     peer = None
     if not given.instructions:
         peer, _ = cost_of_commands(spent, [sys.executable, HERE / "peer.py"], base, "peer", told, ["wal"])
-    verified = None
+    verified: pathlib.Path | None = None
+    first_opening = 0.0
     for name, program in programs.items():
         took, file = cost_of_commands(measure, [program, "run"], base, name, told)
         verified = verified or file
@@ -151,11 +170,15 @@ def measure_kind(kind, given, programs, folder):
         print(row(kind, name, took, peer, opening, first_opening, peak, verified.stat().st_size), flush=True)
 
 
-def row(kind, name, took, peer, opening, first_opening, peak, size):
+def row(
+    kind: str, name: str, took: float, peer: float | None, opening: float, first_opening: float, peak: int | None,
+    size: int,
+) -> str:
     unit = "s" if peer is not None else "M"
     ratio = f"{took / peer:.2f}" if peer else ""
     memory = f"{peak / 10**6:.0f}" if peak else ""
-    return (f"| {kind} | {name} | {took:.2f} {unit} | {ratio} | {opening:.2f} {unit} | {opening / first_opening:.2f} | {memory} | {size / 10**6:.1f} |")
+    verified = f"{opening:.2f} {unit} | {opening / first_opening:.2f} | {memory} | {size / 10**6:.1f}"
+    return f"| {kind} | {name} | {took:.2f} {unit} | {ratio} | {verified} |"
 
 
 if __name__ == "__main__":

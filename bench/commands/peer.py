@@ -9,17 +9,24 @@ to a file beside, as the desk's commits sync twice. With `memory` the file is co
 elsewhere. It knows no rules but that a stock is enough; a command with a reference is looked up among the receipts, and one is kept of it.
 commands.py runs it.
 """
+from __future__ import annotations
+
 import json
 import os
 import sqlite3
 import sys
+from collections.abc import Sequence
+from typing import Any
 
 EDGES = {"consume": 1, "produce": 2, "split": 3, "merge": 3}
+# The members of a line of JSON that a desk takes.
+Fields = dict[str, Any]
+
 KINDS = {"receive": 1, "consume": 2, "produce": 3, "scrap": 4, "split": 6, "merge": 7}
 
 
 class Store:
-    def __init__(self, path, way):
+    def __init__(self, path: str, way: str) -> None:
         self.second = os.open(f"{path}-second", os.O_CREAT | os.O_WRONLY) if way == "twice" else None
         self.db = sqlite3.connect(path, isolation_level=None)
         if way == "memory":
@@ -29,21 +36,22 @@ class Store:
             self.db.execute(f"PRAGMA journal_mode={'DELETE' if way == 'journal' else 'WAL'}")
             self.db.execute("PRAGMA synchronous=FULL")
 
-    def rows(self, text, *values):
+    def rows(self, text: str, *values: object) -> list[tuple[Any, ...]]:
         return self.db.execute(text, values).fetchall()
 
-    def batch(self, batch):
+    def batch(self, batch: str) -> None:
         self.rows("SELECT * FROM batch WHERE id = ?", batch)
         self.rows("SELECT * FROM control_line WHERE batch = ?", batch)
 
-    def make_lot(self, lot, definition, place, amount):
+    def make_lot(self, lot: str, definition: str, place: str, amount: int) -> None:
         assert not self.rows("SELECT id FROM lot WHERE id = ?", lot)
         self.rows("INSERT INTO lot VALUES (?, ?)", lot, definition)
         self.rows("INSERT INTO sublot VALUES (?, 0, ?, ?)", lot, place, amount)
 
-    def take(self, do, fields):
+    def take(self, do: str, fields: Fields) -> str:
         """Takes an amount out of a sublot, and returns the definition of its goods."""
         lot, amount = fields["lot"], fields["amount"]
+        definition: str
         [(definition,)] = self.rows("SELECT def FROM lot WHERE id = ?", lot)
         [(stock,)] = self.rows("SELECT stock FROM sublot WHERE lot = ? AND no = ?", lot, fields["sub"])
         assert stock >= amount
@@ -56,18 +64,20 @@ class Store:
         self.rows("UPDATE sublot SET stock = ? WHERE lot = ? AND no = ?", stock - amount, lot, fields["sub"])
         return definition
 
-    def once(self, do, fields, line):
+    def once(self, do: str, fields: Fields, line: str) -> int:
         """Executes a command, where it has a reference once, and returns its number."""
         reference = fields.get("ref")
         known = reference and self.rows("SELECT seq, content FROM receipt WHERE id = ?", reference)
         if known:
+            seq: int
             [(seq, content)] = known
             assert content == line
             return seq
         return self.book(do, fields, reference, line)
 
-    def book(self, do, fields, reference, line):
+    def book(self, do: str, fields: Fields, reference: str | None, line: str) -> int:
         """Executes a command, and returns its number."""
+        seq: int
         [(seq, _)] = self.rows("SELECT seq, at FROM meta WHERE k = 1")
         seq += 1
         self.rows("BEGIN IMMEDIATE")
@@ -83,14 +93,14 @@ class Store:
         self.commit(seq)
         return seq
 
-    def import_orders(self, orders):
+    def import_orders(self, orders: Sequence[Fields]) -> None:
         for it in orders:
             assert not self.rows("SELECT * FROM job WHERE id = ?", it["order"])
             assert self.rows("SELECT * FROM recipe WHERE id = ? AND version = ?", it["recipe"], it["version"])
             self.rows("INSERT INTO job VALUES (?, ?, ?, ?, ?, ?, 'open')",
                       it["order"], it["recipe"], it["version"], it["size"], it["due"], it["priority"])
 
-    def move(self, seq, do, fields):
+    def move(self, seq: int, do: str, fields: Fields) -> None:
         """A booking of one movement."""
         lot, batch, new = fields["lot"], fields.get("batch"), fields.get("new")
         if do in ("receive", "produce"):
@@ -104,7 +114,7 @@ class Store:
                 self.make_lot(new, definition, fields["place"], fields["amount"])
         self.write(seq, 1, do, fields, lot, new, fields["amount"])
 
-    def merge(self, seq, fields):
+    def merge(self, seq: int, fields: Fields) -> None:
         """A merge, with a movement for each of its parts."""
         new, parts = fields["new"], fields["parts"]
         definition = [self.take("merge", it) for it in parts][0]
@@ -112,7 +122,7 @@ class Store:
         for number, it in enumerate(parts, 1):
             self.write(seq, number, "merge", fields, it["lot"], new, it["amount"])
 
-    def write(self, seq, number, do, fields, lot, new, amount):
+    def write(self, seq: int, number: int, do: str, fields: Fields, lot: str, new: str | None, amount: int) -> None:
         """Writes a movement and its edge."""
         batch = fields.get("batch")
         self.rows("INSERT INTO movement VALUES (?, ?, ?, ?, 0, ?, ?, ?, ?, ?, ?, '')",
@@ -121,14 +131,14 @@ class Store:
             ends = {1: (lot, batch), 2: (batch, lot), 3: (lot, new)}[EDGES[do]]
             self.rows("INSERT INTO edge VALUES (?, ?, ?) ON CONFLICT DO NOTHING", EDGES[do], *ends)
 
-    def commit(self, seq):
+    def commit(self, seq: int) -> None:
         self.rows("COMMIT")
         if self.second is not None:
             os.pwrite(self.second, seq.to_bytes(8, "little"), 0)
             os.fdatasync(self.second)
 
 
-def main(path, way):
+def main(path: str, way: str) -> None:
     store = Store(path, way)
     for line in sys.stdin.buffer:
         fields = json.loads(line)

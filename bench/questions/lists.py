@@ -6,19 +6,22 @@ For each number a desk is made in a file, which Python's sqlite3 gives so many o
 in a thousand is of a second definition, and a lot more, from which so many amounts were scrapped. Then a run of the desk is asked for the same
 page some times. What is told is the processor time of one: that of the run without that of a run that is asked for nothing.
 """
+from __future__ import annotations
+
 import json
 import pathlib
 import resource
 import sqlite3
 import subprocess
 import sys
+from collections.abc import Iterable, Mapping, Sequence
 
 TIMES = 10_000
 
 # The lot whose ledger is long.
 LONG = "L-LONG"
 
-BASE = [
+BASE: list[dict[str, object]] = [
     {"do": "add_class", "class": "RAW", "name": ""},
     {"do": "add_definition", "def": "SUGAR", "class": "RAW", "name": "", "unit": "g"},
     {"do": "add_definition", "def": "SALT", "class": "RAW", "name": "", "unit": "g"},
@@ -30,27 +33,27 @@ BASE = [
 ]
 
 
-def lines(objects):
+def lines(objects: Iterable[Mapping[str, object]]) -> bytes:
     return "".join(json.dumps(it, separators=(",", ":")) + "\n" for it in objects).encode()
 
 
-def seconds(program, file, told):
+def seconds(program: str, file: pathlib.Path, told: bytes) -> float:
     """The processor time of a run that is told these lines."""
     before = resource.getrusage(resource.RUSAGE_CHILDREN)
     done = subprocess.run([program, "run", file], input=told, stdout=subprocess.PIPE, check=False)
     after = resource.getrusage(resource.RUSAGE_CHILDREN)
     if done.returncode not in (0, 1) or b"BadForm" in done.stdout or b"fault" in done.stdout:
-        sys.exit(f"{program}: {done.returncode} {done.stdout[:200]}")
+        sys.exit(f"{program}: {done.returncode} {done.stdout[:200]!r}")
     return after.ru_utime + after.ru_stime - before.ru_utime - before.ru_stime
 
 
-def filled(program, folder, count):
+def filled(program: str, folder: pathlib.Path, count: int) -> pathlib.Path:
     """The file of a desk with so many orders and lots."""
     file = folder / f"{count}.db"
     told = lines({"at": 1, "by": "", **it} for it in BASE)
     done = subprocess.run([program, "run", file], input=told, stdout=subprocess.PIPE, check=False)
     if done.stdout.count(b'"ok"') != len(BASE):
-        sys.exit(f"{program}: {done.stdout}")
+        sys.exit(f"{program}: {done.stdout!r}")
     store, seq = sqlite3.connect(file), len(BASE)
     orders = ((f"O-{it:07}", "SWEET", 1, 10, "2027-03-08", 5, "cancelled" if it % 10 else "open") for it in range(count))
     store.executemany("INSERT INTO job VALUES (?, ?, ?, ?, ?, ?, ?)", orders)
@@ -69,7 +72,7 @@ def filled(program, folder, count):
     return file
 
 
-def main(program, folder, counts):
+def main(program: str, folder: str, counts: Sequence[int]) -> None:
     for count in counts:
         file = filled(program, pathlib.Path(folder), count)
         idle = min(seconds(program, file, b"") for _ in range(3))

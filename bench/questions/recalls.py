@@ -7,18 +7,22 @@ forward, recalled, asked about and lifted, some times each in turn, every recall
 reached and the middle time of each; of the recall and the lift also how many microseconds a mark they take beyond twice the trace. The
 answers are compared with the trace. At last the file is verified without an open recall, and with one of each of its last 100 lots.
 """
+from __future__ import annotations
+
+import pathlib
 import statistics
 import subprocess
 import sys
 import time
+from collections.abc import Sequence
 
-from genealogy import TIMES, Desk, filled, last, line, name
+from genealogy import TIMES, Desk, Line, filled, last, line, name
 
 # How many recalls are open while the file is verified.
 OPEN = 100
 
 
-def accepted(desk, command):
+def accepted(desk: Desk, command: Line) -> float:
     """Gives a command, which has to be accepted, and returns how long it took."""
     reply, took = desk.send(**command)
     if "ok" not in reply:
@@ -26,7 +30,7 @@ def accepted(desk, command):
     return took
 
 
-def asked(desk, recall, wanted):
+def asked(desk: Desk, recall: str, wanted: Sequence[object]) -> float:
     """Asks about a recall, which has to have these nodes, and returns how long it took."""
     answer, took = desk.send(ask="recall", recall=recall)
     if answer["nodes"] != wanted:
@@ -34,7 +38,7 @@ def asked(desk, recall, wanted):
     return took
 
 
-def turn(desk, recall):
+def turn(desk: Desk, recall: str) -> tuple[int, tuple[float, float, float, float]]:
     """Traces the first lot, recalls it, asks and lifts the recall, and returns how many nodes were reached and how long each took."""
     lot = name(0)
     trace, traced = desk.send(ask="forward", lot=lot)
@@ -46,7 +50,7 @@ def turn(desk, recall):
     return len(reached), (traced, recalled, told, lifted)
 
 
-def measure(desk, title):
+def measure(desk: Desk, title: str) -> None:
     turns = [turn(desk, f"RC-{number}") for number in range(TIMES)]
     marks = turns[0][0]
     traced, recalled, told, lifted = (statistics.median(it) for it in zip(*(times for _, times in turns)))
@@ -56,7 +60,7 @@ def measure(desk, title):
         print(f"  {done} in {took * 1000:.1f} ms, {more:.1f} us a mark beyond two traces")
 
 
-def verified(program, path):
+def verified(program: str, path: pathlib.Path) -> float:
     """Returns the middle time in which the file is verified."""
     times = []
     for _ in range(TIMES):
@@ -68,7 +72,7 @@ def verified(program, path):
     return statistics.median(times)
 
 
-def main(program, folder, *sizes):
+def main(program: str, folder: str, *sizes: str) -> None:
     for shape, edges, path, desk in filled(program, folder, sizes):
         measure(desk, f"{shape} of {edges} edges")
         desk.close()

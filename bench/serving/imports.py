@@ -7,6 +7,8 @@ A served desk over a file takes COUNT order files (100 where it isn't given) by 
 whose orders it has. What is printed is the processor time of the desk for an import, in milliseconds: the mean of each tenth of the
 imports in turn, so that growth shows. FOLDER is in memory where it isn't given, so that no disk is measured.
 """
+from __future__ import annotations
+
 import contextlib
 import http.client
 import pathlib
@@ -14,6 +16,7 @@ import subprocess
 import sys
 import tempfile
 import time
+from collections.abc import Sequence
 
 from serving import free_port
 
@@ -22,12 +25,13 @@ ORDERS = 1000
 RECIPE = """\
 {"at":1,"by":"","do":"add_class","class":"RAW","name":""}
 {"at":1,"by":"","do":"add_definition","def":"DOUGH","class":"RAW","name":"","unit":"kg"}
-{"at":1,"by":"","do":"add_recipe","recipe":"CAKE","version":1,"product":"DOUGH","base":300,"min":100,"max":900,"title":"","lines":[{"kind":"out","def":"DOUGH","qty":300},{"kind":"phase","unit":"MIX","oper":"BLEND","phase":"STIR"}]}
+{"at":1,"by":"","do":"add_recipe","recipe":"CAKE","version":1,"product":"DOUGH","base":300,"min":100,"max":900,"title":"","lines":[\
+{"kind":"out","def":"DOUGH","qty":300},{"kind":"phase","unit":"MIX","oper":"BLEND","phase":"STIR"}]}
 {"at":1,"by":"","do":"approve","recipe":"CAKE","version":1}
 """
 
 
-def order_file(number):
+def order_file(number: int) -> bytes:
     """Returns an order file whose orders no file of another number has."""
     rows = [f"O-{number}-{it},CAKE,1,500,2027-03-01,5" for it in range(ORDERS)]
     return "\n".join(["order,recipe,version,size,due,priority", *rows, ""]).encode()
@@ -36,7 +40,7 @@ def order_file(number):
 class Desk:
     """A served desk over a new file that has the recipe."""
 
-    def __init__(self, program, folder):
+    def __init__(self, program: pathlib.Path, folder: str) -> None:
         file = f"{folder}/plant.db"
         subprocess.run([program, "run", file], input=RECIPE.encode(), check=True, capture_output=True)
         self.port = free_port()
@@ -44,7 +48,7 @@ class Desk:
         while not self.is_ready():
             time.sleep(0.01)
 
-    def is_ready(self):
+    def is_ready(self) -> bool:
         """Whether the desk answers."""
         client = http.client.HTTPConnection("127.0.0.1", self.port)
         with contextlib.suppress(ConnectionRefusedError):
@@ -52,11 +56,11 @@ class Desk:
             return client.getresponse().status == 200
         return False
 
-    def spent(self):
+    def spent(self) -> float:
         """Returns the processor time of the desk so far, in milliseconds."""
         return int(pathlib.Path(f"/proc/{self.process.pid}/schedstat").read_text().split()[0]) / 1e6
 
-    def take(self, body):
+    def take(self, body: bytes) -> float:
         """Imports the order file, and returns the processor time that it took."""
         before = self.spent()
         client = http.client.HTTPConnection("127.0.0.1", self.port)
@@ -67,13 +71,13 @@ class Desk:
         return self.spent() - before
 
 
-def show(what, times):
+def show(what: str, times: Sequence[float]) -> None:
     """Prints the mean of each tenth of the times."""
     tenths = [times[len(times) * it // 10 : len(times) * (it + 1) // 10] for it in range(10)]
     print(f"{what:12}", *(f"{sum(it) / len(it):7.1f}" for it in tenths))
 
 
-def main(program, count="100", folder=None):
+def main(program: str, count: str = "100", folder: str | None = None) -> None:
     with tempfile.TemporaryDirectory(dir=folder or "/dev/shm") as room:
         desk = Desk(pathlib.Path(program).resolve(), room)
         files = [order_file(it) for it in range(int(count))]

@@ -43,17 +43,20 @@ TIMED = """(async () => {
 })()"""
 
 
-def orders(count, now):
+def orders(count: int, now: int) -> bytes:
     """Returns the command that imports so many orders, due from 5 days before a moment to 55 days behind it."""
     due = [time.strftime("%Y-%m-%d", time.localtime(now + 86_400 * (it * 7 % 60 - 5))) for it in range(count)]
-    rows = [{"order": f"P-{it:04}", "recipe": "BREAD", "version": 1, "size": 100 + it % 300, "due": due[it], "priority": 1 + it % 9} for it in range(count)]
+    rows = [
+        {"order": f"P-{it:04}", "recipe": "BREAD", "version": 1, "size": 100 + it % 300, "due": due[it], "priority": 1 + it % 9}
+        for it in range(count)
+    ]
     return json.dumps({"at": now, "by": "anna", "do": "import_orders", "orders": rows}).encode() + b"\n"
 
 
-def fill(file, seq, movements):
+def fill(file: pathlib.Path, seq: int, movements: int) -> None:
     """Adds so many movements to a file that has so many commands."""
     lots = [f"L-{it:06}" for it in range((movements - FAN) // 2)]
-    tables = {"lot": [(it, "FLOUR") for it in lots], "sublot": [], "movement": []}
+    tables: dict[str, list[sqlite.Row]] = {"lot": [(it, "FLOUR") for it in lots], "sublot": [], "movement": []}
     for number, lot in enumerate(lots):
         left = number % 2
         tables["movement"] += [received_row(seq + 1, lot, 1 + left), scrapped_row(seq + 2, lot)]
@@ -70,12 +73,12 @@ def fill(file, seq, movements):
     sqlite.changed(file, f"UPDATE meta SET at = {at}")
 
 
-def measure(tab, name, code):
+def measure(tab: browser.Tab, name: str, code: str) -> None:
     milliseconds, requests = tab.run(TIMED % code)
     print(f"{name}: {milliseconds:.0f} ms, {requests} requests", flush=True)
 
 
-def main():
+def main() -> None:
     movements, count = [int(it) for it in sys.argv[1:3]] + [100_000, 900][len(sys.argv) - 1:]
     now = int(time.time())
     place = cases.MEMORY if cases.MEMORY.is_dir() else None

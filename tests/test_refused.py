@@ -6,8 +6,10 @@ hasn't.
 """
 from __future__ import annotations
 
+import pathlib
 import shutil
 import subprocess
+from collections.abc import Callable, Sequence
 
 from tests.support import faults, http, sessions, sqlite
 from tests.support.cases import DeskTestCase, ProgramTestCase, good
@@ -47,7 +49,14 @@ JOBS = [
 COMMAND = posted("/v1/commands", b'{"at":400,"by":"","do":"receive","lot":"F-2","def":"FLOUR","amount":7,"place":""}')
 
 
-def last_number(is_refused):
+# Looks at what is behind a refusal: by the case, the server, and what it answered.
+CheckBehind = Callable[[str, Server, str], None]
+
+# How an import ends that is made again, the orders that the file has then, and how it is verified.
+Imported = tuple[Ended, list[sqlite.Row], Ended]
+
+
+def last_number(is_refused: Callable[[int], bool]) -> int:
     """Returns the greatest number of an allocation for which this holds; it holds of all below."""
     low, high = 0, MANY
     while low + 1 < high:
@@ -59,12 +68,14 @@ def last_number(is_refused):
 class RefusedMemory(DeskTestCase):
     """A server over a file of twenty commands."""
 
+    first: pathlib.Path
+
     @classmethod
-    def setUpClass(cls):
+    def setUpClass(cls) -> None:
         super().setUpClass()
         cls.first = cls.keep(cls.class_folder(), "first", sessions.twenty_commands())
 
-    def server(self, number, connections):
+    def server(self, number: int, connections: int) -> Server:
         """Starts a server over a fresh copy of the file, of which the allocation of this number is refused; then the mark is made."""
         self.mark = self.folder / "refused"
         for it in (self.mark, self.folder / "served.db", self.folder / "served.db-wal"):
@@ -72,20 +83,20 @@ class RefusedMemory(DeskTestCase):
         shutil.copyfile(self.first, self.folder / "served.db")
         return Server(self.desk, "served.db", connections, env=faults.refused_memory(number, self.mark))
 
-    def has_refused(self, number, requests):
+    def has_refused(self, number: int, requests: Sequence[bytes]) -> bool:
         """Returns whether the allocation of this number comes within the requests or before them."""
         with self.server(number, len(requests)) as server:
             for it in requests:
                 server.answered_or_broken(it)
             return self.mark.exists()
 
-    def numbers_of(self, request):
+    def numbers_of(self, request: bytes) -> range:
         """Returns the numbers of some allocations of a request that comes behind another question."""
         first = last_number(lambda number: self.has_refused(number, [ASK])) + 1
         last = last_number(lambda number: self.has_refused(number, [ASK, request]))
         return range(first, last + 1, max(1, (last - first) // SAMPLES))
 
-    def check_refusals(self, name, request, whole, check_behind):
+    def check_refusals(self, name: str, request: bytes, whole: bytes, check_behind: CheckBehind) -> None:
         """Refuses allocations of a request, one at a time, and has what is behind each looked at."""
         ends = {"answered": 0, "memory": 0, "store": 0, "nothing": 0}
         for number in self.numbers_of(request):
@@ -93,27 +104,27 @@ class RefusedMemory(DeskTestCase):
                 self.check(f"{name}, the question before", server.answered_or_broken(ASK), desk_answer(SEQ))
                 found = server.answered_or_broken(request)
                 told = {whole: "answered", MEMORY: "memory", STORE: "store", b"": "nothing"}.get(found, "otherwise")
-                self.check_true(f"{name}, allocation {number}, {found}", told in ends)
+                self.check_true(f"{name}, allocation {number}, {found!r}", told in ends)
                 ends[told] = ends.get(told, 0) + 1
                 check_behind(f"{name}, allocation {number}, told {told}", server, told)
         self.check_true(f"{name}: {ends}", ends["memory"] > 0 and ends["nothing"] <= MOST_UNANSWERED)
         self.note(f"{name}: {ends}")
 
-    def test_question_is_answered_again_behind_refused_memory(self):
+    def test_question_is_answered_again_behind_refused_memory(self) -> None:
         with self.server(0, 1) as server:
             whole = server.answered_or_broken(QUESTION)
         self.check("a question", whole[:17], b"HTTP/1.1 200 OK\r\n")
 
-        def check_behind(case, server, _):
+        def check_behind(case: str, server: Server, _: str) -> None:
             self.check(f"{case}, the same again", server.answered_or_broken(QUESTION), whole)
             self.check_end(case, server, http.WELL)
 
         self.check_refusals("a question", QUESTION, whole, check_behind)
 
-    def test_command_that_is_told_refused_memory_changed_nothing(self):
+    def test_command_that_is_told_refused_memory_changed_nothing(self) -> None:
         self.check_refusals("a command", COMMAND, answer('{"ok":%d}' % (SEQ + 1)), self.check_behind_command)
 
-    def check_behind_command(self, case, server, told):
+    def check_behind_command(self, case: str, server: Server, told: str) -> None:
         """Looks where the desk stands, unless a fault of the store has shut it; then what the file holds."""
         if told == "store":
             self.check_end(case, server, (3, b"", b"fault: store\n"))
@@ -123,7 +134,7 @@ class RefusedMemory(DeskTestCase):
         found, kept = self.desk.run("verify", "served.db"), [good(it) for it in (SEQ, SEQ + 1)]
         self.check_true(f"{case}, the file {found}", found in (kept if told == "store" else [kept[told == "answered"]]))
 
-    def check_end(self, case, server, wanted):
+    def check_end(self, case: str, server: Server, wanted: tuple[int, bytes, bytes]) -> None:
         ended = server.end()
         self.check(f"{case}, the server", (ended.status, ended.errors), (wanted[0], wanted[2]))
 
@@ -140,16 +151,20 @@ class RefusedRuns(ProgramTestCase):
     # Over a file the allocations of each so many-th number are refused.
     STEP = 23
 
-    def setUp(self):
+    def setUp(self) -> None:
         super().setUp()
         self.mark = self.folder / "refused"
 
-    def check_runs(self, case, program, words, told, step=1, before=None, after=None):
+    def check_runs(
+        self, case: str, program: Program, words: Sequence[str], told: bytes, step: int = 1,
+        before: Callable[[], None] | None = None, after: Callable[[str, Ended, str | None], None] | None = None,
+    ) -> None:
         """Refuses allocations of a run in turn, up to the first number that it doesn't come to. `before` makes the file anew, and `after` looks at
         what a run left in it."""
         if before:
             before()
-        whole, ends = program.run(*words, told=told), {}
+        whole = program.run(*words, told=told)
+        ends: dict[str | None, int] = {}
         for number in faults.numbers(1, step):
             self.mark.unlink(missing_ok=True)
             if before:
@@ -166,19 +181,19 @@ class RefusedRuns(ProgramTestCase):
         self.check_true(f"{case}: {ends}", ends.get("want of memory"))
         self.note(f"{case}, of {number - 1} allocations{f' each {step}th' if step > 1 else ''}: {ends}")
 
-    def test_keeper_of_lists_answers_a_front_of_twenty_commands(self):
+    def test_keeper_of_lists_answers_a_front_of_twenty_commands(self) -> None:
         told = sessions.twenty_commands().told + QUESTIONS
         self.check_runs("twenty commands over lists", Program("lists", self.folder), [], told)
 
-    def test_order_check_reports_want_of_memory(self):
+    def test_order_check_reports_want_of_memory(self) -> None:
         check = Program("order_check", self.folder)
         for case, told in [("orders", ORDERS), ("no orders", b"orders\n"), ("a bad row", ORDERS + b"O-9\n")]:
             self.check_runs(f"order_check of {case}", check, [], told)
 
-    def test_desk_keeps_a_front_of_twenty_commands(self):
+    def test_desk_keeps_a_front_of_twenty_commands(self) -> None:
         session = sessions.twenty_commands()
 
-        def check_kept(case, found, _):
+        def check_kept(case: str, found: Ended, _: str | None) -> None:
             count = found.output.count(b'{"ok":')
             kept = Program("desk", self.folder).run("verify", "run.db")
             # A file whose desk wasn't made yet has accepted nothing.
@@ -187,12 +202,12 @@ class RefusedRuns(ProgramTestCase):
         desk, told = Program("desk", self.folder), session.told
         self.check_runs("twenty commands over a file", desk, ["run", "run.db"], told, self.STEP, self.removed("run.db"), check_kept)
 
-    def test_desk_reports_want_of_memory_in_each_word(self):
+    def test_desk_reports_want_of_memory_in_each_word(self) -> None:
         desk, session = Program("desk", self.folder), sessions.whole_batch()
         self.check("a batch", desk.run("run", "first.db", told=session.told), session.ended())
         count = session.count()
 
-        def check_kept(case, found, _):
+        def check_kept(case: str, found: Ended, _: str | None) -> None:
             kept = desk.run("verify", "copy.db")
             self.check_true(f"{case}, kept {kept}", kept in [good(count), good(count + 1)][: 1 + is_import])
 
@@ -206,14 +221,23 @@ class RefusedRuns(ProgramTestCase):
             is_import = words[0] == "import"
             self.check_runs(" ".join(words), desk, words, told, self.STEP, self.copied("first.db", "copy.db"), check_kept)
 
-    def removed(self, file):
+    def removed(self, file: str) -> Callable[[], None]:
         """Returns what removes a file with its log."""
-        return lambda: [(self.folder / f"{file}{it}").unlink(missing_ok=True) for it in ("", "-wal")]
+        def remove() -> None:
+            for it in ("", "-wal"):
+                (self.folder / f"{file}{it}").unlink(missing_ok=True)
 
-    def copied(self, first, file):
+        return remove
+
+    def copied(self, first: str, file: str) -> Callable[[], None]:
         """Returns what makes a file anew as a copy."""
         removed = self.removed(file)
-        return lambda: (removed(), shutil.copyfile(self.folder / first, self.folder / file))
+
+        def copy() -> None:
+            removed()
+            shutil.copyfile(self.folder / first, self.folder / file)
+
+        return copy
 
 
 class RefusedImport(DeskTestCase):
@@ -228,30 +252,33 @@ class RefusedImport(DeskTestCase):
     # While the file is opened the allocations of each so many-th number are refused.
     STEP = 23
 
+    first: pathlib.Path
+
     @classmethod
-    def setUpClass(cls):
+    def setUpClass(cls) -> None:
         super().setUpClass()
         cls.first = cls.keep(cls.class_folder(), "planned", Session().accepted(*PLANNED))
 
-    def setUp(self):
+    def setUp(self) -> None:
         super().setUp()
         self.file, self.log, self.mark = (self.folder / it for it in ("plant.db", "plant.db-wal", "refused"))
-        self.words, self.imported = ["import", self.file.name, "--at", "400"], {}
+        self.words = ["import", self.file.name, "--at", "400"]
+        self.imported: dict[tuple[bytes, ...], Imported] = {}
 
-    def clear(self):
+    def clear(self) -> None:
         """Makes the file anew."""
         for it in (self.log, self.mark):
             it.unlink(missing_ok=True)
         shutil.copyfile(self.first, self.file)
 
-    def is_refused_unread(self, number):
+    def is_refused_unread(self, number: int) -> bool:
         """Returns whether the allocation of this number comes before the first read of the order file, of which nothing is given here."""
         self.clear()
         with self.desk.start(*self.words, stdin=subprocess.PIPE, env=faults.refused_memory(number, self.mark)) as waiting:
             wait_for(waiting, "SZ")
             return self.mark.exists()
 
-    def import_again(self):
+    def import_again(self) -> Imported:
         """Imports the order file without refusals, once over the same bytes; returns how that ends, and what the file has then."""
         left = tuple(it.read_bytes() if it.exists() else b"" for it in (self.file, self.log))
         if left not in self.imported:
@@ -259,14 +286,15 @@ class RefusedImport(DeskTestCase):
             self.imported[left] = ended, sqlite.rows(self.file, "SELECT * FROM job ORDER BY id"), self.desk.run("verify", self.file.name)
         return self.imported[left]
 
-    def check_import(self, number, ends):
+    def check_import(self, number: int, ends: dict[str | None, int]) -> bool:
         """Imports the order file with the allocation of this number refused, and once more; notes the end, and returns whether it was refused."""
         self.clear()
         found = self.desk.run(*self.words, told=ORDER_FILE, env=faults.refused_memory(number, self.mark))
         end = how_ended(found, Ended(0, replies(len(PLANNED) + 1, 1), b""))
         case, is_refused = f"allocation {number}, {found}", self.mark.exists()
         again, jobs, verified = self.import_again()
-        counts = {"all was done": (1,), "the store failed": (0, 1), "want of memory": (0,), "no words": (0,)}.get(end, ())
+        counts_by_end = {"all was done": [1], "the store failed": [0, 1], "want of memory": [0], "no words": [0]}
+        counts = counts_by_end.get(end or "", [])
         # An import of orders that are there is accepted, and takes none.
         kept = [it for it in counts if again == (0, replies(len(PLANNED) + it + 1, 1), b"")]
         self.check_true(f"{case}, the same again {again}", kept)
@@ -277,8 +305,10 @@ class RefusedImport(DeskTestCase):
         ends[end] = ends.get(end, 0) + is_refused
         return is_refused
 
-    def test_order_file_is_imported_whole_or_not_at_all(self):
-        unread, ends, read_ends = last_number(self.is_refused_unread), {}, {}
+    def test_order_file_is_imported_whole_or_not_at_all(self) -> None:
+        unread = last_number(self.is_refused_unread)
+        ends: dict[str | None, int] = {}
+        read_ends: dict[str | None, int] = {}
         for number in range(1, unread + 1, self.STEP):
             self.check_import(number, ends)
         for number in faults.numbers(unread + 1):
@@ -290,7 +320,7 @@ class RefusedImport(DeskTestCase):
         self.note(f"an import, each of {number - unread - 1} allocations behind the first read: {read_ends}")
 
 
-def how_ended(found, whole):
+def how_ended(found: Ended, whole: Ended) -> str | None:
     """Returns how a run ended of which an allocation was refused, next to how it ends without that; nothing where it ended wrongly."""
     if found == whole:
         return "all was done"

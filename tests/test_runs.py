@@ -8,7 +8,7 @@ import sys
 
 from tests.support import faults, seeds
 from tests.support.cases import FolderTestCase
-from tests.support.program import SECONDS, TOP
+from tests.support.program import SECONDS, TOP, File
 
 # A module whose tests make a number by chance, find no tool twice, and are skipped.
 SMALL = """
@@ -41,22 +41,23 @@ class Failing(CountedTestCase):
 class Runs(FolderTestCase):
     """Runs of the small module by tests/run.py."""
 
-    def run_small(self, *words, wanted=1, **variables):
-        """Returns the status of a run, and the lines that it printed. Where `wanted` isn't 1 a test fails."""
+    def run_small(self, *words: str, wanted: int = 1, seed: str | None = None) -> tuple[int, list[str]]:
+        """Returns the status of a run, and the lines that it printed. Where `wanted` isn't 1 a test fails. The variable DESK_SEED says the
+        seed, where there is one."""
         (self.folder / "small.py").write_text(SMALL % wanted)
         environment = {name: value for name, value in os.environ.items() if name != seeds.VARIABLE}
-        environment.update(PYTHONPATH=str(self.folder), **variables)
-        words = [sys.executable, TOP / "tests/run.py", *words, "small"]
-        ran = subprocess.run(words, env=environment, capture_output=True, text=True, timeout=SECONDS)
+        environment.update({"PYTHONPATH": str(self.folder), **({seeds.VARIABLE: seed} if seed else {})})
+        run: list[File] = [sys.executable, TOP / "tests/run.py", *words, "small"]
+        ran = subprocess.run(run, env=environment, capture_output=True, text=True, timeout=SECONDS)
         return ran.returncode, ran.stdout.splitlines()
 
-    def numbers(self, *words, **variables):
+    def numbers(self, *words: str, seed: str | None = None) -> list[str]:
         """Returns the seed and the number by chance of a run, as it printed them."""
-        status, lines = self.run_small(*words, **variables)
-        self.check(f"the status with {words} and {variables}", status, 0)
+        status, lines = self.run_small(*words, seed=seed)
+        self.check(f"the status with {words} and the variable {seed}", status, 0)
         return re.findall(r"^small: (?:seed|by chance) (\d+)$", "\n".join(lines), re.M)
 
-    def test_what_was_left_out_is_printed_behind_the_counts_with_its_reason(self):
+    def test_what_was_left_out_is_printed_behind_the_counts_with_its_reason(self) -> None:
         status, lines = self.run_small()
         self.check("the status", status, 0)
         last = lines.index("small: 3 cases checked by 4 tests")
@@ -67,31 +68,31 @@ class Runs(FolderTestCase):
         ])
         self.check_true(f"the last line, {lines[-1]}", re.fullmatch(r"4 tests checked 3 cases in .*; all as wanted; 3 left out", lines[-1]))
 
-    def test_what_a_failing_module_left_out_is_printed_too(self):
+    def test_what_a_failing_module_left_out_is_printed_too(self) -> None:
         status, lines = self.run_small(wanted=2)
         self.check("the status", status, 1)
         self.check("how many lines", sum(it.startswith("left out: ") for it in lines[-4:-1]), 3)
         self.check_true(f"the last line, {lines[-1]}", lines[-1].endswith("; failed: small.Failing; 3 left out"))
         self.check_true("the seed is printed where the test failed", "small: seed 42" in lines[:lines.index("small: 3 cases checked by 4 tests") - 2])
 
-    def test_run_that_leaves_nothing_out_says_so(self):
+    def test_run_that_leaves_nothing_out_says_so(self) -> None:
         status, lines = self.run_small("-k", "Failing")
         self.check_true(f"the last line, {lines[-1]}", (status, lines[-1][-18:]) == (0, "; nothing left out"))
 
-    def test_seed_is_printed_and_decides_what_is_made_by_chance(self):
+    def test_seed_is_printed_and_decides_what_is_made_by_chance(self) -> None:
         usual = self.numbers()
         self.check("the usual seed, once", usual[:-1], ["42"])
         self.check("the same run again", self.numbers(), usual)
         other = self.numbers("--seed", "7")
         self.check_true(f"another seed, {other}", other[:-1] == ["7"] and other[-1] != usual[-1])
-        self.check("the seed by the variable", self.numbers(DESK_SEED="7"), other)
-        self.check("an option goes before the variable", self.numbers("--seed", "42", DESK_SEED="7"), usual)
+        self.check("the seed by the variable", self.numbers(seed="7"), other)
+        self.check("an option goes before the variable", self.numbers("--seed", "42", seed="7"), usual)
 
 
 class Loops(FolderTestCase):
     """Loops over faults."""
 
-    def test_loop_in_which_no_run_gets_through_fails_behind_5000_runs(self):
+    def test_loop_in_which_no_run_gets_through_fails_behind_5000_runs(self) -> None:
         for first, step, last in [(1, 1, 5_000), (0, 1, 4_999), (1, 23, 114_978)]:
             tried = []
             with self.assertRaises(AssertionError):

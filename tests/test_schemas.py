@@ -9,13 +9,14 @@ import math
 import re
 import subprocess
 import sys
+from collections.abc import Iterator, Sequence
 
-from tests.support import scenarios, sessions
+from tests.support import Json, scenarios, sessions
 from tests.support.cases import DeskTestCase, ProgramTestCase
 from tests.support.commands import EACH_COMMAND, line
 from tests.support.http import Server, posted
-from tests.support.program import TOP, Program, path_of
-from tests.support.schema import flaws
+from tests.support.program import TOP, File, Program, path_of
+from tests.support.schema import Schema, flaws
 from tests.support.sessions import Session
 
 SCHEMA = json.loads((TOP / "docs/schema.json").read_text())
@@ -34,8 +35,8 @@ TOGETHER = re.compile(
 
 # Values at the ends of the rules, and beyond them.
 VALUES = [
-    "", "A", "a", "1", "-", "A-1", "A_1", "1A", "A" * 24, "A" * 25, "A\n", " ", "~", "~" * 8, "x" * 9, " " * 60, " " * 61, "\u00e4", "\t", "kg", "k g",
-    "2027-03-01", "2027-02-29", "2028-02-29", "2000-02-29", "2099-12-31", "2100-01-01", "1999-12-31", "2027-04-31", "2027-13-01", "2027-3-1",
+    "", "A", "a", "1", "-", "A-1", "A_1", "1A", "A" * 24, "A" * 25, "A\n", " ", "~", "~" * 8, "x" * 9, " " * 60, " " * 61, "\u00e4", "\t", "kg",
+    "k g", "2027-03-01", "2027-02-29", "2028-02-29", "2000-02-29", "2099-12-31", "2100-01-01", "1999-12-31", "2027-04-31", "2027-13-01", "2027-3-1",
     "2027-03-01.O-1", "2027-02-29.O-1", "2027-03-01.", "A.1", "A.001", "A.1000", "A.", ".1", "A.B", "a.B", "A.B.C", "1.1", "1.A", "0" * 16 + ".0",
     "0" * 17 + ".0", "1.1000", "start", "done", "Start", "open", "lifted", "draft", "approved", "in", "out", "par", "phase", "desk", "receive",
     0, 1, 9, 10, 128, 129, 999, 1000, 10**12, 253_402_300_799, 253_402_300_800, 10**15, 10**15 + 1, 2**64, -1, 0.5, True, False, None, [], {}, [1],
@@ -60,14 +61,14 @@ LISTS = {
 }
 
 
-def number(text):
+def number(text: str) -> int | tuple[str]:
     """Returns a number, and a tuple, which obeys no schema, where the text isn't written as a whole number: to JSON Schema 1.0 is one."""
     if math.isinf(float(text)):
         raise ValueError(f"{text} is no number that is read")
     return int(text) if re.fullmatch("-?[1-9][0-9]*|0", text) else (text,)
 
 
-def read(line):
+def read(line: bytes) -> Json:
     """Returns the value of a line, or None where it is no JSON text that is read."""
     if b"[" * NESTED in line:
         return None
@@ -77,25 +78,25 @@ def read(line):
         return None
 
 
-def shape_of(value):
+def shape_of(value: Json) -> Schema:
     """Returns the schema of the command or question of a value's word, and that of all lines where it has none."""
     names = [f"{word}_{value[word]}" for word in ("do", "ask") if word in value] if isinstance(value, dict) else []
     return next((DEFS[it] for it in names if it in DEFS), SCHEMA)
 
 
-def line_of(told):
+def line_of(told: bytes) -> bytes:
     """Returns a line without the LF that ends it and the CR before that."""
     return told[:-1].removesuffix(b"\r") if told.endswith(b"\n") else told
 
 
-def reasons(line_check, lines):
+def reasons(line_check: Program, lines: Sequence[bytes]) -> list[bytes | None]:
     """Returns what line_check says of each of these lines, nothing where it is good."""
     ended = line_check.run(told=b"".join(it + b"\n" for it in lines))
     said = dict(re.findall(rb"^line (\d+): (.*)$", ended.output, re.M))
     return [said.get(b"%d" % number) for number in range(1, len(lines) + 1)]
 
 
-def sample(name, schema):
+def sample(name: str, schema: Schema) -> Json:
     """Returns a value that obeys the schema of a member of this name."""
     if name in LISTS:
         return copy.deepcopy(LISTS[name])
@@ -104,7 +105,7 @@ def sample(name, schema):
     return schema.get("const", schema.get("minimum", {}))
 
 
-def shapes():
+def shapes() -> Iterator[tuple[str, dict[str, Json]]]:
     """Yields each shape of a line: the name of its definition, and an object that has all its members."""
     for name in DEFS:
         if name.startswith(("do_", "ask_")):
@@ -112,7 +113,7 @@ def shapes():
                 yield name, {member: sample(member, schema) for member, schema in it["properties"].items()}
 
 
-def changed(whole):
+def changed(whole: dict[str, Json]) -> Iterator[dict[str, Json]]:
     """Yields an object with each of its members left out or put in the place of another value, and with a further one; its lists likewise."""
     yield whole
     yield {**whole, "further": 1}
@@ -132,16 +133,16 @@ class Schemas(ProgramTestCase):
 
     PROGRAMS = ("line_check",)
 
-    def setUp(self):
+    def setUp(self) -> None:
         super().setUp()
         self.line_check = Program("line_check", self.folder)
 
-    def test_documents_are_what_the_program_gives(self):
-        words = [sys.executable, TOP / "make/schemas.py", path_of("line_check"), "--check"]
+    def test_documents_are_what_the_program_gives(self) -> None:
+        words: list[File] = [sys.executable, TOP / "make/schemas.py", path_of("line_check"), "--check"]
         ran = subprocess.run(words, stdin=subprocess.DEVNULL, capture_output=True, text=True, cwd=self.folder)
         self.check("make/schemas.py --check", (ran.returncode, ran.stdout, ran.stderr), (0, "", ""))
 
-    def test_schema_is_printed_whatever_file_is_named_and_read(self):
+    def test_schema_is_printed_whatever_file_is_named_and_read(self) -> None:
         plain = self.line_check.run("--schema")
         self.check("the schema", (plain.status, plain.errors, json.loads(plain.output)["$defs"].keys() - DEFS.keys()), (0, b"", set()))
         self.check("a file that isn't there", self.line_check.run("none.jsonl", "--schema"), plain)
@@ -150,14 +151,14 @@ class Schemas(ProgramTestCase):
             ended = self.line_check.run("--schema", stdout=full)
         self.check("a full device", (ended.status, ended.errors), (3, b"fault: write\n"))
 
-    def test_words_are_those_of_the_documents(self):
+    def test_words_are_those_of_the_documents(self) -> None:
         formats = (TOP / "docs/FORMATS.md").read_text()
         commands = re.findall(r"^\| `(\w+)` \|", formats.partition("\n| `do` | fields |")[2].partition("\nValues:\n")[0], re.M)
         questions = set(re.findall(r'"ask":"(\w+)"', formats)) | {"forward", "forward_edges"}
         self.check("commands", sorted(it[3:] for it in DEFS if it.startswith("do_")), sorted(commands))
         self.check("questions", sorted(it[4:] for it in DEFS if it.startswith("ask_")), sorted(questions))
 
-    def test_each_member_is_read_as_the_schema_says(self):
+    def test_each_member_is_read_as_the_schema_says(self) -> None:
         """Changes each member of each shape to all values, and compares the verdict of the schema with that of the reader."""
         for name, whole in shapes():
             self.check(f"a whole {name}", flaws(whole, DEFS[name], SCHEMA), [])
@@ -169,7 +170,7 @@ class Schemas(ProgramTestCase):
             self.check(f"{name}, where the schema and line_check differ", wrong, [])
 
     @staticmethod
-    def agree(name, value, reason):
+    def agree(name: str, value: Json, reason: bytes | None) -> bool:
         """Returns whether the schema says of a line what line_check says, which judges it also as a whole. With another word it is another shape."""
         found = flaws(value, DEFS[name] if shape_of(value) is DEFS[name] else SCHEMA, SCHEMA)
         return bool(found) == (reason is not None and not TOGETHER.search(reason))
@@ -181,8 +182,9 @@ class Sessions(ProgramTestCase):
     PROGRAMS = ("line_check",)
     IS_LONG = True
 
-    def test_lines_replies_and_answers_of_the_sessions_obey(self):
-        seen, doubtful = set(), []
+    def test_lines_replies_and_answers_of_the_sessions_obey(self) -> None:
+        seen: set[tuple[bytes, bytes]] = set()
+        doubtful: list[bytes] = []
         for session in scenarios.every():
             told = [it for it in map(line_of, sessions.lines_of(session.told)) if it]
             for line, reply in set(zip(told, sessions.lines_of(session.wanted))) - seen:
@@ -192,17 +194,18 @@ class Sessions(ProgramTestCase):
         self.check_true(f"{len(seen)} lines are many", len(seen) > 5_000)
         doubtful = [it for it in doubtful if len(it) <= sessions.LINE_LIMIT]
         for line, reason in zip(doubtful, reasons(Program("line_check", self.folder), doubtful)):
-            self.check_true(f"the schema can't judge {line[:300]}: {reason}", reason and TOGETHER.search(reason))
+            self.check_true(f"the schema can't judge {line[:300]!r}: {reason!r}", reason and TOGETHER.search(reason))
 
-    def check_line(self, case, line, reply):
+    def check_line(self, case: str, line: bytes, reply: Json) -> bool:
         """Checks a line and its reply. Returns whether the schema says of the line what the desk says."""
         value = read(line)
-        found, is_bad = flaws(value, shape_of(value), SCHEMA), reply == BAD_FORM
+        found = flaws(value, shape_of(value), SCHEMA)
+        is_bad: bool = reply == BAD_FORM
         if not is_bad:
-            self.check(f"{case}: {line[:300]}", found, [])
+            self.check(f"{case}: {line[:300]!r}", found, [])
         is_reply = set(reply) <= {"ok", "name", "refused"}
         name = "reply" if is_reply else f"answer_{value['ask']}"
-        self.check(f"{case}: {line[:200]}, and its reply", flaws(reply, DEFS[name], SCHEMA), [])
+        self.check(f"{case}: {line[:200]!r}, and its reply", flaws(reply, DEFS[name], SCHEMA), [])
         return bool(found) == is_bad
 
 
@@ -223,12 +226,12 @@ PLACES = {
 HOST = "Host: 127.0.0.1"
 
 
-def request(method, path, *fields, version="1.1"):
+def request(method: str, path: str, *fields: str, version: str = "1.1") -> bytes:
     """Returns a request without a body."""
     return "\r\n".join([f"{method} {path} HTTP/{version}", HOST, *fields, "", ""]).encode()
 
 
-def resolved(schema):
+def resolved(schema: Schema) -> Schema:
     """Returns what a reference is to, and any other schema as it stands."""
     while "$ref" in schema:
         target = OPENAPI
@@ -238,7 +241,7 @@ def resolved(schema):
     return schema
 
 
-def filled(path):
+def filled(path: str) -> Iterator[tuple[str, bool]]:
     """Yields a path with its parameters filled in, and whether each obeys its schema."""
     given = OPENAPI["paths"][path].get("parameters", [])
     for values in itertools.product(*(PLACES[it["name"]] for it in given)):
@@ -251,15 +254,15 @@ def filled(path):
 class Http(DeskTestCase):
     """The description of HTTP, held against the desk that serves."""
 
-    def setUp(self):
+    def setUp(self) -> None:
         super().setUp()
         session = Session().accepted(*(body for body, _ in EACH_COMMAND), '"do":"hold","lot":"F-1","hold":"H-9","ref":"K-1"')
         self.check_run("the desk of the tests", ["run", "plant.db"], session.ended(), session.told)
 
-    def serve(self, *options):
+    def serve(self, *options: str) -> Server:
         return Server(self.desk, "plant.db", 1_000_000, *options)
 
-    def check_answer(self, case, path, method, answer):
+    def check_answer(self, case: str, path: str, method: str, answer: bytes) -> tuple[str, Json]:
         """Checks an answer to a request by the description; returns its status and its body."""
         head, _, text = answer.partition(b"\r\n\r\n")
         lines = head.decode().split("\r\n")
@@ -274,10 +277,10 @@ class Http(DeskTestCase):
         kind = fields["Content-Type"]
         value = json.loads(text) if kind == "application/json" else text.decode()
         if self.check_true(f"{case}: {kind} is described", kind in content):
-            self.check(f"{case}: {text[:200]}", flaws(value, content[kind]["schema"], OPENAPI), [])
+            self.check(f"{case}: {text[:200]!r}", flaws(value, content[kind]["schema"], OPENAPI), [])
         return status, value
 
-    def test_each_question_is_answered_as_described(self):
+    def test_each_question_is_answered_as_described(self) -> None:
         """Asks each path with all that may be in it: it is 404 by its form exactly where a parameter breaks its schema."""
         with self.serve() as server:
             for path, methods in OPENAPI["paths"].items():
@@ -291,7 +294,7 @@ class Http(DeskTestCase):
                     statuses.add(status)
                 self.check_true(f"{path} is answered", "200" in statuses)
 
-    def test_each_booking_is_answered_as_described(self):
+    def test_each_booking_is_answered_as_described(self) -> None:
         head, row = b"order,recipe,version,size,due,priority\n", b"O-9,CAKE,1,500,2027-03-01,5\n"
         good, bad = line('"do":"add_class","class":"NEW","name":""'), line('"do":"add_class","class":"new","name":""')
         at = ("Desk-At: 1000", "Desk-By: anna", "Desk-Ref: K-2")
@@ -309,10 +312,11 @@ class Http(DeskTestCase):
                 ("/v1/orders", head + row[:9], at, "400"),
                 ("/v1/orders", head + row, (), "400"),
             ]:
-                status, _ = self.check_answer(f"{path}, {text[:80]}", path, "post", server.answered(posted(path, text, *fields)))
-                self.check(f"{path}, {text[:80]}", status, wanted)
+                case, answer = f"{path}, {text[:80]!r}", server.answered(posted(path, text, *fields))
+                status, _ = self.check_answer(case, path, "post", answer)
+                self.check(case, status, wanted)
 
-    def test_paths_have_the_methods_that_are_described_and_no_others(self):
+    def test_paths_have_the_methods_that_are_described_and_no_others(self) -> None:
         source = (TOP / "crates/plant_http_routes/src/routes.rt").read_text()
         routes = set(re.findall(r'insert\(\s*"(/[^"]*)"', source))
         self.check("paths", set(OPENAPI["paths"]), {*routes, "/"})
@@ -326,7 +330,7 @@ class Http(DeskTestCase):
                 self.check(f"methods of {place}", sorted(allowed[1].decode().split(", ")) if allowed else None, known)
                 self.check(f"below {place}", server.answered(request("GET", f"{place}/x/y/z")).split(b" ", 2)[1], b"404")
 
-    def test_broken_requests_are_answered_as_described(self):
+    def test_broken_requests_are_answered_as_described(self) -> None:
         with self.serve("--page") as server:
             for path, methods in OPENAPI["paths"].items():
                 place = next(it for it, is_path in filled(path) if is_path)
@@ -343,5 +347,5 @@ class Http(DeskTestCase):
                     for wanted, text in cases:
                         asked = "get" if wanted == "405" and method == "head" else method
                         status, _ = self.check_answer(f"{word} {place}", path, asked, server.answered(text))
-                        self.check(f"{word} {place}, {text[-40:]}", status, wanted)
+                        self.check(f"{word} {place}, {text[-40:]!r}", status, wanted)
             self.check_answer("/", "/", "get", server.answered(request("GET", "/")))

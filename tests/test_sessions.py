@@ -2,13 +2,14 @@
 files of earlier schemas; and connections that break."""
 from __future__ import annotations
 
+import pathlib
 import shutil
 
 from tests.support import http, scenarios, sessions, sqlite
 from tests.support.cases import DeskTestCase, good
 from tests.support.commands import EACH_COMMAND, GOODS, add_recipe, approve, import_orders, lift, line, recall, replies, scrap, split
 from tests.support.http import ASK, NEW, POST, Server, answered, connected, rest_of
-from tests.support.program import EXAMPLES
+from tests.support.program import EXAMPLES, File
 from tests.support.sessions import Session, SessionTestCase
 
 # The record of the batch of the session a_batch_runs_to_its_close.
@@ -53,10 +54,10 @@ OLDER = {
 }
 
 
-def with_a_test_for_each_file(case):
+def with_a_test_for_each_file(case: type[SessionTestCase]) -> type[SessionTestCase]:
     """Gives a test case a test for each file of examples/sessions, of the name of the file."""
     for path in sessions.files():
-        def test(self, path=path):
+        def test(self: SessionTestCase, path: pathlib.Path = path) -> None:
             self.check_session(sessions.read(path))
 
         test.__name__ = f"test_{path.stem}"
@@ -65,7 +66,7 @@ def with_a_test_for_each_file(case):
     return case
 
 
-def rows_of_tables(file):
+def rows_of_tables(file: File) -> dict[str, list[sqlite.Row]]:
     """Returns the rows of each table of a desk."""
     return {table: sqlite.rows(file, f"SELECT * FROM {table} ORDER BY {', '.join(keys[0].split())}") for table, (_, keys) in sqlite.TABLES.items()}
 
@@ -74,7 +75,7 @@ def rows_of_tables(file):
 class WrittenSessions(SessionTestCase):
     """The sessions of examples/sessions, and the batch of examples."""
 
-    def test_batch_of_the_examples_is_answered_as_written(self):
+    def test_batch_of_the_examples_is_answered_as_written(self) -> None:
         told, wanted = ((EXAMPLES / name).read_bytes() for name in ("batch.jsonl", "batch.out"))
         self.check_session(Session("the batch of the examples", told, wanted))
 
@@ -82,58 +83,56 @@ class WrittenSessions(SessionTestCase):
 class LimitSessions(SessionTestCase):
     """Limits of commands, each reached and passed by one."""
 
-    def test_recipe_has_128_lines_and_import_1000_orders(self):
+    def test_recipe_has_128_lines_and_import_1000_orders(self) -> None:
         self.check_session(scenarios.lines_of_a_recipe())
 
-    def test_sixteen_lots_become_one_of_the_greatest_amount(self):
+    def test_sixteen_lots_become_one_of_the_greatest_amount(self) -> None:
         self.check_session(scenarios.greatest_amount())
 
-    def test_merge_has_sixteen_parts_at_most(self):
+    def test_merge_has_sixteen_parts_at_most(self) -> None:
         self.check_session(scenarios.parts_of_a_merge())
 
-    def test_batch_has_99_attempts(self):
+    def test_batch_has_99_attempts(self) -> None:
         self.check_session(scenarios.attempts_of_a_batch())
 
-    def test_lot_has_a_thousand_sublots_at_most(self):
+    def test_lot_has_a_thousand_sublots_at_most(self) -> None:
         self.check_session(scenarios.sublots_of_a_lot())
 
 
 class TraceSessions(SessionTestCase):
     """Genealogies of hundreds of lots."""
 
-    def test_long_chain_is_traced_and_recalled(self):
+    def test_long_chain_is_traced_and_recalled(self) -> None:
         self.check_session(scenarios.long_chain())
 
-    def test_wide_fan_is_traced_and_recalled(self):
+    def test_wide_fan_is_traced_and_recalled(self) -> None:
         self.check_session(scenarios.wide_fan())
 
-    def test_goods_of_many_lots_stand_close_and_apart(self):
+    def test_goods_of_many_lots_stand_close_and_apart(self) -> None:
         self.check_session(scenarios.standing())
 
 
 class PageSessions(SessionTestCase):
     """Lists that are told by the page."""
 
-    def test_lists_of_orders_lots_holds_and_recalls_are_told_by_the_page(self):
+    def test_lists_of_orders_lots_holds_and_recalls_are_told_by_the_page(self) -> None:
         for count in scenarios.COUNTS:
             self.check_session(scenarios.lists(count))
 
-    def test_recipes_and_ledgers_are_told_by_the_page(self):
+    def test_recipes_and_ledgers_are_told_by_the_page(self) -> None:
         for count in scenarios.COUNTS:
             self.check_session(scenarios.paired_lists(count))
 
-
-    def test_ledger_has_all_that_came_to_a_lot_and_left_it(self):
+    def test_ledger_has_all_that_came_to_a_lot_and_left_it(self) -> None:
         self.check_session(scenarios.long_ledger())
 
-    def test_batches_of_a_recipe_of_128_lines_are_told_by_the_page(self):
+    def test_batches_of_a_recipe_of_128_lines_are_told_by_the_page(self) -> None:
         self.check_session(scenarios.long_batches())
 
-    def test_250_versions_of_one_recipe_are_told_by_the_page(self):
+    def test_250_versions_of_one_recipe_are_told_by_the_page(self) -> None:
         self.check_session(scenarios.versions_of_one_recipe())
 
-
-    def test_201_definitions_and_cancelled_orders_are_told_by_the_page(self):
+    def test_201_definitions_and_cancelled_orders_are_told_by_the_page(self) -> None:
         self.check_session(scenarios.definitions_and_cancelled_orders())
 
 
@@ -142,25 +141,25 @@ class RecallSessions(SessionTestCase):
 
     IN_MEMORY = True
 
-    def test_lot_under_120_recalls_stays_blocked_until_the_last_is_lifted(self):
+    def test_lot_under_120_recalls_stays_blocked_until_the_last_is_lifted(self) -> None:
         self.check_session(scenarios.recalls_of_one_lot())
 
 
 class LineSessions(SessionTestCase):
     """Bytes that are a line, a bad one, or none."""
 
-    def test_bad_lines_are_refused_and_end_nothing(self):
+    def test_bad_lines_are_refused_and_end_nothing(self) -> None:
         for session in scenarios.lines():
             self.check_session(session)
 
-    def test_numbers_and_members_of_a_line_are_read_or_bad(self):
+    def test_numbers_and_members_of_a_line_are_read_or_bad(self) -> None:
         self.check_session(scenarios.scraps())
 
 
 class OrderFiles(DeskTestCase):
     """The word `import`."""
 
-    def test_order_files_are_imported_or_refused(self):
+    def test_order_files_are_imported_or_refused(self) -> None:
         planned = Session().accepted(*GOODS, add_recipe(1), approve())
         self.desk.run("run", "orders.db", told=planned.told)
         head, row = ORDER_HEAD.replace(b"\n", b"\r\n"), b"O-1,R,1,500,2027-03-01,5\r\n"
@@ -177,7 +176,7 @@ class OrderFiles(DeskTestCase):
         ]:
             self.check_run(case, ["import", "orders.db", "--at", "100", "--by", "anna"], (status, wanted, b""), told)
 
-    def test_first_fault_of_an_order_file_is_told(self):
+    def test_first_fault_of_an_order_file_is_told(self) -> None:
         head, row = ORDER_HEAD, b"O-1,CAKE,1,500,2027-03-01,5\r\n"
         mark, longest = b"\xef\xbb\xbf", 262_144
         for told, wanted in [
@@ -203,13 +202,13 @@ class OrderFiles(DeskTestCase):
             (head + row * 1000 + b"O-2\n", "csv row 1001 TooManyRows"),
         ]:
             ended = (int("ok" not in wanted), wanted.encode() + b"\n", b"")
-            self.check_run(f"{wanted}: {told[:60]}", ["import", ":memory:", "--at", "100"], ended, told)
+            self.check_run(f"{wanted}: {told[:60]!r}", ["import", ":memory:", "--at", "100"], ended, told)
 
 
 class Words(DeskTestCase):
     """What the words print over the file of a batch that was closed."""
 
-    def test_words_print_traces_and_the_record(self):
+    def test_words_print_traces_and_the_record(self) -> None:
         session, file = sessions.whole_batch(), "words.db"
         for words, wanted in [
             (["verify", file], good(0)),
@@ -228,7 +227,7 @@ class Words(DeskTestCase):
 class References(DeskTestCase):
     """Commands under a reference."""
 
-    def test_repeat_under_reference_acts_once_and_receipts_are_as_published(self):
+    def test_repeat_under_reference_acts_once_and_receipts_are_as_published(self) -> None:
         """Tells one desk a command of each kind, and another each twice under a reference: the receipts are as published, and all other tables
         are alike."""
         once, twice, receipts = Session("each word once"), Session("each word twice"), []
@@ -249,7 +248,7 @@ class References(DeskTestCase):
         self.check("no receipts", found[once.name].pop("receipt"), [])
         self.check("other tables", found[twice.name], found[once.name])
 
-    def test_repeat_under_reference_by_line_word_or_request_returns_same_number(self):
+    def test_repeat_under_reference_by_line_word_or_request_returns_same_number(self) -> None:
         """Gives one import under one reference by a line, by a word and by a request: it acts once, and any other one is refused."""
         file, head, row = "roads.db", ORDER_HEAD, b"O-0,R,1,1,2027-03-01,5\n"
         told = Session().accepted(*GOODS, add_recipe(1), approve()).told
@@ -275,7 +274,7 @@ class References(DeskTestCase):
 class Files(DeskTestCase):
     """The file of a desk: its schemas, its indexes, its size and its tables."""
 
-    def test_older_schema_is_raised_and_keeps_its_edges(self):
+    def test_older_schema_is_raised_and_keeps_its_edges(self) -> None:
         session, file = sessions.whole_batch(), self.folder / "older.db"
         self.desk.run("run", file.name, told=session.told)
         edges = sqlite.edges(file)
@@ -286,7 +285,7 @@ class Files(DeskTestCase):
         self.check_verified("the first schema", file.name, session.count())
         self.check("edges that were raised", sqlite.edges(file), edges)
 
-    def test_older_schema_of_five_million_commands_is_raised_and_keeps_its_rows(self):
+    def test_older_schema_of_five_million_commands_is_raised_and_keeps_its_rows(self) -> None:
         """Raises the good desk from each older schema by a verification: its rows have small numbers, or the last of them great ones."""
         file = self.folder / "raised.db"
         self.desk.run("init", "first.db")
@@ -305,7 +304,7 @@ class Files(DeskTestCase):
                 self.check_run(f"{case}, the next command", ["run", file.name], (0, replies(MANY + 1, 1), b""), command)
                 self.check_verified(f"{case}, behind that", file.name, MANY + 1)
 
-    def test_desk_needs_no_index_and_makes_them_again(self):
+    def test_desk_needs_no_index_and_makes_them_again(self) -> None:
         """Takes the indexes away: the file is as good, answers and accepts as before, and gets them again when it is opened, but for one whose
         name a view has by then. A recall blocks and frees a lot as before."""
         session, file = sessions.whole_batch(), self.folder / "plain.db"
@@ -326,13 +325,13 @@ class Files(DeskTestCase):
         self.check("what is in their way", beside, [("view", "lot_by_def")])
 
     @staticmethod
-    def recall_behind(session):
+    def recall_behind(session: Session) -> Session:
         """Returns a session behind another, in which a scrap, a recall, a split and a lift of the recall are told."""
         more = Session(wanted=session.wanted).accepted(scrap("D-1", 1), recall("F-1"))
         more.refused("Recalled", 32, split("D-1", 1, "D-2")).accepted(lift(), split("D-1", 1, "D-2"))
         return Session(told=more.told.replace(b'"at":100', b'"at":400'), wanted=more.wanted[len(session.wanted):])
 
-    def test_commands_are_numbered_up_to_their_limit(self):
+    def test_commands_are_numbered_up_to_their_limit(self) -> None:
         file = self.folder / "numbers.db"
         self.desk.run("init", file.name)
         sqlite.changed(file, "UPDATE meta SET seq = 999999999999999")
@@ -341,7 +340,7 @@ class Files(DeskTestCase):
         session.asked('{"ask":"desk"}', '{"schema":4,"seq":1000000000000000}')
         self.check_run("the last number", ["run", file.name], session.ended(), session.told)
 
-    def test_desk_of_70000_movements_is_adopted(self):
+    def test_desk_of_70000_movements_is_adopted(self) -> None:
         """Writes the rows of a desk of which each lot was received once and scrapped nine times."""
         file, lots, at = self.folder / "large.db", range(7000), 100
         self.desk.run("run", file.name, told=Session().accepted(*GOODS).told)
@@ -359,7 +358,7 @@ class Files(DeskTestCase):
         answer = b'{"def":"SUGAR","held":false,"lot":"L-6999","stock":91,"sublots":[{"no":0,"place":"A1","stock":91}]}\n'
         self.check_run("its last lot", ["run", file.name], (0, answer, b""), question)
 
-    def test_tables_are_as_published(self):
+    def test_tables_are_as_published(self) -> None:
         file = self.folder / "tables.db"
         self.desk.run("init", file.name)
         with sqlite.opened(file) as store:
@@ -377,7 +376,7 @@ class Files(DeskTestCase):
 class BrokenConnections(DeskTestCase):
     """Connections that break while the desk serves."""
 
-    def test_next_client_is_answered_behind_a_broken_connection(self):
+    def test_next_client_is_answered_behind_a_broken_connection(self) -> None:
         """Breaks off connections in each way, and asks after each where the desk stands, which no such request has changed."""
         broken = [
             ("without a byte", b""),
@@ -397,7 +396,7 @@ class BrokenConnections(DeskTestCase):
             self.lose_an_answer(server.port)
             self.check("the server ends", server.end(), http.WELL)
 
-    def lose_an_answer(self, port):
+    def lose_an_answer(self, port: int) -> None:
         """Resets a connection whose whole command has come, while the server waits for the request of another. The command may be
         kept or not, by what the system keeps of such a connection; the next client is answered."""
         with connected(port) as slow:

@@ -7,6 +7,7 @@ are those of one program, and the bound is wide: a program that goes along each 
 from __future__ import annotations
 
 import json
+from collections.abc import Sequence
 
 from tests.support import scenarios, sqlite
 from tests.support.commands import (
@@ -15,7 +16,7 @@ from tests.support.commands import (
 from tests.support.http import ACCEPTED, ASK, answer, desk_answer, got, posted
 from tests.support.large import LimitTestCase, chain_tables, consumed_row, fan_tables, merged_rows, produced_row, received_row, split_row
 from tests.support.program import Program
-from tests.support.scenarios import lots_told
+from tests.support.scenarios import Item, lots_told
 from tests.support.sessions import lines_of
 
 # How many lots stand behind the first of a chain and of a fan, and before and behind a batch: their genealogies are told in more than 10^6 bytes.
@@ -41,24 +42,28 @@ NAME = "a" * 60
 
 # The word of each question for a page, with the member that says of what, where it has one.
 LISTS = {
-    "orders": "state", "batches": None, "lots": "def", "holds": "lot", "recalls": None, "definitions": "class", "recipes": "state", "movements": "lot",
-    "closed_batches": None, "lifted_recalls": None, "classes": None, "all_holds": None, "orders_by_due": "state", "commands": None,
+    "orders": "state", "batches": None, "lots": "def", "holds": "lot", "recalls": None, "definitions": "class", "recipes": "state",
+    "movements": "lot", "closed_batches": None, "lifted_recalls": None, "classes": None, "all_holds": None, "orders_by_due": "state", "commands": None,
 }
 
 REUSED = b'{"name":"RefReused","refused":31}\n'
 
 
-def lot_told(lot, stock, definition="SUGAR"):
+# A lot or a batch: its kind and its id.
+Node = tuple[str, str]
+
+
+def lot_told(lot: str, stock: int, definition: str = "SUGAR") -> Item:
     """Returns a lot of one sublot as it is answered."""
     return {"def": definition, "held": False, "lot": lot, "recalled": False, "stock": stock, "sublots": [{"no": 0, "place": "", "stock": stock}]}
 
 
-def node_told(lot, stock, definition="SUGAR", unit="g"):
+def node_told(lot: str, stock: int, definition: str = "SUGAR", unit: str = "g") -> Item:
     """Returns a lot as it is answered among the nodes of a genealogy."""
     return {"def": definition, "held": False, "lot": lot, "recalled": False, "stock": stock, "unit": unit}
 
 
-def edge_told(start, end, amount):
+def edge_told(start: Node, end: Node, amount: int) -> Item:
     """Returns an edge as it is answered; each end is a kind and an id."""
     return {"amount": amount, "from": dict([start]), "to": dict([end])}
 
@@ -66,7 +71,9 @@ def edge_told(start, end, amount):
 class Around(LimitTestCase):
     """Thousands of nodes around a lot or a batch."""
 
-    def check_around(self, file, case, node, direction, nodes, edges):
+    def check_around(
+        self, file: str, case: str, node: Node, direction: str, nodes: Sequence[Item], edges: Sequence[Item],
+    ) -> int:
         """Asks for the genealogy of a lot or a batch, a kind and an id, forward or back."""
         word, (kind, name) = f"{direction}_edges", node
         paths = {"lot": "lots", "batch": "batches"}
@@ -74,14 +81,14 @@ class Around(LimitTestCase):
         self.check_alike(file, [(f"{case}, {direction}", compact({"ask": word, kind: name}), f"/v1/{paths[kind]}/{name}/{word}", text)])
         return len(text)
 
-    def check_stands(self, file, case, node, lots):
+    def check_stands(self, file: str, case: str, node: Node, lots: Sequence[Item]) -> None:
         """Asks where the goods of a lot or a batch stand."""
         kind, name = node
         paths = {"lot": "lots", "batch": "batches"}
         text = compact({"lots": lots})
         self.check_alike(file, [(f"{case}, where they stand", compact({"ask": "stands", kind: name}), f"/v1/{paths[kind]}/{name}/stands", text)])
 
-    def test_8000_lots_in_a_chain_are_told_with_their_edges_and_where_they_stand(self):
+    def test_8000_lots_in_a_chain_are_told_with_their_edges_and_where_they_stand(self) -> None:
         file, seq = "chain.db", self.send("chain.db", *GOODS)
         lots = [f"C-{it:05}" for it in range(NODES + 1)]
         sqlite.filled(self.path(file), chain_tables(seq + 1, lots), seq + 1 + NODES)
@@ -93,7 +100,7 @@ class Around(LimitTestCase):
         self.check_stands(file, "a chain", ("lot", lots[0]), [lot_told(it, 1) for it in lots])
         self.check_stands(file, "the end of a chain", ("lot", lots[-1]), [lot_told(lots[-1], 1)])
 
-    def test_8000_lots_split_off_one_are_told_with_their_edges_and_where_they_stand(self):
+    def test_8000_lots_split_off_one_are_told_with_their_edges_and_where_they_stand(self) -> None:
         file, seq = "fan.db", self.send("fan.db", *GOODS)
         lots = [f"T-{it:05}" for it in range(NODES)]
         sqlite.filled(self.path(file), fan_tables(seq + 1, "T", lots, 5, 2), seq + 1 + NODES)
@@ -103,10 +110,10 @@ class Around(LimitTestCase):
         self.check_stands(file, "a fan", ("lot", "T"), [lot_told("T", 5), *(lot_told(it, 2) for it in lots)])
         self.check_good("a fan", file, seq + 1 + NODES)
 
-    def test_batch_of_8000_lots_before_and_behind_it_is_told_with_its_edges(self):
+    def test_batch_of_8000_lots_before_and_behind_it_is_told_with_its_edges(self) -> None:
         file, seq = "batch.db", self.send("batch.db", *PLANNED, *begin_batch("B-1", 1))
         sources, products = ([f"{name}-{it:05}" for it in range(NODES)] for name in "FP")
-        made = {"lot": [], "sublot": [], "movement": [], "edge": []}
+        made: dict[str, list[sqlite.Row]] = {"lot": [], "sublot": [], "movement": [], "edge": []}
         for it in sources:
             made["lot"].append((it, "FLOUR"))
             made["sublot"].append((it, 0, "", 1))
@@ -135,7 +142,7 @@ class Around(LimitTestCase):
 class Pages(LimitTestCase):
     """Lists above a page."""
 
-    def test_lists_above_a_page_are_told_alike_by_a_line_and_by_a_request(self):
+    def test_lists_above_a_page_are_told_alike_by_a_line_and_by_a_request(self) -> None:
         for session in [*scenarios.above_a_page(), scenarios.lists(201), scenarios.by_due(201), scenarios.booked(201)]:
             file = "pages.db"
             self.check_run(session.name, ["run", file], session.ended(), session.told)
@@ -149,7 +156,7 @@ class Pages(LimitTestCase):
             self.path(file).unlink()
 
 
-def path_of(asked):
+def path_of(asked: Item) -> str:
     """Returns the path of HTTP of a question for a page."""
     member = LISTS[asked["ask"]]
     return "/".join(["/v1/lists", asked["ask"], *([asked[member]] if member else []), *([str(asked["above"])] if "above" in asked else [])])
@@ -158,7 +165,7 @@ def path_of(asked):
 class Lines(LimitTestCase):
     """A run of very many lines."""
 
-    def test_more_than_a_million_questions_are_answered(self):
+    def test_more_than_a_million_questions_are_answered(self) -> None:
         told, wanted = b'{"ask":"moment"}\n' * QUESTIONS, b'{"at":0}\n' * QUESTIONS
         self.check_run("a million questions and one", ["run", ":memory:"], (0, wanted, b""), told)
 
@@ -166,7 +173,7 @@ class Lines(LimitTestCase):
 class Receipts(LimitTestCase):
     """References: many of them, and those of commands that are as long as they may be."""
 
-    def test_100001_receipts_are_verified_and_answered_again(self):
+    def test_100001_receipts_are_verified_and_answered_again(self) -> None:
         file = "receipts.db"
         self.desk.run("init", file)
         sqlite.filled(self.path(file), {
@@ -174,15 +181,16 @@ class Receipts(LimitTestCase):
         }, RECEIPTS)
         self.check_good("many receipts", file, RECEIPTS)
 
-        def told(name, reference):
+        def told(name: str, reference: str) -> bytes:
             return line(f'"do":"add_class","class":"{name}","name":"","ref":"{reference}"')
 
-        commands = [told(f"C-{it}", f"K-{it}") for it in (1, 50_000, RECEIPTS)] + [told("C-1", f"K-{RECEIPTS}"), told("C-0", "K-0"), told("C-0", "K-0")]
+        commands = [told(f"C-{it}", f"K-{it}") for it in (1, 50_000, RECEIPTS)]
+        commands += [told("C-1", f"K-{RECEIPTS}"), told("C-0", "K-0"), told("C-0", "K-0")]
         wanted = b'{"ok":1}\n{"ok":50000}\n{"ok":100001}\n' + REUSED + b'{"ok":100002}\n' * 2
         self.check_run("commands again", ["run", file], (1, wanted, b""), b"".join(commands))
         self.check_good("many receipts and one more", file, RECEIPTS + 1)
 
-    def test_command_of_a_reference_and_a_note_of_60_bytes_acts_once(self):
+    def test_command_of_a_reference_and_a_note_of_60_bytes_acts_once(self) -> None:
         """Tells a command with the longest note, name and reference by a line and by a request."""
         file, reference = "notes.db", "K" * 24
         body = f'{{"at":200,"by":"{NAME}","note":"{NOTE}","ref":"{reference}","do":"add_class","class":"RAW","name":"{NOTE}"}}'.encode()
@@ -196,14 +204,14 @@ class Receipts(LimitTestCase):
         self.check("its receipt", sqlite.rows(self.path(file), "SELECT * FROM receipt"), [receipt])
         self.check_good("a command that acts once", file, 1)
 
-    def test_import_of_1000_orders_under_a_reference_is_taken_once(self):
+    def test_import_of_1000_orders_under_a_reference_is_taken_once(self) -> None:
         """Imports by the word with each of its options, twice, and then by a line: it is taken once; each other option makes another import."""
         file, seq = "imports.db", self.send("imports.db", *GOODS, add_recipe(1), approve())
         rows = b"order,recipe,version,size,due,priority\n" + b"".join(b"O-%d,R,1,1,2027-03-01,5\n" % it for it in range(1000))
         words = {"--at": "300", "--by": NAME, "--ref": "FILE-7"}
         accepted = b'{"ok":%d}\n' % (seq + 1)
 
-        def imported(case, wanted, **changed):
+        def imported(case: str, wanted: bytes, **changed: str) -> None:
             options = {**words, **{f"--{name}": value for name, value in changed.items()}}
             self.check_run(case, ["import", file, *(word for pair in options.items() for word in pair)], (int(wanted == REUSED), wanted, b""), rows)
 
@@ -225,7 +233,7 @@ class Marks(LimitTestCase):
 
     PROGRAMS = ("desk", "desk_check")
 
-    def test_each_mark_of_a_recall_of_1500_lots_is_checked(self):
+    def test_each_mark_of_a_recall_of_1500_lots_is_checked(self) -> None:
         file, seq = "marks.db", self.send("marks.db", *GOODS)
         lots = [f"C-{it:04}" for it in range(MARKED)]
         sqlite.filled(self.path(file), chain_tables(seq + 1, lots), seq + MARKED)
@@ -242,7 +250,7 @@ class Marks(LimitTestCase):
         self.check("a recall of many lots again", checker.run(file).status, 0)
         self.check_good("a recall of many lots", file, seq + MARKED + 1)
 
-    def check_missing(self, checker, file, lot):
+    def check_missing(self, checker: Program, file: str, lot: str) -> None:
         """Checks a file in which the mark of a lot is missing."""
         status, output, _ = checker.run(file, "--json")
         broken = [(it["rule"], it["row"] and (it["row"]["table"], it["row"]["key"])) for it in json.loads(output)["desk"]["broken"]]
@@ -256,11 +264,11 @@ class Ladders(LimitTestCase):
     PROGRAMS = ("desk", "desk_check", "genealogy_picture")
 
     @staticmethod
-    def lots_of(rungs):
+    def lots_of(rungs: int) -> dict[str, int]:
         """Returns the lots of a ladder of so many rungs, in the order in which they come to be, and what each has at the end."""
         return {"R-0000": 0, **{f"{name}-{it:04}": 0 for it in range(1, rungs + 1) for name in "SR"}, f"R-{rungs:04}": 2}
 
-    def ladder(self, file, rungs):
+    def ladder(self, file: str, rungs: int) -> int:
         """Makes the file of a ladder, whose first lot a batch makes, and by each of whose rungs half of a lot of 2 is split off and merged with
         the rest; returns its last number."""
         recipe = add_recipe(1).replace('"lines":[', '"lines":[{"kind":"in","def":"SUGAR","qty":1},')
@@ -279,23 +287,25 @@ class Ladders(LimitTestCase):
         }, seq)
         return seq
 
-    def chain(self, file, nodes):
+    def chain(self, file: str, nodes: int) -> int:
         """Makes the file of a chain with so many splits; returns its last number."""
         seq = self.send(file, *GOODS) + 1
         sqlite.filled(self.path(file), chain_tables(seq, [f"C-{it:05}" for it in range(nodes + 1)]), seq + nodes)
         return seq + nodes
 
-    def fan(self, file, nodes):
+    def fan(self, file: str, nodes: int) -> int:
         """Makes the file of a lot that was split into so many; returns its last number."""
         seq = self.send(file, *GOODS) + 1
         sqlite.filled(self.path(file), fan_tables(seq, "T", [f"C-{it:05}" for it in range(nodes)]), seq + nodes)
         return seq + nodes
 
-    def check_within(self, case, words, wanted, told=b""):
+    def check_within(
+        self, case: str, words: Sequence[str], wanted: tuple[int, bytes, bytes], told: bytes = b"",
+    ) -> None:
         """Checks how a run of the desk ends, which may take some seconds and no more."""
         self.check(case, self.desk.run(*words, told=told, timeout=SECONDS), wanted)
 
-    def test_ladder_is_verified_in_the_time_of_a_chain_and_its_circle_refused(self):
+    def test_ladder_is_verified_in_the_time_of_a_chain_and_its_circle_refused(self) -> None:
         seconds = []
         for case, make, size in [("fan", self.fan, 3 * RUNGS // 2), ("chain", self.chain, 3 * RUNGS), ("ladder", self.ladder, RUNGS)]:
             seq = make(f"{case}.db", size)
@@ -307,7 +317,7 @@ class Ladders(LimitTestCase):
         for words in ["verify", "ladder.db"], ["run", "ladder.db"], ["trace", "ladder.db", "back", last]:
             self.check_within(f"{words} of a circle", words, (3, b"", b"fault: damaged G12\n"))
 
-    def test_ladder_and_its_circle_are_told_by_the_check_of_a_file(self):
+    def test_ladder_and_its_circle_are_told_by_the_check_of_a_file(self) -> None:
         seq, checker = self.ladder("ladder.db", FEWER_RUNGS), Program("desk_check", self.folder)
         self.check("a ladder, checked", checker.run("ladder.db", timeout=SECONDS).status, 0)
         self.make_circle("ladder.db", seq, f"R-{FEWER_RUNGS:04}")
@@ -315,7 +325,7 @@ class Ladders(LimitTestCase):
         broken = [(it["rule"], it["row"]) for it in json.loads(output)["desk"]["broken"]]
         self.check("a circle, checked", (status, broken, errors), (3, [(12, None)], b""))
 
-    def test_ladder_is_drawn(self):
+    def test_ladder_is_drawn(self) -> None:
         self.ladder("ladder.db", FEWER_RUNGS)
         told = self.desk.run("run", "ladder.db", told=b'{"ask":"forward_edges","batch":"B-1"}\n').output
         picture, edges = Program("genealogy_picture", self.folder), 3 * FEWER_RUNGS + 1
@@ -324,12 +334,12 @@ class Ladders(LimitTestCase):
             status, output, errors = picture.run(word, told=told, timeout=SECONDS)
             self.check(f"a ladder, drawn by {word}", (status, output.count(mark), errors), (0, marks, b""))
 
-    def make_circle(self, file, seq, last):
+    def make_circle(self, file: str, seq: int, last: str) -> None:
         """Lets the batch that made the first lot consume of the last one."""
         sqlite.filled(self.path(file), {"movement": [consumed_row(seq + 1, last, 1)], "edge": [(1, last, "B-1")]}, seq + 1)
         sqlite.changed(self.path(file), f"UPDATE sublot SET stock = 1 WHERE lot = '{last}'")
 
-    def test_ladder_is_traced_recalled_and_told(self):
+    def test_ladder_is_traced_recalled_and_told(self) -> None:
         file, lots = "ladder.db", self.lots_of(RUNGS)
         seq, last = self.ladder(file, RUNGS), f"R-{RUNGS:04}"
         for direction, node in [("forward", "R-0000"), ("back", last)]:
@@ -356,7 +366,7 @@ class Ladders(LimitTestCase):
 class Alone(LimitTestCase):
     """A lot from which nothing came, and that came of nothing."""
 
-    def test_lot_that_leads_nowhere_is_traced_to_nothing(self):
+    def test_lot_that_leads_nowhere_is_traced_to_nothing(self) -> None:
         file = "alone.db"
         self.send(file, *GOODS, receive("L-1", 5))
         for direction in "back", "forward":

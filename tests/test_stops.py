@@ -13,12 +13,13 @@ import pathlib
 import shutil
 import signal
 import tempfile
+from typing import Protocol
 
 from tests.support import faults, sqlite
 from tests.support.cases import DeskTestCase, good
 from tests.support.commands import EACH_COMMAND, GOODS, add_recipe, approve, import_orders, receive
 from tests.support.http import Server, posted
-from tests.support.program import Program
+from tests.support.program import Ended, Program
 from tests.support.sessions import Session, lines_of
 
 FAULT = b'{"fault":1}\n'
@@ -40,34 +41,38 @@ FOLLOWED = 4
 LEAST_STOPS = 20
 
 
+# What stands in the two files, by the ends of their names.
+Image = dict[str, bytes]
+
+
 class Files:
     """The two files of a desk, in a folder of their own."""
 
-    def __init__(self, place, image):
+    def __init__(self, place: pathlib.Path, image: Image) -> None:
         self.folder = pathlib.Path(tempfile.mkdtemp(dir=place))
         self.desk, self.database = Program("desk", self.folder), self.folder / "plant.db"
         for end, found in image.items():
             self.path(end).write_bytes(found)
 
-    def __enter__(self):
+    def __enter__(self) -> Files:
         return self
 
-    def __exit__(self, *_):
+    def __exit__(self, *_: object) -> None:
         shutil.rmtree(self.folder)
 
-    def path(self, end, synced=False):
+    def path(self, end: str, synced: bool = False) -> pathlib.Path:
         """Returns the path of a file, or of what of it was synced."""
         name = self.database.name + end.removeprefix(DATABASE)
         return self.folder / (name + ".synced" if synced else name)
 
-    def run(self, word, told=b""):
+    def run(self, word: str, told: bytes = b"") -> Ended:
         return self.desk.run(word, self.database.name, told=told, env=faults.synced_files())
 
-    def stopped(self, word, end, calls, told=b""):
+    def stopped(self, word: str, end: str, calls: int, told: bytes = b"") -> Ended:
         """Runs a word over the files, of which one fails behind so many of its calls."""
         return self.desk.run(word, self.database.name, told=told, env=faults.stopped_file(end, calls))
 
-    def image(self, before=None):
+    def image(self, before: Image | None = None) -> Image:
         """Returns what stands in the files, or, where this stood in them before, what of it was synced."""
         found = {}
         for end in (LOG, DATABASE):
@@ -75,13 +80,13 @@ class Files:
             found[end] = path.read_bytes() if path.exists() else (before or {}).get(end, b"")
         return found
 
-    def images(self, before):
+    def images(self, before: Image) -> list[Image]:
         """Returns what a stop may have left in the files: what was written, what was synced, and the front of each with the back of the other."""
         written, synced = self.image(), self.image(before)
         return [written] if written == synced else [written, synced, torn(written, synced), torn(synced, written)]
 
 
-def common(front, back):
+def common(front: bytes, back: bytes) -> int:
     """Returns how many bytes the two begin with alike."""
     low, high = 0, min(len(front), len(back))
     while low < high:
@@ -90,33 +95,33 @@ def common(front, back):
     return low
 
 
-def spliced(front, back):
+def spliced(front: bytes, back: bytes) -> bytes:
     """Returns the bytes of the one, and from the middle of what differs on those of the other."""
     middle = (common(front, back) + max(len(front), len(back))) // 2
     return front[:middle].ljust(middle, b"\0") + back[middle:] if middle < len(back) else front[:middle]
 
 
-def torn(front, back):
+def torn(front: Image, back: Image) -> Image:
     return {end: spliced(front[end], back[end]) for end in front}
 
 
 class Course:
     """Commands, one a line, each of which is accepted, over files as they stand at first."""
 
-    def __init__(self, place, session, first):
+    def __init__(self, place: pathlib.Path, session: Session, first: Image) -> None:
         self.place, self.first = place, first
         self.told, self.wanted = lines_of(session.told), lines_of(session.wanted)
         self.before = int(self.wanted[0].removeprefix(b'{"ok":').removesuffix(b"}\n")) - 1
 
     @functools.lru_cache(maxsize=None)
-    def rows_after(self, count):
+    def rows_after(self, count: int) -> list[str]:
         """Returns the rows after so many of the commands, and none of them twice."""
         with Files(self.place, self.first) as files:
             ended = files.run("run", told=b"".join(self.told[:count]))
             assert ended == (0, b"".join(self.wanted[:count]), b""), ended
             return sorted(sqlite.dumped(files.database))
 
-    def counts_told(self, ended):
+    def counts_told(self, ended: Ended) -> set[int]:
         """Returns how many commands may have been kept, by what a run told; none where it told what it mustn't."""
         status, output, errors = ended
         answered = sum(1 for _ in itertools.takewhile(lambda it: it[0] == it[1], zip(lines_of(output), self.wanted)))
@@ -130,7 +135,7 @@ class Course:
         return {answered} if output == front and answered in (0, all_of_them) else set()
 
 
-def image_of(place, session, statements=""):
+def image_of(place: pathlib.Path, session: Session, statements: str = "") -> Image:
     """Returns the files of a new desk behind a session and statements of another program."""
     with Files(place, {}) as files:
         ended = files.run("run", told=session.told)
@@ -139,7 +144,7 @@ def image_of(place, session, statements=""):
         return files.image()
 
 
-def each_command(are_referred):
+def each_command(are_referred: bool) -> Session:
     """Returns a session of a command of each kind, each under a reference or none."""
     session = Session()
     for number, (body, _) in enumerate(EACH_COMMAND, 1):
@@ -147,7 +152,7 @@ def each_command(are_referred):
     return session
 
 
-def behind(session, *bodies):
+def behind(session: Session, *bodies: str) -> Session:
     """Returns more commands, behind those of the session."""
     whole = Session(wanted=session.wanted).accepted(*bodies)
     return Session(told=whole.told, wanted=whole.wanted.removeprefix(session.wanted))
@@ -158,14 +163,22 @@ class StopTestCase(DeskTestCase):
 
     IN_MEMORY = IS_LONG = True
 
+    course: Course
+
     @classmethod
-    def setUpClass(cls):
+    def setUpClass(cls) -> None:
         super().setUpClass()
         cls.course = cls.new_course(cls.class_folder())
 
-    def check_stops(self, end, stride=1, is_followed=False):
+    @classmethod
+    def new_course(cls, place: pathlib.Path) -> Course:
+        """Returns the course, whose files are kept in a folder."""
+        raise NotImplementedError
+
+    def check_stops(self, end: str, stride: int = 1, is_followed: bool = False) -> None:
         """Stops the course behind each number of calls up to the first that lets it end well."""
-        self.end, self.opened = end, {}
+        self.end = end
+        self.opened: dict[tuple[bytes, ...], tuple[Ended, list[str]]] = {}
         ends = [self.check_stop(0)]
         for calls in faults.numbers(1, stride):
             ends.append(self.check_stop(calls))
@@ -176,7 +189,7 @@ class StopTestCase(DeskTestCase):
                 self.check_stop_again(calls, *ends[calls][1:])
         self.check_true(f"{end} has {len(ends)} stopped runs", len(ends) > LEAST_STOPS)
 
-    def check_stop(self, calls):
+    def check_stop(self, calls: int) -> tuple[bool, set[int], Image]:
         """Runs the course with a stop behind so many calls; returns whether it ended well, how many commands may be kept, and what is left."""
         with Files(self.course.place, self.course.first) as files:
             ended = files.stopped("run", self.end, calls, b"".join(self.course.told))
@@ -186,19 +199,19 @@ class StopTestCase(DeskTestCase):
                 self.check_left(f"{self.end} after {calls} calls", image, counts)
             return ended.status == 0, counts, files.image()
 
-    def check_stop_again(self, calls, counts, image):
+    def check_stop_again(self, calls: int, counts: set[int], image: Image) -> None:
         """Verifies what a stop has left, with a stop behind each number of calls."""
         for more in faults.numbers(0):
             with Files(self.course.place, image) as files:
                 status, output, errors = files.stopped("verify", self.end, more)
                 case = f"{self.end} after {calls} and {more} calls"
-                self.check_true(f"{case}, told {output + errors}", (status, errors) in [(0, b""), (3, STORE)])
+                self.check_true(f"{case}, told {output + errors!r}", (status, errors) in [(0, b""), (3, STORE)])
                 for it in files.images(image):
                     self.check_left(case, it, counts)
             if status == 0:
                 return
 
-    def check_left(self, case, image, counts):
+    def check_left(self, case: str, image: Image, counts: set[int]) -> None:
         """Opens what is left anew: it is good, and holds the rows after one of these numbers of commands."""
         told, rows = self.rows_of(image)
         kept = {good(self.course.before + it): it for it in counts}
@@ -206,7 +219,7 @@ class StopTestCase(DeskTestCase):
         if told in kept:
             self.check(f"{case}, its rows", rows, self.course.rows_after(kept[told]))
 
-    def rows_of(self, image):
+    def rows_of(self, image: Image) -> tuple[Ended, list[str]]:
         """Opens files anew, once; returns what verify tells of them, and their rows behind it."""
         key = tuple(image.values())
         if key not in self.opened:
@@ -220,23 +233,29 @@ class EachCommand(StopTestCase):
     """A command of each kind, over no file; four stops are followed by stops of the opening of what they left."""
 
     @classmethod
-    def new_course(cls, place):
+    def new_course(cls, place: pathlib.Path) -> Course:
         return Course(place, each_command(are_referred=False), {})
 
-    def test_what_a_stop_of_the_log_leaves_is_good(self):
+    def test_what_a_stop_of_the_log_leaves_is_good(self) -> None:
         self.check_stops(LOG, is_followed=True)
 
-    def test_what_a_stop_of_the_database_leaves_is_good(self):
+    def test_what_a_stop_of_the_database_leaves_is_good(self) -> None:
         self.check_stops(DATABASE, is_followed=True)
+
+
+class Stopped(Protocol):
+    """What the tests of a course take of their test case."""
+
+    def check_stops(self, end: str, stride: int = 1, is_followed: bool = False) -> None: ...
 
 
 class CourseTests:
     """The stops of a course of another class."""
 
-    def test_what_a_stop_of_the_log_leaves_is_good(self):
+    def test_what_a_stop_of_the_log_leaves_is_good(self: Stopped) -> None:
         self.check_stops(LOG)
 
-    def test_what_a_stop_of_the_database_leaves_is_good(self):
+    def test_what_a_stop_of_the_database_leaves_is_good(self: Stopped) -> None:
         self.check_stops(DATABASE)
 
 
@@ -244,7 +263,7 @@ class UnderReferences(CourseTests, StopTestCase):
     """A command of each kind under a reference, beside a table of another program, which stays."""
 
     @classmethod
-    def new_course(cls, place):
+    def new_course(cls, place: pathlib.Path) -> Course:
         return Course(place, each_command(are_referred=True), image_of(place, Session(), sqlite.OTHER_TABLE))
 
 
@@ -252,7 +271,7 @@ class Import(CourseTests, StopTestCase):
     """An import of 50 orders."""
 
     @classmethod
-    def new_course(cls, place):
+    def new_course(cls, place: pathlib.Path) -> Course:
         plan = Session().accepted(*GOODS, add_recipe(1), approve())
         return Course(place, behind(plan, import_orders(50)), image_of(place, plan))
 
@@ -261,14 +280,14 @@ class LongRun(StopTestCase):
     """Commands that outgrow the log, so that it is copied into the database amid them."""
 
     @classmethod
-    def new_course(cls, place):
+    def new_course(cls, place: pathlib.Path) -> Course:
         many = Session().accepted(*GOODS, *(receive(f"S-{it}", it) for it in range(1, MANY)))
         return Course(place, many, image_of(place, Session()))
 
-    def test_what_a_stop_of_the_log_leaves_is_good(self):
+    def test_what_a_stop_of_the_log_leaves_is_good(self) -> None:
         self.check_stops(LOG, STRIDE)
 
-    def test_what_a_stop_of_the_database_leaves_is_good(self):
+    def test_what_a_stop_of_the_database_leaves_is_good(self) -> None:
         self.check_stops(DATABASE, DATABASE_STRIDE)
 
 
@@ -278,7 +297,7 @@ class ChangedFileTestCase(StopTestCase):
     STATEMENTS = ""
 
     @classmethod
-    def new_course(cls, place):
+    def new_course(cls, place: pathlib.Path) -> Course:
         goods = Session().accepted(*(it for it, _ in EACH_COMMAND), GOODS[1])
         return Course(place, behind(goods, receive("S-1", 5), receive("S-2", 5)), image_of(place, goods, cls.STATEMENTS))
 
@@ -310,7 +329,7 @@ class NoIndexes(CourseTests, ChangedFileTestCase):
 class Backup(DeskTestCase):
     """A copy of a desk that was served."""
 
-    def test_copy_behind_verify_has_all_that_was_answered_before_a_signal(self):
+    def test_copy_behind_verify_has_all_that_was_answered_before_a_signal(self) -> None:
         """Has a desk serve commands, stops it by a signal, verifies its file, and copies that alone."""
         with Server(self.desk, "plant.db", 100) as server:
             for number in range(1, 6):

@@ -4,6 +4,10 @@ It runs over a copy of the files that it writes.
 """
 from __future__ import annotations
 
+import types
+from collections.abc import Sequence
+from typing import Any
+
 from tests.support.regions import RegionsTestCase
 
 # A table of the newest schema, before the end of the list, and the lookup of its rows.
@@ -18,10 +22,11 @@ class TablesTestCase(RegionsTestCase):
         "make/tables.py", "make/table_regions.py", "make/schema_regions.py", "make/line_regions.py", "make/table_words.py", "make/regions.py",
     )
 
-    def described(self, tool):
-        return tool.regions_of(tool.described())
+    def described(self, tool: types.ModuleType) -> Sequence[Any]:
+        regions: Sequence[Any] = tool.regions_of(tool.described())
+        return regions
 
-    def add_depot(self):
+    def add_depot(self) -> None:
         """Adds a table to the description."""
         self.replace(self.TOOLS[0], "]\n\n\n# ---- indexes and lookups\n", DEPOT)
         self.replace(self.TOOLS[0], '    ("edges", "edge", ""),\n', DEPOT_BY_ID)
@@ -30,35 +35,35 @@ class TablesTestCase(RegionsTestCase):
 class Files(TablesTestCase):
     """What is in the repository."""
 
-    def test_files_are_what_the_description_gives(self):
+    def test_files_are_what_the_description_gives(self) -> None:
         self.check_files()
 
 
 class Changes(TablesTestCase):
     """What the tool finds and writes."""
 
-    def test_changed_region_is_found_and_written_anew(self):
+    def test_changed_region_is_found_and_written_anew(self) -> None:
         self.check_found_and_written_anew("crates/plant_tables/specs/DeskTableDefs.antt", 'name = codes "lot"', 'name = codes "lots"')
 
-    def test_file_that_is_generated_as_a_whole_is_written_where_it_is_missing(self):
+    def test_file_that_is_generated_as_a_whole_is_written_where_it_is_missing(self) -> None:
         before = self.texts()
         (self.repository.folder / "crates/plant_keyed/proofs/view/KeyedView/lot/Answers.antt").unlink()
         self.check("the check", self.written("--check")[0], 1)
         self.check("the writing", self.written(), (0, ""))
         self.check("the files", self.texts(), before)
 
-    def test_missing_comment_of_a_region_is_reported(self):
+    def test_missing_comment_of_a_region_is_reported(self) -> None:
         self.replace("crates/plant_tables/specs/DeskTableDefs.antt", "---- end of the columns\n", "----\n")
         status, errors = self.written()
         self.check("the status", status, 1)
         self.check_true("the region", "DeskTableDefs.antt has 0 regions named the columns" in errors)
 
-    def test_another_table_changes_regions_alone(self):
+    def test_another_table_changes_regions_alone(self) -> None:
         before = self.texts()
         self.add_depot()
         self.check_regions_alone(before, ["crates/plant_keyed/proofs/view/KeyedView/depot/Answers.antt"])
 
-    def test_another_table_has_its_lines(self):
+    def test_another_table_has_its_lines(self) -> None:
         self.add_depot()
         self.written()
         count = len(self.tool.TABLES)
@@ -70,5 +75,5 @@ class Changes(TablesTestCase):
             ("crates/plant_keyed/src/texts.rt", 'pub(crate) const DEPOT_BY_ID: &str = "SELECT id, name FROM depot WHERE id = ?1 ORDER BY id";'),
         ])
 
-    def test_other_words_are_answered_with_the_use(self):
+    def test_other_words_are_answered_with_the_use(self) -> None:
         self.check_use()

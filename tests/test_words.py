@@ -88,7 +88,7 @@ CLASS = b'{"at":1,"by":"","do":"add_class","class":"RAW","name":""}\n'
 class FilesWithoutDesk(DeskTestCase):
     """Files that a word can't use."""
 
-    def test_folder_text_or_missing_folder_is_a_fault_of_the_store(self):
+    def test_folder_text_or_missing_folder_is_a_fault_of_the_store(self) -> None:
         (self.folder / "folder").mkdir()
         text = self.folder / "text"
         text.write_bytes(b"FLOUR 500 kg\n" * 500)
@@ -97,7 +97,7 @@ class FilesWithoutDesk(DeskTestCase):
                 self.check_run(f"{word} of {name}", [word, name, *others], STORE)
         self.check("a text stays", text.read_bytes(), b"FLOUR 500 kg\n" * 500)
 
-    def test_file_of_a_later_schema_is_told_and_stays(self):
+    def test_file_of_a_later_schema_is_told_and_stays(self) -> None:
         file = self.folder / "later.db"
         self.desk.run("init", file.name)
         sqlite.changed(file, "UPDATE meta SET schema = 99")
@@ -106,7 +106,7 @@ class FilesWithoutDesk(DeskTestCase):
             self.check_run(f"{word} of a later schema", [word, file.name, *others], (3, b"", b"fault: newer 99\n"))
         self.check("a later schema stays", sqlite.dumped(file), rows)
 
-    def test_name_that_begins_with_a_colon_is_a_file_but_for_memory(self):
+    def test_name_that_begins_with_a_colon_is_a_file_but_for_memory(self) -> None:
         """Tells a command to each word over such a name, and looks whether the next run finds it."""
         orders = b"order,recipe,version,size,due,priority\n"
         for name in ":x", ":memory", ":memory:x", "::memory:", ":MEMORY:", ":memory: ", "memory:", "./:memory:":
@@ -123,7 +123,7 @@ class FilesWithoutDesk(DeskTestCase):
             self.check_run("run of memory", ["run", ":memory:"], (0, b'{"ok":1}\n', b""), CLASS)
         self.check("memory is no file", list(self.folder.iterdir()), [])
 
-    def test_view_beside_a_desk_stays(self):
+    def test_view_beside_a_desk_stays(self) -> None:
         file = self.folder / "view.db"
         sqlite.changed(file, "CREATE TABLE shift (id TEXT); CREATE VIEW shifts AS SELECT id FROM shift; INSERT INTO shift VALUES ('night')")
         self.check_run("init beside a view", ["init", file.name], (0, b"ready schema 4\n", b""))
@@ -135,14 +135,14 @@ class FilesWithoutDesk(DeskTestCase):
 class Streams(DeskTestCase):
     """Standard streams, memory and ports that fail."""
 
-    def test_taken_port_is_a_fault_of_the_net(self):
+    def test_taken_port_is_a_fault_of_the_net(self) -> None:
         with socket.socket() as other:
             other.bind(("127.0.0.1", 0))
             other.listen()
             port = other.getsockname()[1]
             self.check_run("a port that is taken", ["serve", "taken.db", str(port), "1"], http.NET)
 
-    def test_input_that_cannot_be_read_is_a_fault(self):
+    def test_input_that_cannot_be_read_is_a_fault(self) -> None:
         """Gives a folder, of which no byte can be read, as standard input."""
         for words in [["import", ":memory:", "--at", "1"], ["run", ":memory:"]]:
             folder = os.open("/", os.O_RDONLY)
@@ -150,7 +150,7 @@ class Streams(DeskTestCase):
             os.close(folder)
             self.check(f"{words[0]} of a folder", ended, (3, b"", b"fault: read\n"))
 
-    def test_full_device_is_told_on_standard_error_or_by_the_status_alone(self):
+    def test_full_device_is_told_on_standard_error_or_by_the_status_alone(self) -> None:
         for word in "init", "run", "verify":
             with open("/dev/full", "wb") as full:
                 ended = self.desk.run(word, "full.db", told=CLASS, stdout=full)
@@ -158,7 +158,7 @@ class Streams(DeskTestCase):
                 ended = self.desk.run(word, "full.db", told=CLASS, stdout=full, stderr=full)
                 self.check(f"{word} to two full devices", ended.status, 3)
 
-    def test_refused_memory_is_told_and_makes_no_file(self):
+    def test_refused_memory_is_told_and_makes_no_file(self) -> None:
         """Refuses one of the first allocations."""
         for number in 1, 2, 5:
             ended = self.desk.run("init", "memory.db", env=faults.refused_memory(number))
@@ -169,18 +169,18 @@ class Streams(DeskTestCase):
 class WrongWords(DeskTestCase):
     """Words that aren't understood."""
 
-    def test_word_that_is_not_utf8_is_refused_in_each_place(self):
+    def test_word_that_is_not_utf8_is_refused_in_each_place(self) -> None:
         for words in [[b"run", b"\xff.db"], [b"\xff"], [b"import", b"a.db", b"--at", b"\xff"]]:
             self.check_run(words, words, (2, b"", b"error: a word is not UTF-8\n"))
 
-    def test_value_out_of_its_range_is_wrong_and_makes_no_file(self):
+    def test_value_out_of_its_range_is_wrong_and_makes_no_file(self) -> None:
         for words in WRONG_VALUES:
             status, output, errors = self.desk.run(*words)
             told = errors.startswith(b"error: ") and errors.endswith(b"For more information, try '--help'.\n")
-            self.check(f"{words}, {errors}", (status, output, told), (2, b"", True))
+            self.check(f"{words}, {errors!r}", (status, output, told), (2, b"", True))
         self.check_true("no file is made", not (self.folder / "wrong.db").exists())
 
-    def test_first_broken_rule_is_told_and_no_other(self):
+    def test_first_broken_rule_is_told_and_no_other(self) -> None:
         for words, rule in BROKEN_RULES:
             told = b"error: %s\n\nFor more information, try '--help'.\n" % rule
             self.check_run(words, words, (2, b"", told))
@@ -189,7 +189,7 @@ class WrongWords(DeskTestCase):
 class Help(DeskTestCase):
     """The help of each word."""
 
-    def test_help_lists_the_arguments_in_order_and_its_example_is_understood(self):
+    def test_help_lists_the_arguments_in_order_and_its_example_is_understood(self) -> None:
         (self.folder / "shift.jsonl").write_bytes(b'{"ask":"desk"}\n')
         (self.folder / "orders.csv").write_bytes(b"order,recipe,version,size,due,priority\n")
         for word, usage in USAGES.items():
@@ -201,28 +201,29 @@ class Help(DeskTestCase):
             [example] = re.findall(r"^Example: desk (.*)$", text, re.M)
             self.check_example(word, *example.split(" < "))
 
-    def check_example(self, word, words, file=None):
+    def check_example(self, word: str, example: str, file: str | None = None) -> None:
         """Runs the words of an example, but for those that serve, which a port of 0 keeps from it."""
-        words = shlex.split(words)
+        words = shlex.split(example)
         self.check(f"the example of {word}", words[0], word)
         if word == "serve":
             words = [*words[:2], "0", *words[3:]]
         told = (self.folder / file).read_bytes() if file else b""
         status, _, errors = self.desk.run(*words, told=told)
-        self.check(f"the example of {word}, {errors}", status, {"serve": 2, "trace": 1, "record": 1}.get(word, 0))
+        self.check(f"the example of {word}, {errors!r}", status, {"serve": 2, "trace": 1, "record": 1}.get(word, 0))
 
 
-def listed(text):
+def listed(text: str) -> list[str]:
     """Returns the arguments that a help lists, in their order."""
     found = re.search(r"^Arguments:\n((?:  .*\n)+)", text, re.M)
-    return re.findall(r"^  (<\w+>)", found[1], re.M)
+    return re.findall(r"^  (<\w+>)", found[1] if found else "", re.M)
 
 
 class Progress(DeskTestCase):
     """What is told while the desk works."""
 
-    def test_requests_are_noted_with_log_and_not_without(self):
-        for log in [], ["--log"]:
+    def test_requests_are_noted_with_log_and_not_without(self) -> None:
+        options: list[list[str]] = [[], ["--log"]]
+        for log in options:
             began = int(time.time())
             with http.Server(self.desk, "noted.db", len(NOTED), *log) as server:
                 for sent, _ in NOTED:
@@ -233,9 +234,9 @@ class Progress(DeskTestCase):
             found = [re.fullmatch(rb"(\d+) (.*) \d+", it) for it in lines[1:]]
             self.check(f"the end, {log}", (status, output), (0, b""))
             self.check(f"the lines, {log}", lines[:1] + [it and it[2] for it in found], wanted)
-            self.check_true(f"the moments, {log}", all(began <= int(it[1]) <= time.time() for it in found))
+            self.check_true(f"the moments, {log}", all(it and began <= int(it[1]) <= time.time() for it in found))
 
-    def test_microseconds_that_are_noted_are_those_of_the_connection(self):
+    def test_microseconds_that_are_noted_are_those_of_the_connection(self) -> None:
         """Has a client pause within its request: so long the connection took at least, and no longer than the client saw; others took some time."""
         with http.Server(self.desk, ":memory:", 3, "--log") as server:
             seconds = []
@@ -250,11 +251,11 @@ class Progress(DeskTestCase):
             _, _, errors = server.end()
         found = [re.fullmatch(rb'\d+ "POST /v1/commands HTTP/1.1" (\d+) (\d+)', it) for it in errors.splitlines()[1:]]
         self.check("the statuses", [it and it[1] for it in found], [b"200", b"409", b"409"])
-        took = [int(it[2]) for it in found]
+        took = [int(it[2]) for it in found if it]
         self.check_true(f"each took some time, {took}", all(0 < it < 10**6 * most for it, most in zip(took, seconds)))
         self.check_true(f"a client that pauses took as long, {took}", took[1] >= 10**6 * PAUSE)
 
-    def test_terminal_alone_is_told_how_far_the_opening_of_a_large_file_is(self):
+    def test_terminal_alone_is_told_how_far_the_opening_of_a_large_file_is(self) -> None:
         """Verifies a file that takes seconds to open, and one that takes none."""
         for name, rows, wanted in [("small.db", 1, []), ("large.db", 700_000, STAGES)]:
             self.desk.run("init", name)
@@ -267,7 +268,7 @@ class Progress(DeskTestCase):
             self.check(f"{name}, verified at a terminal", self.at_a_terminal("verify", name), (*good(0)[:2], wanted))
             (self.folder / name).unlink()
 
-    def at_a_terminal(self, *words):
+    def at_a_terminal(self, *words: str) -> tuple[int, bytes, list[bytes]]:
         """Runs the desk with a terminal as its standard error; returns its status, its output, and the terminal's lines."""
         ours, theirs = pty.openpty()
         with self.desk.start(*words, stderr=theirs) as ran:

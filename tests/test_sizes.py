@@ -43,7 +43,8 @@ NAME = "a" * 60
 # The word of each question for a page, with the member that says of what, where it has one.
 LISTS = {
     "orders": "state", "batches": None, "lots": "def", "holds": "lot", "recalls": None, "definitions": "class", "recipes": "state",
-    "movements": "lot", "closed_batches": None, "lifted_recalls": None, "classes": None, "all_holds": None, "orders_by_due": "state", "commands": None,
+    "movements": "lot", "closed_batches": None, "lifted_recalls": None, "classes": None, "all_holds": None, "orders_by_due": "state",
+    "commands": None,
 }
 
 REUSED = b'{"name":"RefReused","refused":31}\n'

@@ -1,7 +1,7 @@
-/* Meets a program at one call about its files: of the calls that open, look at, link or remove a file whose name contains AT_NAME, and of those that
-   read, write, lock, look at or sync an open file whose name ends in AT_OPEN, the one whose number, counting from 1, stands in AT_CALL. It fails by the
-   error AT_ERROR, where that is given; else the program sends itself the signal AT_SIGNAL before it. Then the file is made that AT_MET names.
-   It is put before a program by LD_PRELOAD. */
+/* Meets a program at one call about its files: of the calls that open, look at, link or remove a file whose name contains AT_NAME, and of
+   those that read, write, lock, look at or sync an open file whose name ends in AT_OPEN, the one whose number, counting from 1, stands in
+   AT_CALL. It fails by the error AT_ERROR, where that is given; else the program sends itself the signal AT_SIGNAL before it. Then the file
+   is made that AT_MET names. It is put before a program by LD_PRELOAD. */
 #define _GNU_SOURCE
 #include <dlfcn.h>
 #include <errno.h>

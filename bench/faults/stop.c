@@ -1,6 +1,7 @@
 /* Stops a program's file: of the reads, writes, cuts and syncs of the files whose names end in STOPPED, where that is given, so many as
-   STOP_AFTER says go well, and each later one fails, by the error that STOP_ERROR numbers, or as a failing disk. A sync of a file of a desk copies what stands in it to the file of its name and
-   ".synced" behind it; the system isn't asked for one, so that it costs no time of a disk. It is put before a program by LD_PRELOAD. */
+   STOP_AFTER says go well, and each later one fails, by the error that STOP_ERROR numbers, or as a failing disk. A sync of a file of a desk
+   copies what stands in it to the file of its name and ".synced" behind it; the system isn't asked for one, so that it costs no time of a
+   disk. It is put before a program by LD_PRELOAD. */
 #define _GNU_SOURCE
 #include <dlfcn.h>
 #include <errno.h>

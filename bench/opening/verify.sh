@@ -40,7 +40,11 @@ store.commit()
 lower="
 import sqlite3, sys
 store = sqlite3.connect(sys.argv[1])
-for name in 'movement_by_lot movement_by_lot2 movement_by_batch batch_event_by_batch definition_by_class job_by_state batch_by_closed lot_by_def recipe_by_state job_by_due'.split():
+indexes = '''
+movement_by_lot movement_by_lot2 movement_by_batch batch_event_by_batch definition_by_class job_by_state batch_by_closed lot_by_def
+recipe_by_state job_by_due
+'''
+for name in indexes.split():
     store.execute(f'DROP INDEX IF EXISTS {name}')
 store.executescript('DROP TABLE edge; DROP TABLE receipt; DROP TABLE recall; DROP TABLE mark; UPDATE meta SET schema = 1')
 "

@@ -12,9 +12,13 @@ passes a layer has a place in it, as a crate has. From each of several orders, s
 is joined with, and neighbours are swapped where that takes away crossings; the order with the fewest is taken. Then the places move towards
 those that they are joined with, in that order.
 """
+from __future__ import annotations
+
 import os
 import random
 import sys
+from collections.abc import Iterable, Mapping, Sequence
+from typing import NamedTuple, Union
 
 LIST = "crates.txt"
 PICTURE = "docs/crates.svg"
@@ -40,7 +44,7 @@ FILLS = {False: ("#e8eef7", "#5b7aa8"), True: ("#fbe3c0", "#b8761a")}
 # ---- the crates
 
 
-def crates_listed():
+def crates_listed() -> dict[str, list[str]]:
     """The crates that are drawn, in the order of the list, each with those that it names."""
     with open(LIST, encoding="utf-8") as it:
         lines = [line.split("#")[0].partition(":") for line in it]
@@ -49,9 +53,9 @@ def crates_listed():
     return {name: [it for it in named[name] if it in drawn] for name in drawn}
 
 
-def direct(listed):
+def direct(listed: Mapping[str, list[str]]) -> dict[str, list[str]]:
     """Of each crate those below it that no longer way leads to."""
-    below = {}
+    below: dict[str, set[str]] = {}
     for name, named in listed.items():
         below[name] = set(named).union(*(below[it] for it in named))
     return {name: [it for it in named if not any(it in below[other] for other in named)] for name, named in listed.items()}
@@ -60,14 +64,26 @@ def direct(listed):
 # ---- layers
 
 
-def turned(below):
+class Passing(NamedTuple):
+    """The place of a line in a layer that it passes, by the crates at its ends."""
+
+    upper: str
+    lower: str
+    layer: int
+
+
+# A place is the name of a crate, or where a line passes.
+Place = Union[str, Passing]
+
+
+def turned(below: Mapping[str, list[str]]) -> dict[str, list[str]]:
     """Of each crate those that stand on it."""
     return {name: [it for it in below if name in below[it]] for name in below}
 
 
-def layers_of(below):
+def layers_of(below: Mapping[str, list[str]]) -> dict[str, int]:
     """The layer of each crate, from 0 at the bottom."""
-    layer = {}
+    layer: dict[str, int] = {}
     for name, named in below.items():
         layer[name] = max((layer[it] + 1 for it in named), default=0)
     above = turned(below)
@@ -77,21 +93,18 @@ def layers_of(below):
     return layer
 
 
-def with_passings(below, layer):
-    """The layers, each a list of places, and the pairs of places that are joined, upper first.
-
-    A place is the name of a crate, or of a line that passes the layer: upper crate, lower crate, layer.
-    """
-    layers = [[] for _ in range(max(layer.values()) + 1)]
-    pairs = []
+def with_passings(below: Mapping[str, list[str]], layer: Mapping[str, int]) -> tuple[list[list[Place]], list[tuple[Place, Place]]]:
+    """The layers, each a list of places, and the pairs of places that are joined, upper first."""
+    layers: list[list[Place]] = [[] for _ in range(max(layer.values()) + 1)]
+    pairs: list[tuple[Place, Place]] = []
     for name in below:
         layers[layer[name]].append(name)
     for name, named in below.items():
         for it in named:
-            passed = [(name, it, at) for at in range(layer[name] - 1, layer[it], -1)]
+            passed = [Passing(name, it, at) for at in range(layer[name] - 1, layer[it], -1)]
             for place in passed:
-                layers[place[2]].append(place)
-            way = [name, *passed, it]
+                layers[place.layer].append(place)
+            way: list[Place] = [name, *passed, it]
             pairs += zip(way, way[1:])
     return layers, pairs
 
@@ -99,21 +112,22 @@ def with_passings(below, layer):
 # ---- the order in each layer
 
 
-def joined(pairs):
+def joined(pairs: Iterable[tuple[Place, Place]]) -> tuple[dict[Place, list[Place]], dict[Place, list[Place]]]:
     """Of each place those below and those above that it is joined with."""
-    lower, upper = {}, {}
+    lower: dict[Place, list[Place]] = {}
+    upper: dict[Place, list[Place]] = {}
     for one, other in pairs:
         lower.setdefault(one, []).append(other)
         upper.setdefault(other, []).append(one)
     return lower, upper
 
 
-def crossings_of(left, right):
+def crossings_of(left: Sequence[int], right: Sequence[int]) -> int:
     """How many lines cross, of two places side by side whose other ends are at these places of one layer."""
     return sum(1 for one in left for other in right if other < one)
 
 
-def crossings(layers, lower):
+def crossings(layers: Sequence[Sequence[Place]], lower: Mapping[Place, Sequence[Place]]) -> int:
     """How many lines cross in all."""
     count = 0
     for under, layer in zip(layers, layers[1:]):
@@ -122,20 +136,22 @@ def crossings(layers, lower):
     return count
 
 
-def ends_in(other, layer, joins):
+def ends_in(other: Iterable[Place], layer: Iterable[Place], joins: Mapping[Place, Sequence[Place]]) -> dict[Place, list[int]]:
     """Of each place of a layer, where in another one those are that it is joined with."""
     at = {place: index for index, place in enumerate(other)}
     return {place: [at[end] for end in joins.get(place, [])] for place in layer}
 
 
-def by_means(layer, other, joins):
+def by_means(layer: Sequence[Place], other: Iterable[Place], joins: Mapping[Place, Sequence[Place]]) -> list[Place]:
     """A layer in the order of the means of the places in another that its own are joined with; one that isn't joined keeps its place."""
     ends = ends_in(other, layer, joins)
     mean = {place: sum(ends[place]) / len(ends[place]) if ends[place] else at for at, place in enumerate(layer)}
     return sorted(layer, key=lambda place: mean[place])
 
 
-def swap_neighbours(layers, lower, upper):
+def swap_neighbours(
+    layers: Sequence[list[Place]], lower: Mapping[Place, Sequence[Place]], upper: Mapping[Place, Sequence[Place]],
+) -> None:
     """Changes neighbours in a layer as long as that takes away crossings."""
     better = True
     while better:
@@ -153,7 +169,9 @@ def swap_neighbours(layers, lower, upper):
                     better = True
 
 
-def swept(layers, lower, upper):
+def swept(
+    layers: list[list[Place]], lower: Mapping[Place, Sequence[Place]], upper: Mapping[Place, Sequence[Place]],
+) -> list[list[Place]]:
     """The layers after sweeps up and down."""
     for _ in range(SWEEPS):
         for at in range(1, len(layers)):
@@ -164,15 +182,16 @@ def swept(layers, lower, upper):
     return layers
 
 
-def ordered(layers, pairs):
+def ordered(layers: Iterable[Sequence[Place]], pairs: Iterable[tuple[Place, Place]]) -> list[list[Place]]:
     """The layers in an order with few crossings: the best of those that sweeps from several orders come to."""
     lower, upper = joined(pairs)
     chance = random.Random(1)
-    best, least = None, None
+    best: list[list[Place]] = []
+    least: int | None = None
     for _ in range(STARTS):
         tried = swept([sorted(layer, key=lambda _: chance.random()) for layer in layers], lower, upper)
         count = crossings(tried, lower)
-        if best is None or count < least:
+        if least is None or count < least:
             best, least = tried, count
     return best
 
@@ -180,42 +199,42 @@ def ordered(layers, pairs):
 # ---- where they stand
 
 
-def width_of(place):
+def width_of(place: Place) -> float:
     """The width of a place."""
     return LETTER * len(place) + 2 * PADDING if isinstance(place, str) else PASSING
 
 
-def nearest(wanted, weights):
+def nearest(wanted: Iterable[float], weights: Iterable[int]) -> list[float]:
     """The rising numbers that lie nearest to the wanted ones, by the sum of weighted squares."""
-    blocks = []
+    blocks: list[tuple[float, int, int]] = []
     for want, weight in zip(wanted, weights):
-        blocks.append([want * weight, weight, 1])
+        blocks.append((want * weight, weight, 1))
         while len(blocks) > 1 and blocks[-2][0] / blocks[-2][1] > blocks[-1][0] / blocks[-1][1]:
-            last = blocks.pop()
-            blocks[-1] = [one + other for one, other in zip(blocks[-1], last)]
+            last, former = blocks.pop(), blocks.pop()
+            blocks.append((former[0] + last[0], former[1] + last[1], former[2] + last[2]))
     return [total / weight for total, weight, count in blocks for _ in range(count)]
 
 
-def settled(layer, centers, ends):
+def settled(layer: Sequence[Place], centers: dict[Place, float], ends: Mapping[Place, Iterable[Place]]) -> None:
     """Moves the places of a layer towards those that they are joined with, none over another."""
-    offset, offsets = 0, []
+    offset, offsets = 0.0, []
     for at, place in enumerate(layer):
         if at:
             offset += (width_of(layer[at - 1]) + width_of(place)) / 2 + BETWEEN
         offsets.append(offset)
     wanted, weights = [], []
     for place, shift in zip(layer, offsets):
-        want, weight = 0, 0
+        want, weight = 0.0, 0
         for it in ends[place]:
-            pull = UPRIGHT if isinstance(it, tuple) and isinstance(place, tuple) else 1
+            pull = UPRIGHT if isinstance(it, Passing) and isinstance(place, Passing) else 1
             want, weight = want + pull * centers[it], weight + pull
         wanted.append((want / weight if weight else centers[place]) - shift)
         weights.append(weight or 1)
-    for place, shift, at in zip(layer, offsets, nearest(wanted, weights)):
-        centers[place] = at + shift
+    for place, shift, near in zip(layer, offsets, nearest(wanted, weights)):
+        centers[place] = near + shift
 
 
-def centers_of(layers, pairs):
+def centers_of(layers: list[list[Place]], pairs: Iterable[tuple[Place, Place]]) -> dict[Place, float]:
     """The center of each place from the left."""
     lower, upper = joined(pairs)
     both = {place: lower.get(place, []) + upper.get(place, []) for layer in layers for place in layer}
@@ -230,12 +249,12 @@ def centers_of(layers, pairs):
 # ---- the picture
 
 
-def number(value):
+def number(value: float) -> str:
     """A number of pixels."""
     return f"{value:.0f}"
 
 
-def line_text(way, centers, top):
+def line_text(way: Sequence[Place], centers: Mapping[Place, float], top: Mapping[Place, int]) -> str:
     """A line from a crate down to another, through the layers that it passes."""
     x, y = centers[way[0]], top[way[0]] + BOX
     text = f"M{number(x)} {number(y)}"
@@ -244,13 +263,13 @@ def line_text(way, centers, top):
         half = (y + end) / 2
         text += f"C{number(x)} {number(half)} {number(to)} {number(half)} {number(to)} {number(end)}"
         x, y = to, end
-        if isinstance(place, tuple):
+        if isinstance(place, Passing):
             y += BOX
             text += f"V{number(y)}"
     return f'<path d="{text}"/>'
 
 
-def box_text(name, center, top):
+def box_text(name: str, center: float, top: int) -> str:
     """A crate: a box with its name."""
     fill, stroke = FILLS[os.path.exists(f"crates/{name}/src/main.rt")]
     width = width_of(name)
@@ -258,19 +277,19 @@ def box_text(name, center, top):
     return f'{box}<text x="{number(center)}" y="{number(top + 18)}">{name}</text>'
 
 
-def picture(listed):
+def picture(listed: Mapping[str, list[str]]) -> str:
     """The text of the picture."""
     below = direct(listed)
     layers, pairs = with_passings(below, layers_of(below))
     layers = ordered(layers, pairs)
     centers = centers_of(layers, pairs)
     top = {place: MARGIN + LAYER * (len(layers) - 1 - at) for at, layer in enumerate(layers) for place in layer}
-    follow = {place: other for place, other in pairs if isinstance(place, tuple)}
+    follow = {place: other for place, other in pairs if isinstance(place, Passing)}
     ways = []
     for one, other in pairs:
         if isinstance(one, str):
-            way = [one, other]
-            while isinstance(way[-1], tuple):
+            way: list[Place] = [one, other]
+            while isinstance(way[-1], Passing):
                 way.append(follow[way[-1]])
             ways.append(way)
     width = number(max(centers[place] + width_of(place) / 2 for place in centers) + MARGIN)
@@ -290,7 +309,7 @@ def picture(listed):
     return "\n".join(parts) + "\n"
 
 
-def main():
+def main() -> int:
     drawn = picture(crates_listed())
     if sys.argv[1:] == ["--check"]:
         with open(PICTURE, encoding="utf-8") as it:

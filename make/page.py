@@ -10,6 +10,8 @@
 The page is the raw byte literal PAGE of crates/desk_page/src/page.rt, and the policy the constant POLICY of policy.rt next to it. The policy lets
 a browser run the one script and use the one style of the page, known by their checksums, and nothing else.
 """
+from __future__ import annotations
+
 import argparse
 import base64
 import hashlib
@@ -29,20 +31,20 @@ class WrongPage(Exception):
     """Why a page can't be served."""
 
 
-def element(page, tag):
+def element(page: str, tag: str) -> str:
     """Returns what stands in the one element of a tag."""
-    found = re.findall(rf"<{tag}\b[^>]*>(.*?)</{tag}>", page, re.S)
+    found: list[str] = re.findall(rf"<{tag}\b[^>]*>(.*?)</{tag}>", page, re.S)
     if len(found) != 1:
         raise WrongPage(f"the page has {len(found)} elements {tag}, and has to have one")
     return found[0]
 
 
-def checksum(text):
+def checksum(text: str) -> str:
     """Returns the checksum of a script or a style as a policy names it."""
     return "sha256-" + base64.b64encode(hashlib.sha256(text.encode()).digest()).decode()
 
 
-def policy_of(page):
+def policy_of(page: str) -> str:
     """Returns the policy of a page."""
     rules = {
         "default-src": "'none'",
@@ -57,7 +59,7 @@ def policy_of(page):
     return "; ".join(f"{name} {value}" for name, value in rules.items())
 
 
-def checked(page):
+def checked(page: bytes) -> tuple[str, str]:
     """Returns a page that can stand in the literal, and its policy."""
     try:
         text = page.decode("ascii")
@@ -75,7 +77,7 @@ def checked(page):
     return text, policy
 
 
-def constant(file, pattern):
+def constant(file: str, pattern: re.Pattern[str]) -> str:
     """Returns the text of a constant in a source."""
     found = pattern.search((SOURCES / file).read_text())
     if not found:
@@ -83,13 +85,13 @@ def constant(file, pattern):
     return found.group(2)
 
 
-def put(file, pattern, text):
+def put(file: str, pattern: re.Pattern[str], text: str) -> None:
     """Writes a constant into a source."""
     source = (SOURCES / file).read_text()
     (SOURCES / file).write_text(pattern.sub(lambda it: it.group(1) + text + it.group(3), source, count=1))
 
 
-def main():
+def main() -> int:
     parser = argparse.ArgumentParser(description="Keeps the page that the desk serves and its policy together.")
     what = parser.add_mutually_exclusive_group()
     what.add_argument("--check", action="store_true", help="says whether the policy in the sources is that of the page")

@@ -6,12 +6,16 @@
 Has `rt try` put the program together without a proof and run it on the session of README and then on the batch of examples/, over one new
 state in memory, and prints each line with its reply beneath it. Says while it waits how long it has taken. Ends with the status of `rt try`.
 """
+from __future__ import annotations
+
 import json
 import os
 import pathlib
 import subprocess
 import sys
 import tempfile
+from collections.abc import Iterable
+from typing import IO
 
 FOLDER = "crates/desk"
 
@@ -23,13 +27,13 @@ LATER = 100
 TURN = 20
 
 
-def later(line):
+def later(line: str) -> str:
     """Returns a line of the batch, with its moment in the time behind the session."""
     told = json.loads(line)
     return json.dumps({**told, "at": told["at"] + LATER} if "at" in told else told, separators=(",", ":"))
 
 
-def lines_of_both(top):
+def lines_of_both(top: pathlib.Path) -> tuple[list[str], list[str]]:
     """Returns the lines of the session, and those of the batch less what the session did already, which is to make the class."""
     session = (top / SESSION).read_text().splitlines()
     done = [json.loads(it) for it in session]
@@ -37,7 +41,7 @@ def lines_of_both(top):
     return session, [later(it) for it in batch]
 
 
-def run_lines(lines, output, errors):
+def run_lines(lines: Iterable[str], output: IO[str], errors: IO[str]) -> int:
     """Runs the program on these lines, and returns its status."""
     with tempfile.TemporaryFile("w+") as told:
         told.write("".join(f"{it}\n" for it in lines))
@@ -52,7 +56,7 @@ def run_lines(lines, output, errors):
             print(f"  {waited // 60}:{waited % 60:02} ..", flush=True)
 
 
-def main():
+def main() -> int:
     top = pathlib.Path(__file__).resolve().parent.parent
     os.chdir(top)
     session, batch = lines_of_both(top)

@@ -12,6 +12,8 @@ bench/README; the READMEs of crates are not counted.
 The comments of a crate, in src, specs and proofs, have fewer than 5 of them for each 1,000 words, too, where they have 200 words or more. A raw text
 in the code, such as the web page, has no comments.
 """
+from __future__ import annotations
+
 import pathlib
 import re
 import sys
@@ -27,33 +29,33 @@ COMMENTS = {".rt": re.compile(r"(?:^|[ ])//[/!]?(?:[ ](.*))?$", re.M), ".antt": 
 RAW = re.compile(r'\bb?r(#+)".*?"\1', re.S)
 
 
-def documents(top):
+def documents(top: pathlib.Path) -> list[pathlib.Path]:
     """The documents below a folder."""
     return [top / it for it in ("README.md", "CONTRIBUTING.md", "CHANGELOG.md", "bench/README.md")] + sorted((top / "docs").glob("*.md"))
 
 
-def crates(top):
+def crates(top: pathlib.Path) -> list[pathlib.Path]:
     """The folders of the crates below a folder."""
     return sorted(it.parent for it in (top / "crates").glob("*/src"))
 
 
-def comments(crate):
+def comments(crate: pathlib.Path) -> str:
     """All comments of a crate, as one text."""
     files = [it for part in ("src", "specs", "proofs") for it in sorted((crate / part).rglob("*")) if it.suffix in COMMENTS]
     return "\n".join(said for it in files for said in COMMENTS[it.suffix].findall(RAW.sub("", it.read_text())))
 
 
-def counted(text):
+def counted(text: str) -> tuple[int, int]:
     """How many words a text has, and how many of them blur."""
     return sum(any(map(str.isalnum, it)) for it in text.split()), len(BLURRING.findall(text))
 
 
-def rate(words, blurring):
+def rate(words: int, blurring: int) -> float:
     """How many words blur of 1,000."""
     return 1000 * blurring / words if words else 0.0
 
 
-def main(options):
+def main(options: list[str]) -> int:
     top = pathlib.Path(__file__).resolve().parent.parent
     if options not in ([], ["--check"]):
         sys.exit(__doc__)

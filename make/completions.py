@@ -3,6 +3,11 @@
 Behind `desk` stand its words and options. Behind a word stand its options and, in the place of each argument, what may be there: a file for
 FILE, the choices that the help names one by one, or nothing.
 """
+from __future__ import annotations
+
+from collections.abc import Mapping
+
+from helps import Help, Item
 
 BASH = """\
 # Completion of desk for bash.
@@ -85,17 +90,17 @@ FISH_ALONE = """\
 """
 
 
-def flags_of(told):
+def flags_of(told: Help) -> str:
     """All options of a help, in one line."""
     return " ".join(flag for it in told.items("Options") for flag in it.flags())
 
 
-def place_of(argument):
+def place_of(argument: Item) -> str:
     """What may stand in the place of an argument: the word FILE for a file, else choices, if any."""
     return "FILE" if argument.value() == "FILE" else " ".join(argument.choices())
 
 
-def bash(whole, words):
+def bash(whole: Help, words: Mapping[str, Help]) -> str:
     """The completion for bash."""
     valued = [flag for told in words.values() for it in told.items("Options") if it.value() for flag in it.flags()]
     cases = []
@@ -105,12 +110,12 @@ def bash(whole, words):
     return BASH % {"first": f"{' '.join(words)} {flags_of(whole)}", "words": "".join(cases), "valued": " | ".join(valued)}
 
 
-def zsh_text(text):
+def zsh_text(text: str) -> str:
     """A text as it stands between single quotes, within a description."""
     return "".join("\\" + c if c in "\\[]:" else c for c in text).replace("'", "'\\''")
 
 
-def zsh_option(option):
+def zsh_option(option: Item) -> str:
     """The words that tell `_arguments` of an option; help and the version are asked for alone."""
     about = f"[{zsh_text(option.about)}]"
     if option.value():
@@ -119,14 +124,14 @@ def zsh_option(option):
     return "".join(f" '{alone}{it}{about}'" for it in option.flags())
 
 
-def zsh_argument(number, argument):
+def zsh_argument(number: int, argument: Item) -> str:
     """The words that tell `_arguments` of an argument."""
     place = place_of(argument)
     action = "_files" if place == "FILE" else f"({place})" if place else ""
     return f" '{number}:{argument.value()}:{action}'"
 
 
-def zsh(whole, words):
+def zsh(whole: Help, words: Mapping[str, Help]) -> str:
     """The completion for zsh."""
     commands = "".join(f"  '{it.name}:{zsh_text(it.about)}'\n" for it in whole.items("Commands"))
     cases = []
@@ -138,18 +143,18 @@ def zsh(whole, words):
     return ZSH % {"commands": commands, "options": options, "words": "".join(cases)}
 
 
-def fish_text(text):
+def fish_text(text: str) -> str:
     """A text between single quotes."""
     return "'" + text.replace("\\", "\\\\").replace("'", "\\'") + "'"
 
 
-def fish_option(where, option):
+def fish_option(where: str, option: Item) -> str:
     """The line that tells of an option, where this condition holds."""
     forms = " ".join(f"-l {it[2:]}" if it.startswith("--") else f"-s {it[1:]}" for it in option.flags())
     return f"complete -c desk -n {where} {forms}{' -x' if option.value() else ''} -d {fish_text(option.about)}\n"
 
 
-def fish_argument(where, argument):
+def fish_argument(where: str, argument: Item) -> str:
     """The line that tells of an argument, where this condition holds; none where nothing can be named."""
     place = place_of(argument)
     if not place:
@@ -158,7 +163,7 @@ def fish_argument(where, argument):
     return f"complete -c desk -n {where} {given}\n"
 
 
-def fish(whole, words):
+def fish(whole: Help, words: Mapping[str, Help]) -> str:
     """The completion for fish."""
     lines = [fish_option("__fish_use_subcommand", it) for it in whole.items("Options")]
     lines += [f"complete -c desk -n __fish_use_subcommand -a {it.name} -d {fish_text(it.about)}\n" for it in whole.items("Commands")]
@@ -169,19 +174,19 @@ def fish(whole, words):
     return FISH + "".join(lines)
 
 
-def bash_alone(name, told):
+def bash_alone(name: str, told: Help) -> str:
     """The completion for bash of a program that has no words: its options, and else files."""
     return BASH_ALONE % {"name": name, "options": flags_of(told)}
 
 
-def zsh_alone(name, told):
+def zsh_alone(name: str, told: Help) -> str:
     """The completion for zsh of a program that has no words."""
     options = "".join(zsh_option(it) for it in told.items("Options"))
     arguments = "".join(zsh_argument(*it) for it in enumerate(told.items("Arguments"), 1))
     return ZSH_ALONE % {"name": name, "options": options, "arguments": arguments}
 
 
-def fish_alone(name, told):
+def fish_alone(name: str, told: Help) -> str:
     """The completion for fish of a program that has no words, behind which files may stand."""
     options = ""
     for it in told.items("Options"):

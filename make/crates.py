@@ -72,8 +72,12 @@ class Passing(NamedTuple):
     layer: int
 
 
-# A place is the name of a crate, or where a line passes.
+# A place is the name of a crate, or where a line passes. Two places are joined by a line between them, upper first.
 Place = Union[str, Passing]
+Pair = tuple[Place, Place]
+
+# Of each place those that it is joined with.
+Joins = Mapping[Place, Sequence[Place]]
 
 
 def turned(below: Mapping[str, list[str]]) -> dict[str, list[str]]:
@@ -93,10 +97,10 @@ def layers_of(below: Mapping[str, list[str]]) -> dict[str, int]:
     return layer
 
 
-def with_passings(below: Mapping[str, list[str]], layer: Mapping[str, int]) -> tuple[list[list[Place]], list[tuple[Place, Place]]]:
+def with_passings(below: Mapping[str, list[str]], layer: Mapping[str, int]) -> tuple[list[list[Place]], list[Pair]]:
     """The layers, each a list of places, and the pairs of places that are joined, upper first."""
     layers: list[list[Place]] = [[] for _ in range(max(layer.values()) + 1)]
-    pairs: list[tuple[Place, Place]] = []
+    pairs: list[Pair] = []
     for name in below:
         layers[layer[name]].append(name)
     for name, named in below.items():
@@ -112,7 +116,7 @@ def with_passings(below: Mapping[str, list[str]], layer: Mapping[str, int]) -> t
 # ---- the order in each layer
 
 
-def joined(pairs: Iterable[tuple[Place, Place]]) -> tuple[dict[Place, list[Place]], dict[Place, list[Place]]]:
+def joined(pairs: Iterable[Pair]) -> tuple[dict[Place, list[Place]], dict[Place, list[Place]]]:
     """Of each place those below and those above that it is joined with."""
     lower: dict[Place, list[Place]] = {}
     upper: dict[Place, list[Place]] = {}
@@ -127,7 +131,7 @@ def crossings_of(left: Sequence[int], right: Sequence[int]) -> int:
     return sum(1 for one in left for other in right if other < one)
 
 
-def crossings(layers: Sequence[Sequence[Place]], lower: Mapping[Place, Sequence[Place]]) -> int:
+def crossings(layers: Sequence[Sequence[Place]], lower: Joins) -> int:
     """How many lines cross in all."""
     count = 0
     for under, layer in zip(layers, layers[1:]):
@@ -136,22 +140,20 @@ def crossings(layers: Sequence[Sequence[Place]], lower: Mapping[Place, Sequence[
     return count
 
 
-def ends_in(other: Iterable[Place], layer: Iterable[Place], joins: Mapping[Place, Sequence[Place]]) -> dict[Place, list[int]]:
+def ends_in(other: Iterable[Place], layer: Iterable[Place], joins: Joins) -> dict[Place, list[int]]:
     """Of each place of a layer, where in another one those are that it is joined with."""
     at = {place: index for index, place in enumerate(other)}
     return {place: [at[end] for end in joins.get(place, [])] for place in layer}
 
 
-def by_means(layer: Sequence[Place], other: Iterable[Place], joins: Mapping[Place, Sequence[Place]]) -> list[Place]:
+def by_means(layer: Iterable[Place], other: Iterable[Place], joins: Joins) -> list[Place]:
     """A layer in the order of the means of the places in another that its own are joined with; one that isn't joined keeps its place."""
     ends = ends_in(other, layer, joins)
     mean = {place: sum(ends[place]) / len(ends[place]) if ends[place] else at for at, place in enumerate(layer)}
     return sorted(layer, key=lambda place: mean[place])
 
 
-def swap_neighbours(
-    layers: Sequence[list[Place]], lower: Mapping[Place, Sequence[Place]], upper: Mapping[Place, Sequence[Place]],
-) -> None:
+def swap_neighbours(layers: Sequence[list[Place]], lower: Joins, upper: Joins) -> None:
     """Changes neighbours in a layer as long as that takes away crossings."""
     better = True
     while better:
@@ -169,9 +171,7 @@ def swap_neighbours(
                     better = True
 
 
-def swept(
-    layers: list[list[Place]], lower: Mapping[Place, Sequence[Place]], upper: Mapping[Place, Sequence[Place]],
-) -> list[list[Place]]:
+def swept(layers: list[list[Place]], lower: Joins, upper: Joins) -> list[list[Place]]:
     """The layers after sweeps up and down."""
     for _ in range(SWEEPS):
         for at in range(1, len(layers)):
@@ -182,7 +182,7 @@ def swept(
     return layers
 
 
-def ordered(layers: Iterable[Sequence[Place]], pairs: Iterable[tuple[Place, Place]]) -> list[list[Place]]:
+def ordered(layers: Sequence[Iterable[Place]], pairs: Iterable[Pair]) -> list[list[Place]]:
     """The layers in an order with few crossings: the best of those that sweeps from several orders come to."""
     lower, upper = joined(pairs)
     chance = random.Random(1)
@@ -234,7 +234,7 @@ def settled(layer: Sequence[Place], centers: dict[Place, float], ends: Mapping[P
         centers[place] = near + shift
 
 
-def centers_of(layers: list[list[Place]], pairs: Iterable[tuple[Place, Place]]) -> dict[Place, float]:
+def centers_of(layers: list[list[Place]], pairs: Iterable[Pair]) -> dict[Place, float]:
     """The center of each place from the left."""
     lower, upper = joined(pairs)
     both = {place: lower.get(place, []) + upper.get(place, []) for layer in layers for place in layer}

@@ -7,6 +7,8 @@ Leaves FOLDER/desk-VERSION.tar.gz and FOLDER/desk_VERSION_amd64.deb, VERSION bei
 pages of the manual and completions, which are made from the helps of the desk, of desk_check and of genealogy_picture, a unit for systemd, the documents
 and the examples. The same programs and texts give the same bytes, whenever and wherever it is done. Ends with status 1 where something isn't as it has to be.
 """
+from __future__ import annotations
+
 import gzip
 import hashlib
 import io
@@ -16,6 +18,7 @@ import struct
 import subprocess
 import sys
 import tarfile
+from collections.abc import Iterable, Mapping
 
 import completions
 import helps
@@ -60,41 +63,47 @@ Priority: optional
 Description: manufacturing desk of a batch plant
 %(description)s"""
 
+# The programs by their names, and a file of a package: its bytes and its mode.
+Programs = Mapping[str, pathlib.Path]
+File = tuple[bytes, int]
+
 
 class Elf:
     """What a program for x86-64 asks of the system that loads it."""
 
-    def __init__(self, path):
+    def __init__(self, path: pathlib.Path) -> None:
         self.bytes = path.read_bytes()
         if self.bytes[:6] != b"\x7fELF\x02\x01" or self.number("<H", 18) != X86_64:
             raise Wrong(f"{path} is no program for x86-64")
         first, size, count = self.number("<Q", 32), self.number("<H", 54), self.number("<H", 56)
+        self.segments: list[tuple[int, ...]]
         self.segments = [struct.unpack_from("<IIQQQQ", self.bytes, first + size * it) for it in range(count)]
-        self.entries = []
+        self.entries: list[tuple[int, int]] = []
         for _, _, at, _, _, length in [it for it in self.segments if it[0] == DYNAMIC]:
-            self.entries += struct.iter_unpack("<qQ", self.bytes[at:at + length])
+            self.entries += ((kind, value) for kind, value in struct.iter_unpack("<qQ", self.bytes[at:at + length]))
         numbers = dict(self.entries)
         at = self.offset(numbers[NAMES]) if NAMES in numbers else 0
         self.names = self.bytes[at:at + numbers.get(LENGTH, 0)]
 
-    def number(self, form, at):
-        return struct.unpack_from(form, self.bytes, at)[0]
+    def number(self, form: str, at: int) -> int:
+        found: int = struct.unpack_from(form, self.bytes, at)[0]
+        return found
 
-    def offset(self, address):
+    def offset(self, address: int) -> int:
         """Where in the file stands what is loaded to an address."""
         loaded = [(at, start, length) for kind, _, at, start, _, length in self.segments if kind == LOADED]
         return next(at + address - start for at, start, length in loaded if start <= address < start + length)
 
-    def libraries(self):
+    def libraries(self) -> list[str]:
         """The libraries that it names."""
         return [self.names[at:self.names.index(b"\0", at)].decode() for kind, at in self.entries if kind == LIBRARY]
 
-    def versions(self):
+    def versions(self) -> list[tuple[int, ...]]:
         """The versions of the C library that its symbols ask for."""
         return [tuple(map(int, it.split(b"."))) for it in re.findall(rb"\0GLIBC_(\d+(?:\.\d+)+)(?=\0)", self.names)]
 
 
-def depends(programs):
+def depends(programs: Iterable[pathlib.Path]) -> str:
     """The line of the control file on which packages the programs stand, none where they need none."""
     read = [Elf(it) for it in programs]
     wanted = {it for program in read for it in program.libraries()}
@@ -108,14 +117,14 @@ def depends(programs):
     return f"Depends: {', '.join(it + packages[it] for it in sorted(packages))}\n" if packages else ""
 
 
-def version_of(program):
+def version_of(program: pathlib.Path) -> str:
     found = re.fullmatch(r"desk (\d+\.\d+\.\d+)\n", helps.said(program, "--version"))
     if not found:
         raise Wrong("the desk doesn't tell its version")
     return found[1]
 
 
-def pressed(content):
+def pressed(content: bytes) -> bytes:
     """These bytes pressed by gzip, with no name and no moment."""
     room = io.BytesIO()
     with gzip.GzipFile(filename="", mode="wb", fileobj=room, mtime=0) as it:
@@ -123,7 +132,7 @@ def pressed(content):
     return room.getvalue()
 
 
-def pages(programs, version, whole, words):
+def pages(programs: Programs, version: str, whole: helps.Help, words: dict[str, helps.Help]) -> dict[str, File]:
     """The pages of the manual, by their places."""
     told = {"desk": (whole, words)}
     for name in [it for it in programs if it != "desk"]:
@@ -135,14 +144,14 @@ def pages(programs, version, whole, words):
     return {f"share/man/man1/{name}.1.gz": (pressed(text.encode()), 0o644) for name, text in texts.items()}
 
 
-def documents():
+def documents() -> dict[str, File]:
     """The documents and the examples, as they stand to one another in the repository."""
     found = [TOP / it for it in ("README.md", "CHANGELOG.md", "CONTRIBUTING.md")] + sorted(it for it in TOP.glob("docs/*") if it.suffix in (".json", ".md", ".svg"))
     found += sorted(it for it in TOP.glob("examples/**/*") if it.is_file() and "__pycache__" not in it.parts)
     return {f"{DOC}/{it.relative_to(TOP)}": (it.read_bytes(), 0o755 if it.stat().st_mode & 0o100 else 0o644) for it in found}
 
 
-def tree(programs, version):
+def tree(programs: Programs, version: str) -> dict[str, File]:
     """All files of a package by their places, each with its bytes and its mode."""
     whole, words = helps.helps_of(programs["desk"])
     files = {f"bin/{name}": (path.read_bytes(), 0o755) for name, path in programs.items()}
@@ -165,12 +174,12 @@ def tree(programs, version):
     return files
 
 
-def folders(files):
+def folders(files: Iterable[str]) -> set[str]:
     """The folders in which files stand."""
     return {str(it) for name in files for it in pathlib.PurePosixPath(name).parents if str(it) != "."}
 
 
-def packed(files, front):
+def packed(files: Mapping[str, File], front: str) -> bytes:
     """A tar archive of files with their folders, pressed, with this text before each name."""
     room = io.BytesIO()
     with tarfile.open(fileobj=room, mode="w", format=tarfile.GNU_FORMAT) as tar:
@@ -183,25 +192,25 @@ def packed(files, front):
     return pressed(room.getvalue())
 
 
-def kilobytes(files):
+def kilobytes(files: Mapping[str, File]) -> int:
     """How many of 1,024 bytes the files take, and each folder one."""
     return sum(-(-len(content) // 1024) for content, _ in files.values()) + len(folders(files))
 
 
-def control(programs, version, files):
+def control(programs: Programs, version: str, files: Mapping[str, File]) -> str:
     """The control file of the package for Debian; its description is the first paragraph of README."""
     description = "".join(f" {it}\n" for it in (TOP / "README.md").read_text().split("\n\n")[1].split("\n"))
     told = {"version": version, "kilobytes": kilobytes(files), "depends": depends(programs.values()), "description": description}
     return CONTROL % told
 
 
-def member(name, content):
+def member(name: str, content: bytes) -> bytes:
     """A member of an ar archive."""
     head = f"{name:<16}{MOMENT:<12}{0:<6}{0:<6}{100644:<8}{len(content):<10}`\n"
     return head.encode() + content + b"\n" * (len(content) % 2)
 
 
-def debian(programs, version, files):
+def debian(programs: Programs, version: str, files: Mapping[str, File]) -> bytes:
     """The package for Debian."""
     files = {f"usr/{name}": it for name, it in files.items()}
     sums = "".join(f"{hashlib.md5(files[it][0]).hexdigest()}  {it}\n" for it in sorted(files))
@@ -210,7 +219,7 @@ def debian(programs, version, files):
     return b"!<arch>\n" + b"".join(member(*it) for it in members)
 
 
-def write(path, content):
+def write(path: pathlib.Path, content: bytes) -> None:
     """Writes a file in one step."""
     new = path.with_name(f"{path.name}.new")
     new.write_bytes(content)
@@ -218,7 +227,7 @@ def write(path, content):
     print(f"{path}: {len(content)} bytes")
 
 
-def main(words):
+def main(words: list[str]) -> int:
     if len(words) != len(PROGRAMS) + 1:
         sys.exit(__doc__)
     programs = dict(zip(PROGRAMS, (pathlib.Path(it).resolve() for it in words)))

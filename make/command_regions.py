@@ -2,33 +2,38 @@
 from __future__ import annotations
 
 import string
+from collections.abc import Callable, Iterable, Sequence
+from typing import TYPE_CHECKING
 
 from regions import Region, chain, nested, packed
+
+if TYPE_CHECKING:
+    from commands import Command, Member
 
 # ---- words of a command
 
 
-def named(text, member):
+def named(text: str, member: Member) -> str:
     """The text of a member's kind with its name."""
     return text.replace("@", member.name)
 
 
-def obeying(command):
+def obeying(command: Command) -> list[Member]:
     """The members whose types keep a rule."""
-    return [it for it in command.members if it.kind and it.kind.values]
+    return [it for it in command.members if it.kind.values]
 
 
-def numbers(command):
+def numbers(command: Command) -> list[Member]:
     """The members that are numbers which their types alone bound."""
     return [it for it in command.members if it.kind.bits]
 
 
-def part(proof, members, member):
+def part(proof: str, members: list[Member], member: Member) -> str:
     """The part of a proof about some members that is about one of them."""
     return f"{proof}.{members.index(member)}" if len(members) > 1 else proof
 
 
-def proved(text, command, member):
+def proved(text: str, command: Command, member: Member) -> str:
     """The text of a member's kind with its name, and with the proofs about it."""
     if "%" in text:
         text = text.replace("%", part("v", obeying(command), member))
@@ -37,47 +42,47 @@ def proved(text, command, member):
     return named(text, member)
 
 
-def is_line(command, member):
+def is_line(command: Command, member: Member) -> str:
     """Why the line of a member has no LF."""
     return proved(member.kind.is_line, command, member)
 
 
-def kept(command, member):
+def kept(command: Command, member: Member) -> str:
     """A member as it is read again."""
     return f"{proved(member.kind.back, command, member)} i" if member.kind.back else f"c.{member.name}"
 
 
-def fields(command, value):
+def fields(command: Command, value: Callable[[Member], str]) -> str:
     """The fields of a command, with the value of each."""
     return "record { " + "; ".join(f"{it.name} = {value(it)}" for it in command.members) + " }"
 
 
-def ruled(command):
+def ruled(command: Command) -> list[Member]:
     """The members that have a rule which their types don't keep."""
     return [it for it in command.members if it.kind.rule]
 
 
-def words(command):
+def words(command: Command) -> dict[str, str]:
     """What a template may name of a command."""
     return {name: getattr(command, name) for name in ("word", "type", "variant", "kind", "content", "effect")}
 
 
-def filled(template, command):
+def filled(template: str, command: Command) -> str:
     """A template with the words of a command."""
     return string.Template(template).substitute(words(command))
 
 
-def many(commands, template, between="\n"):
+def many(commands: Iterable[Command], template: str, between: str = "\n") -> str:
     """A template for each command, with what comes between two."""
     return between.join(filled(template, it) for it in commands)
 
 
-def each(commands, line, between="\n"):
+def each(commands: Iterable[Command], line: Callable[[Command], str], between: str = "\n") -> str:
     """A function's text for each command, with what comes between two."""
     return between.join(line(it) for it in commands)
 
 
-def uses(module, names, width=118):
+def uses(module: str, names: Iterable[str], width: int = 118) -> str:
     """The lines of code that use names of specs."""
     lines, row = [], ""
     for name in names:
@@ -88,7 +93,7 @@ def uses(module, names, width=118):
     return "\n".join(f"ghost use Rattle.{module}.{{{it}}};" for it in [*lines, row])
 
 
-def linked(items, width=118):
+def linked(items: Iterable[str], width: int = 118) -> str:
     """A list in specs, in lines that are as full as they can be."""
     lines = [""]
     for item in [*items, "[]"]:
@@ -98,7 +103,7 @@ def linked(items, width=118):
     return "\n".join(f"    {'∷ ' if at else ''}{line}" for at, line in enumerate(lines))
 
 
-def choices(commands, test, value, last):
+def choices(commands: Iterable[Command], test: str, value: str, last: str) -> str:
     """Tests of a word, one in the other, with what there is where none passes."""
     lines = [f"    if {filled(test, it)} then {filled(value, it)} else (" for it in commands]
     return "\n".join([*lines, f"    {last}{')' * len(lines)}"])
@@ -107,13 +112,13 @@ def choices(commands, test, value, last):
 # ---- plant_base
 
 
-def lines_of(command):
+def lines_of(command: Command) -> str:
     """The lines of a command in a content, in specs."""
     items = [f'codes "{command.word}"', *(named(it.kind.lined, it) for it in command.members)]
     return filled(f"abbrev pub ${{content}}_lines : $type → List (List ℕ)\n${{content}}_lines c = {chain(items)}", command)
 
 
-def shown_lines(command):
+def shown_lines(command: Command) -> str:
     """How the lines of a command are written, in code."""
     values = "".join(f"        let {it.name} = self.0.{it.name}{it.kind.line};\n" for it in command.members)
     text = "".join(f"{{{it.name}}}\\n" for it in command.members)
@@ -127,32 +132,32 @@ impl fmt::Display for Lines<'_, $type> {{
 }}""", command)
 
 
-def rooms(command):
+def rooms(command: Command) -> str:
     """That the numbers of a command have room, where their types alone bound them."""
     parts = [f"c.{it.name} < 2 ^ {it.kind.bits}" for it in numbers(command)]
     return filled(f"HasNumbers (body.$variant c) = {' × '.join(parts) or '⊤'}", command)
 
 
-def rules(command):
+def rules(command: Command) -> str:
     """The rules of a command that its types don't keep, in specs."""
     parts = [named(it.kind.ruled, it) for it in ruled(command)]
     return filled(f"is_well_formed_command (body.$variant c) = {' && '.join(parts) or 'true'}", command)
 
 
-def values(command):
+def values(command: Command) -> str:
     """That the values of a command obey their rules."""
     parts = [f"IsTrue ({it.kind.values} c.{it.name})" for it in obeying(command)]
     return filled(f"HasBodyValues (body.$variant c) = {' × '.join(parts)}", command)
 
 
 # What shows the values of several members in one call: their names, and the function.
-TOGETHER = [
+TOGETHER: list[tuple[tuple[str, ...], str]] = [
     (("lot", "def", "amount", "place"), "show_goods"),
     (("lot", "amount"), "show_amount"),
 ]
 
 
-def calls(command):
+def calls(command: Command) -> list[str]:
     """The calls that show to a proof that the values of a command obey their rules."""
     left = obeying(command)
     if [it.kind.values for it in left] == ["is_id", "is_id"]:
@@ -165,14 +170,14 @@ def calls(command):
     return found
 
 
-def arm(command, statements):
+def arm(command: Command, statements: Sequence[str]) -> str:
     """The arm of a command, with one expression or a block."""
     if len(statements) == 1:
         return filled(f"Command::$variant(c) => {statements[0]},", command)
     return filled("Command::$variant(c) => {\n" + "".join(f"    {it};\n" for it in statements) + "}", command)
 
 
-def read_again(command):
+def read_again(command: Command) -> str:
     """How a command is read from the lines of its content."""
     bound = [it.kind.bound or it.name for it in command.members]
     made = fields(command, lambda it: it.kind.read.replace("@", it.kind.bound or it.name))
@@ -182,19 +187,21 @@ ${{word}}_in ({' ∷ '.join([*bound, '_'])}) = body.$variant ({made})
 ${{word}}_in _ = nothing""", command)
 
 
-def same_again(command):
+def same_again(command: Command) -> str:
     """Why a command that is read again is the same."""
     if not any(it.kind.back for it in command.members):
         return filled("body_back (body.$variant c) v n = refl", command)
     return filled(f"body_back (body.$variant c) v n = λ i. body.$variant ({fields(command, lambda it: kept(command, it))})", command)
 
 
-def are_lines(command):
+def are_lines(command: Command) -> str:
     """Why no line of a command has an LF."""
     return filled(f"body_are (body.$variant c) v = {nested(['refl', *(is_line(command, it) for it in command.members)], 'tt')}", command)
 
 
-def in_base(commands, plain, decided, plain_decided):
+def in_base(
+    commands: Sequence[Command], plain: Sequence[Command], decided: Sequence[Command], plain_decided: Sequence[Command],
+) -> list[Region]:
     """The regions of plant_base."""
     code, content, well = "plant_base/src/command.rt", "plant_base/specs/Content.antt", "plant_base/specs/WellFormedCommands.antt"
     back, others = "plant_base/proofs/ContentReadBack.antt", ["Command", "Envelope", "GREATEST_ORDERS", "GREATEST_PARTS", "Part", "Stamp"]
@@ -230,7 +237,7 @@ def in_base(commands, plain, decided, plain_decided):
 # ---- the other crates
 
 
-def own_members(command):
+def own_members(command: Command) -> str:
     """The members that a command has of its own, in code."""
     names = [it.variant for it in command.members]
     if len(", ".join(names)) <= 60:
@@ -238,7 +245,7 @@ def own_members(command):
     return packed(names, f"CommandKind::{command.kind} => &[", "],", width=91)
 
 
-def made_of_values(command):
+def made_of_values(command: Command) -> str:
     """How a command is made of the values of a line, in code."""
     pattern = f"    &[{', '.join(f'{it.kind.field}({it.name})' for it in command.members)}] =>"
     names, head = [it.name for it in command.members], f"{pattern} Some(Command::{command.variant}("
@@ -251,14 +258,14 @@ def made_of_values(command):
     return f"Kind::{command.kind} => match fields {{\n{line}\n    _ => None,\n}},"
 
 
-def made_in_specs(command, function):
+def made_in_specs(command: Command, function: str) -> str:
     """The same in specs."""
     pattern = chain(f"field.{it.kind.field} {it.name}" for it in command.members)
     made = fields(command, lambda it: it.name)
     return f"{function} c.{command.kind} ({pattern}) = Some (body.{command.variant} ({made}))"
 
 
-def in_messages(commands, plain):
+def in_messages(commands: Sequence[Command], plain: Sequence[Command]) -> list[Region]:
     """The regions of the crates of messages."""
     words, tables, texts = "plant_message_schema/src/words.rt", "plant_message_schema/src/tables.rt", "plant_text_commands"
     groups = [(f"{about}_of", [it for it in plain if it.about == about]) for about in ("goods", "blocks", "plans", "batches")]
@@ -284,7 +291,7 @@ def in_messages(commands, plain):
     ]
 
 
-def in_rules(decided):
+def in_rules(decided: Sequence[Command]) -> list[Region]:
     """The regions of plant_rules."""
     return [
         Region("plant_rules/specs/Wrong.antt", "all commands", many(decided, "wrong_body s (body.$variant c) = wrong_$word s c")),
@@ -294,7 +301,7 @@ def in_rules(decided):
     ]
 
 
-def regions(commands):
+def regions(commands: Sequence[Command]) -> list[Region]:
     """All regions."""
     decided = sorted(commands, key=lambda it: it.is_last)
     plain, plain_decided = ([it for it in listed if not it.has_list] for listed in (commands, decided))

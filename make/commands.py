@@ -40,7 +40,7 @@ class Kind:
     ruled: str = ""
 
 
-def number(field, bits, shown, rule, ruled, back):
+def number(field: str, bits: int, shown: str, rule: str, ruled: str, back: str) -> Kind:
     """A member that is a number which its type alone bounds."""
     return Kind(
         field, lined="decimal c.@", is_line="number_line c.@", read="number_in @", back=f"{back} c.@ #", bits=bits, shown=f"{shown}(c.@)",
@@ -64,16 +64,19 @@ KINDS = {
     ),
 }
 
+# What each member is of a command that has a list.
+OF_LIST = Kind("")
+
 
 @dataclasses.dataclass(frozen=True)
 class Member:
-    """A member of a command: its name, and what it is; none of a command that has a list."""
+    """A member of a command: its name, and what it is."""
 
     name: str
-    kind: Kind | None
+    kind: Kind
 
     @property
-    def variant(self):
+    def variant(self) -> str:
         """Its name among the members of messages."""
         return "Definition" if self.name == "def" else camel(self.name)
 
@@ -82,9 +85,10 @@ class Member:
 class Command:
     """A command. What is empty follows from the word."""
 
-    # In lines; its members, each as NAME:KIND, or of a command that has a list by its name alone.
+    # In lines; its members as they are written, each as NAME:KIND, or of a command that has a list by its name alone.
     word: str
-    members: str
+    written: dataclasses.InitVar[str]
+    members: list[Member] = dataclasses.field(init=False)
     # Its type, its variant among the commands, and among the kinds of commands.
     type: str = ""
     variant: str = ""
@@ -97,9 +101,9 @@ class Command:
     # Whether it comes after the others where they are decided.
     is_last: bool = False
 
-    def __post_init__(self):
-        words = [it.partition(":") for it in self.members.split()]
-        self.members = [Member(name, KINDS.get(kind)) for name, _, kind in words]
+    def __post_init__(self, written: str) -> None:
+        words = [it.partition(":") for it in written.split()]
+        self.members = [Member(name, KINDS.get(kind, OF_LIST)) for name, _, kind in words]
         self.variant = self.variant or camel(self.word)
         self.type = self.type or self.variant
         self.kind = self.kind or camel(self.word)
@@ -107,9 +111,9 @@ class Command:
         self.effect = self.effect or self.word
 
     @property
-    def has_list(self):
+    def has_list(self) -> bool:
         """Whether it has a list."""
-        return any(it.kind is None for it in self.members)
+        return any(it.kind is OF_LIST for it in self.members)
 
 
 # In the order of the formats.
@@ -140,7 +144,7 @@ COMMANDS = [
 ]
 
 
-def main():
+def main() -> int:
     return regions.run("make/commands.py", __doc__, "commands", command_regions.regions(COMMANDS))
 
 

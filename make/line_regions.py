@@ -1,19 +1,25 @@
 """The regions of single lines that name each table, or each plain one: imports, fields and arms."""
 from __future__ import annotations
 
+from collections.abc import Iterable, Sequence
+from typing import TYPE_CHECKING
+
 from regions import Region
 from table_words import filled, is_stored_as_read, keyed, law, many, orders, row_laws, row_types, used, uses, values
+
+if TYPE_CHECKING:
+    from tables import Desk, Table
 
 ROWS, STATE = "plant_base.specs", "plant_base.specs.PlantState"
 BASE, OWN, LAWS = "plant_base.specs.RowValues", "plant_tables_columns.specs.ValidValues", "plant_tables_columns.proofs.RowLaws"
 
 
-def plain(desk):
+def plain(desk: Desk) -> list[Table]:
     """The tables whose rows have a field for each column and are found by one id."""
     return [it for it in desk.tables if it.plain]
 
 
-def state_types(desk, others=(), grows=True):
+def state_types(desk: Desk, others: Iterable[str] = (), grows: bool = True) -> list[str]:
     """The types of the rows of a state."""
     return sorted({it.state_row for it in desk.tables if it.in_state and (grows or not it.grows)}.union(others))
 
@@ -21,13 +27,13 @@ def state_types(desk, others=(), grows=True):
 # ---- plant_base and plant_view
 
 
-def values_of(table):
+def values_of(table: Table) -> str:
     """The record that says that the values of a plain row obey their rules."""
     fields = [f"  pub {column.field} : is_{column.kind.rule.lower()} $letter.{column.field} ≡ true" for column in table.columns]
     return filled("\n".join(["pub record $values ($letter : $row) : Type 0 where", *fields]), table)
 
 
-def in_base(desk):
+def in_base(desk: Desk) -> list[Region]:
     """The regions of plant_base."""
     types = row_types(desk.tables, "Batch EdgeKind Header Lifting MarkKind MovementKind NEWEST_SCHEMA OrderRow Place Position RecipeLine".split())
     values_path = "plant_base/specs/RowValues.antt"
@@ -40,12 +46,12 @@ def in_base(desk):
     ]
 
 
-def viewed_types(desk):
+def viewed_types(desk: Desk) -> str:
     """The types that a view names."""
     return used("plant_base", row_types([it for it in desk.tables[1:] if it.name != "edge"], ["Batch", "Id", "Position"]))
 
 
-def in_view(desk):
+def in_view(desk: Desk) -> list[Region]:
     """The regions of plant_view."""
     tables, rows = "plant_view/specs/Tables.antt", desk.tables[1:]
     found = "ghost " + uses(STATE, [filled("${one}_at", it) for it in plain(desk)]) + ";"
@@ -66,7 +72,7 @@ def in_view(desk):
 # ---- plant_tables_columns, plant_tables and plant_tables_read
 
 
-def in_columns(desk):
+def in_columns(desk: Desk) -> list[Region]:
     """The regions of plant_tables_columns, and the orders of plant_tables."""
     tables, rows, masters = desk.tables, desk.tables[1:], plain(desk)
     laws, specs, code = "plant_tables_columns/proofs/RowLaws.antt", "plant_tables_columns.specs.TableColumns", "plant_tables_columns/src/masters.rt"
@@ -87,14 +93,14 @@ def in_columns(desk):
     ]
 
 
-def rows_back(tables):
+def rows_back(tables: Sequence[Table]) -> str:
     """That what each table is read as follows from what all are read as."""
     steps = many(tables, "option_and_then_some _ _ r h (λ _ $list h.")
     fields = "; ".join(f"{it.list} = {it.list}" for it in tables)
     return f"{steps}\nsubst (AreRows x) (some_same _ r h) (record {{ {fields} }}){')' * len(tables)}"
 
 
-def in_readings(desk):
+def in_readings(desk: Desk) -> list[Region]:
     """The regions of plant_tables_read."""
     tables, rows = desk.tables, desk.tables[1:]
     again = "plant_tables_read/proofs/RowsReadBack.antt"
@@ -113,7 +119,7 @@ def in_readings(desk):
 # ---- plant_keyed
 
 
-def in_keyed(desk):
+def in_keyed(desk: Desk) -> list[Region]:
     """The regions of plant_keyed."""
     tables, rows, shown = desk.tables, desk.tables[1:], [it for it in desk.tables[1:] if it.in_state]
     finds, proof, view = "plant_keyed/proofs/LookupFinds.antt", "plant_keyed/proofs/AbstractionIsState.antt", "plant_keyed/src/view.rt"
@@ -137,7 +143,7 @@ fn $one(&mut self, id: Id) -> Result<Option<$row>, Fault> {
 # ---- the keeper over lists
 
 
-def in_lists(desk):
+def in_lists(desk: Desk) -> list[Region]:
     """The regions of plant_sorted and plant_desk."""
     masters, lists = plain(desk), "plant_desk/src/lists.rt"
     types, found = used("plant_base", row_types(masters)), [filled("${one}_of", it) for it in masters]
@@ -163,14 +169,14 @@ KEYS = {
 }
 
 
-def stored_key(table):
+def stored_key(table: Table) -> str:
     """The key of a stored row."""
     kinds = ["number" if column.kind.is_number else "text" for column in table.keys[0]]
     parts = " ".join(f"(← {'number' if kind == 'number' else 'id'}_at row {place})" for place, kind in enumerate(kinds))
     return filled(f"key_in table.$Name row = do Some (key.{KEYS[' '.join(kinds)]} {parts})", table)
 
 
-def in_checks(desk):
+def in_checks(desk: Desk) -> list[Region]:
     """The regions of the checks, and of the state invariant."""
     masters, rows = plain(desk), desk.tables[1:]
     by_id = [it for it in rows if len(it.keys[0]) == 1 and not it.keys[0][0].kind.is_number]
@@ -186,6 +192,6 @@ def in_checks(desk):
     ]
 
 
-def regions(desk):
+def regions(desk: Desk) -> list[Region]:
     """All regions of single lines."""
     return [*in_base(desk), *in_view(desk), *in_columns(desk), *in_readings(desk), *in_keyed(desk), *in_lists(desk), *in_checks(desk)]

@@ -1,33 +1,39 @@
 """What the regions on the tables of each schema repeat: which tables a schema has, adds and lacks, and what is proved of those."""
 from __future__ import annotations
 
+from collections.abc import Iterable
+from typing import TYPE_CHECKING
+
 from regions import Region, chain, nested
 from table_words import filled, later, many, uses
+
+if TYPE_CHECKING:
+    from tables import Desk, Table
 
 DEFS = "plant_tables.specs.DeskTableDefs"
 
 
-def schemas(desk):
+def schemas(desk: Desk) -> list[int]:
     """The schemas after the first."""
     return sorted({it.schema for it in later(desk.tables)})
 
 
-def added(desk, schema):
+def added(desk: Desk, schema: int) -> list[Table]:
     """The tables that a schema adds to the one before it."""
     return [it for it in desk.tables if it.schema == schema]
 
 
-def declared(tables):
+def declared(tables: Iterable[Table]) -> str:
     """The list of the declarations of these tables."""
     return chain(filled("${name}_table", it) for it in tables)
 
 
-def created(tables):
+def created(tables: Iterable[Table]) -> str:
     """The list of the texts that make these tables."""
     return chain(filled("CREATE_$NAME.now", it) for it in tables)
 
 
-def choice(cases, otherwise):
+def choice(cases: Iterable[tuple[str, str]], otherwise: str) -> str:
     """The list of the first case whose test is passed, or else the last one."""
     text = otherwise
     for number, (test, items) in reversed(list(enumerate(cases))):
@@ -35,7 +41,7 @@ def choice(cases, otherwise):
     return text
 
 
-def counted(number):
+def counted(number: int) -> str:
     """A number as a pattern."""
     return "zero" if number == 0 else f"(suc {counted(number - 1)})"
 
@@ -43,11 +49,11 @@ def counted(number):
 # ---- plant_tables
 
 
-def tables_of_schemas(desk):
+def tables_of_schemas(desk: Desk) -> str:
     """The lists of the tables of a schema."""
     tables, numbers = desk.tables, schemas(desk)[::-1]
 
-    def from_on(lowest, highest):
+    def from_on(lowest: int, highest: int) -> str:
         return declared([it for it in tables if lowest <= it.schema <= highest])
 
     newest = numbers[0]
@@ -75,7 +81,7 @@ added_table_defs schema =
     {adds}"""
 
 
-def added_texts(desk, schema):
+def added_texts(desk: Desk, schema: int) -> str:
     """That the texts of the tables that a schema adds make these."""
     tables = added(desk, schema)
     made = ["record { apart = λ tree. refl }", *(filled("makes CREATE_$NAME.now ${name}_table refl", it) for it in tables), "tt"]
@@ -85,13 +91,13 @@ unfolding everything
 schema_{schema}_added = {nested(made)}"""
 
 
-def by_schema(desk, table, older, newer, newest):
+def by_schema(desk: Desk, table: Table, older: str, newer: str, newest: str) -> str:
     """A proof for each schema: of those before a table's, of those from it on, and of the newest."""
     parts = [older if schema < table.schema else newer for schema in range(schemas(desk)[-1])]
     return " ".join(f"({part})" for part in [*parts, newest])
 
 
-def place_of(desk, table):
+def place_of(desk: Desk, table: Table) -> str:
     """That a table is at its place in each schema that has it."""
     having = by_schema(desk, table, "λ e. absurd cc", "λ _. refl", "λ s newest _. rw newest refl")
     proof = f"= by_schema (λ s. nat_le $schema s ≡ true → slice_get (table_defs_of s) $place ≡ Some ${{name}}_table) {having}"
@@ -102,7 +108,7 @@ pub ${{name}}_place : (schema : ℕ) → nat_le $schema schema ≡ true → slic
 ${{name}}_place {proof}""", table)
 
 
-def lack_of(desk, table):
+def lack_of(desk: Desk, table: Table) -> str:
     """That nothing is at its place in the schemas before."""
     is_newest = table.schema == schemas(desk)[-1]
     lacking = by_schema(desk, table, "λ _. refl", "λ e. absurd cc", f"λ s newest e. absurd {'cc' if is_newest else '(grind (arith, nat_tests))'}")
@@ -111,7 +117,7 @@ pub no_${{name}}_place : (schema : ℕ) → nat_le $schema schema ≡ false → 
 no_${{name}}_place = by_schema (λ s. nat_le $schema s ≡ false → slice_get (table_defs_of s) $place ≡ None) {lacking}""", table)
 
 
-def no_added(desk, schema):
+def no_added(desk: Desk, schema: int) -> str:
     """That tables of the schema before have no rows of those that this one adds."""
     tables = added(desk, schema)
     statement = (f"no_added_{schema} : (t : Tables) → LacksLater {schema - 1} t → (j : ℕ) (table_def : TableDef) → slice_get ({declared(tables)}) j"
@@ -122,7 +128,7 @@ def no_added(desk, schema):
     return "\n".join([statement, *rows, none])
 
 
-def made_in_code(desk):
+def made_in_code(desk: Desk) -> str:
     """The calls that make the tables that a schema adds."""
     calls = []
     for schema in schemas(desk):
@@ -135,7 +141,7 @@ def made_in_code(desk):
     return "\n".join(calls)
 
 
-def made_in_proofs(desk):
+def made_in_proofs(desk: Desk) -> str:
     """What these calls make."""
     numbers = schemas(desk)
     parts = ["\n".join([
@@ -158,7 +164,7 @@ pub {goal}-no_crash_state_added : goal.{goal}-no_crash_state_added
     return "\n\n".join(parts)
 
 
-def in_plant_tables(desk):
+def in_plant_tables(desk: Desk) -> list[Region]:
     """The regions of plant_tables."""
     tables, numbers = later(desk.tables), schemas(desk)
     statements, raised = "plant_tables/proofs/StatementsOnDesk.antt", "plant_tables/proofs/RaisedSchema.antt"
@@ -187,7 +193,7 @@ def in_plant_tables(desk):
 # ---- tables that are read
 
 
-def in_readings(desk):
+def in_readings(desk: Desk) -> list[Region]:
     """The regions of plant_tables_read, where a schema has a table or lacks it."""
     tables, count, older = later(desk.tables), len(desk.tables), schemas(desk)[-1]
     places = [filled(name, it) for name in ("${name}_place", "no_${name}_place") for it in tables]
@@ -204,17 +210,17 @@ let many : length c.args.readings.now ≡ {count} = sym (length-map c.args.readi
 # ---- rows of the state that a schema lacks
 
 
-def lacked(desk):
+def lacked(desk: Desk) -> list[Table]:
     """The tables with rows of the state that an older schema lacks."""
     return [it for it in later(desk.tables) if it.in_state]
 
 
-def together(items):
+def together(items: Iterable[str]) -> str:
     """The components of a record that has no names for them."""
     return f"({', '.join(items)})"
 
 
-def in_states(desk):
+def in_states(desk: Desk) -> list[Region]:
     """The regions on the rows of a state that a schema lacks."""
     tables = lacked(desk)
     wholes, read = [f"whole.{number}" for number in range(len(tables))], [it for it in later(desk.tables) if it.schema > 2]
@@ -245,6 +251,6 @@ $list = added_rises row_of_$one ${name}_table $order (λ a b. by_$key_kinds $key
     ]
 
 
-def regions(desk):
+def regions(desk: Desk) -> list[Region]:
     """All regions on schemas."""
     return [*in_plant_tables(desk), *in_readings(desk), *in_states(desk)]

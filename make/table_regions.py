@@ -2,14 +2,19 @@
 from __future__ import annotations
 
 import re
+from collections.abc import Sequence
+from typing import TYPE_CHECKING
 
 from regions import Region, chain, nested, packed
 from table_words import bracketed, filled, imports, is_stored_as_read, keyed, later, many, names, orders
 
+if TYPE_CHECKING:
+    from tables import Column, Desk, Table
+
 # ---- texts
 
 
-def constant(name, text, doc=""):
+def constant(name: str, text: str, doc: str = "") -> str:
     """A fixed text in code."""
     line = f'pub(crate) const {name}: &str = "{text}";'
     if len(line) > 100:
@@ -17,13 +22,13 @@ def constant(name, text, doc=""):
     return f"/// {doc}\n{line}" if doc else line
 
 
-def insert_text(table):
+def insert_text(table: Table) -> str:
     """The text that adds a row."""
     places = ", ".join(f"?{number}" for number in range(1, len(table.columns) + 1))
     return f"INSERT INTO {table.name} ({names(table.columns)}) VALUES ({places})"
 
 
-def put_text(table):
+def put_text(table: Table) -> str:
     """The text that puts a row."""
     if not table.updates:
         return insert_text(table)
@@ -31,30 +36,30 @@ def put_text(table):
     return f"{insert_text(table)} ON CONFLICT ({names(table.keys[0])}) DO UPDATE SET {updates}"
 
 
-def compared(columns):
+def compared(columns: str) -> str:
     """The test of the columns whose values are given."""
     return " AND ".join(f"{column} = ?{number}" for number, column in enumerate(columns.split(), 1))
 
 
-def select_text(table, columns=""):
+def select_text(table: Table, columns: str = "") -> str:
     """The text that reads the rows with given values in these columns, by the key."""
     where = f" WHERE {compared(columns)}" if columns else ""
     return f"SELECT {names(table.columns)} FROM {table.name}{where} ORDER BY {names(table.keys[0])}"
 
 
-def create_text(table):
+def create_text(table: Table) -> str:
     """The text that makes a table."""
     columns = [f"{column.name} {column.kind.sql}" for column in table.columns]
     return f"CREATE TABLE {table.name} ({', '.join(columns + [f'UNIQUE ({names(key)})' for key in table.keys])}) STRICT"
 
 
-def declared(column):
+def declared(column: Column) -> str:
     """The declaration of a column in code."""
     kind = "Integer" if column.kind.is_number else "Text"
     return f'{kind}{"" if column.kind.sql.endswith("NOT NULL") else "OrNull"}(b"{column.name}")'
 
 
-def declaration(table):
+def declaration(table: Table) -> str:
     """The constant that declares a table."""
     keys = ", ".join(f"&[{', '.join(str(table.number(column.name)) for column in key)}]" for key in table.keys)
     columns = bracketed([declared(column) for column in table.columns])
@@ -67,7 +72,7 @@ pub const $NAME: TableDef<'static> = TableDef {{
 }};""", table)
 
 
-def constants_of(desk, table):
+def constants_of(desk: Desk, table: Table) -> str:
     """The constants of a table."""
     indexes = sorted((it for it in desk.indexes if it.table == table.name), key=lambda it: table.number(it.columns.split()[0]))
     parts = [declaration(table), constant(f"CREATE_{table.name.upper()}", create_text(table))]
@@ -82,7 +87,7 @@ def constants_of(desk, table):
     return "\n\n".join(parts)
 
 
-def tables_in(desk):
+def tables_in(desk: Desk) -> str:
     """How many tables each schema has."""
     count = {schema: sum(1 for table in desk.tables if table.schema <= schema) for schema in sorted({table.schema for table in desk.tables})}
     branches = [f"if schema >= {schema} {{\n        {count[schema]}\n    }} else " for schema in sorted(count, reverse=True) if schema > 1]
@@ -98,7 +103,7 @@ pub fn tables_in(schema: u64) -> usize
 }}"""
 
 
-def all_table_defs(desk):
+def all_table_defs(desk: Desk) -> str:
     """The function and the array that list all tables."""
     count = len(desk.tables)
     return f"""/// How each table of the newest schema is declared, in the order in which they are made.
@@ -122,17 +127,17 @@ pub(crate) const CREATE_TABLES: [&str; {count}] = [
 USES = "plant_tables.specs.DeskTableDefs"
 
 
-def newest(desk):
+def newest(desk: Desk) -> list[Table]:
     """The tables of the newest schema: proofs about those of older ones are written by hand."""
     return [table for table in desk.tables if table.schema >= 4]
 
 
-def in_plant_tables(desk):
+def in_plant_tables(desk: Desk) -> list[Region]:
     """The regions of plant_tables."""
     return [*in_table_specs(desk), *in_put_specs(desk), *in_table_code(desk), *in_desk_statements(desk), *in_row_changes(desk), *in_writing(desk)]
 
 
-def in_table_specs(desk):
+def in_table_specs(desk: Desk) -> list[Region]:
     """The regions that declare the tables and their changes."""
     tables, rows = desk.tables, desk.tables[1:]
     defs, contents, premises = (f"plant_tables/specs/{name}.antt" for name in ("DeskTableDefs", "DeskTables", "Keyed"))
@@ -153,7 +158,7 @@ ${name}_table = record { name = codes "$name"; columns = ${stored}_columns.decla
     ]
 
 
-def in_put_specs(desk):
+def in_put_specs(desk: Desk) -> list[Region]:
     """The regions that say which texts put a row, and which only add one."""
     specs, answers, tables = "plant_tables/specs/PutStatements.antt", "plant_tables/proofs/laws/put_law/Answers.antt", desk.tables
     return [
@@ -170,7 +175,7 @@ def in_put_specs(desk):
     ]
 
 
-def in_table_code(desk):
+def in_table_code(desk: Desk) -> list[Region]:
     """The regions of the declarations and the texts in code."""
     path = "plant_tables/src/table_defs.rt"
     return [
@@ -180,7 +185,7 @@ def in_table_code(desk):
     ]
 
 
-def in_writing(desk):
+def in_writing(desk: Desk) -> list[Region]:
     """The regions of the writing of a change, and of the tables of a new desk."""
     code, answers, tables, rows = "plant_tables/src/write.rt", "plant_tables/proofs/write/write_change/Answers.antt", desk.tables, desk.tables[1:]
     return [
@@ -198,27 +203,27 @@ returns-in-$change-clause-moved g c clean schema of = rw c.in-$change.is (put_mo
     ]
 
 
-def upserts(desk):
+def upserts(desk: Desk) -> list[Table]:
     """The tables whose rows may be replaced."""
     return [table for table in desk.tables if table.updates]
 
 
-def adding(desk):
+def adding(desk: Desk) -> list[Table]:
     """The tables that have a text that only adds a row."""
     return [table for table in desk.tables if not table.updates or table.added]
 
 
-def adds(table):
+def adds(table: Table) -> str:
     """The constant of the text that only adds a row."""
     return ("ADD_" if table.added else "PUT_") + table.name.upper()
 
 
-def put_constants(tables):
+def put_constants(tables: Sequence[Table]) -> list[str]:
     """The constants of the texts that put a row, or only add one."""
     return [name for table in tables for name in ([adds(table)] if table.added else []) + [f"PUT_{table.name.upper()}"]]
 
 
-def in_desk_statements(desk):
+def in_desk_statements(desk: Desk) -> list[Region]:
     """The regions of what the texts say."""
     path, tables = "plant_tables/proofs/DeskStatements.antt", desk.tables
     constants = [name for it in tables for name in [f"CREATE_{it.name.upper()}", *put_constants([it])]]
@@ -247,7 +252,7 @@ inserts_$name = inserts {adds(it)}.now ${{name}}_table [] refl (λ schema tree. 
     ]
 
 
-def in_row_changes(desk):
+def in_row_changes(desk: Desk) -> list[Region]:
     """The regions of the proof that a change of rows is the change of the tables."""
     path, tables, rows = "plant_tables/proofs/RowChangeIsTableChange.antt", desk.tables, desk.tables[1:]
     plain_keys = [it for it in tables if it.schema >= 3 and not any(column.kind.code for column in it.keys[0])]
@@ -266,9 +271,9 @@ ${one}_key = record { total = $key_total; met = λ x r. or_false _ ∙ one_$key_
     ]
 
 
-def keys_after(tables, sorted_tables):
+def keys_after(tables: Sequence[Table], sorted_tables: Sequence[Table]) -> str:
     """That the keys stay in order, change by change."""
-    def clause(pattern, changed, proof):
+    def clause(pattern: str, changed: Table, proof: str) -> str:
         fields = "; ".join(f"{it.list} = {proof if it is changed else 'k.' + it.list}" for it in sorted_tables)
         return f"keyed_after (change.{pattern}) t k = record {{ {fields} }}"
 
@@ -285,7 +290,7 @@ def keys_after(tables, sorted_tables):
 # ---- columns: plant_tables_columns
 
 
-def columns_in_specs(table):
+def columns_in_specs(table: Table) -> str:
     """The columns of a table whose rows are stored field by field."""
     fields, row = [column.field for column in table.columns], table.one[0]
     made = "; ".join(f"{field} = {field}" for field in fields)
@@ -303,7 +308,7 @@ unfoldable pub ${{one}}_from : Row → Option $row
 ${{one}}_from = read_row ${{one}}_columns""", table)
 
 
-def columns_in_code(table):
+def columns_in_code(table: Table) -> str:
     """How the rows of such a table are stored and decoded."""
     stored = bracketed([column.kind.store.replace("@", column.field) for column in table.columns])
     fields = "\n".join(f"            {column.field}: {column.kind.read}(row, {place})?," for place, column in enumerate(table.columns))
@@ -329,7 +334,7 @@ impl Decoded for $row {{
 }}""", table)
 
 
-def column_laws(table):
+def column_laws(table: Table) -> str:
     """What the columns of such a table keep."""
     fields = [column.field for column in table.columns]
     places = ["g" + ".1" * place + ("" if place + 1 == len(fields) else ".0") for place in range(len(fields))]
@@ -343,7 +348,7 @@ ${{one}}_reads = reads ${{one}}_columns (in_words $values Any (λ r g. record {{
     (made_lawful _ _ (λ r. refl) (λ p. refl){line}({laws})))""", table)
 
 
-def in_columns(desk):
+def in_columns(desk: Desk) -> list[Region]:
     """The regions of plant_tables_columns."""
     masters = [table for table in desk.tables if table.plain]
     return [
@@ -358,7 +363,7 @@ def in_columns(desk):
 # ---- readings: plant_tables_read
 
 
-def in_readings(desk):
+def in_readings(desk: Desk) -> list[Region]:
     """The regions of plant_tables_read."""
     tables, rows = desk.tables, desk.tables[1:]
     read, count = "plant_tables_read/src/readings.rt", len(tables)
@@ -390,16 +395,16 @@ select_texts = {chain(f'SELECT_{it.name.upper()}.now' for it in tables)}"""),
     ]
 
 
-def in_collecting(tables, rows):
+def in_collecting(tables: Sequence[Table], rows: Sequence[Table]) -> list[Region]:
     """The regions of the rows of all tables."""
     path = "plant_tables_read/specs/Collecting.antt"
     own = [it for it in tables if is_stored_as_read(it)]
     fields = many(tables, "  $list = $list;")
 
-    def made(own, other):
+    def made(own: str, other: str) -> str:
         return "\n".join(filled(f"$list = {own if is_stored_as_read(it) else other};", it) for it in tables)
 
-    def read(contents, these):
+    def read(contents: str, these: Sequence[Table]) -> str:
         steps = many(these, f"$list ← all_from ${{stored}}_from ({contents} $place)")
         return f"meta ← only_meta ({contents} 0)\n{steps}\nSome (record {{\n{fields}\n}})"
 
@@ -421,7 +426,7 @@ def in_collecting(tables, rows):
     ]
 
 
-def in_read_proofs(tables):
+def in_read_proofs(tables: Sequence[Table]) -> list[Region]:
     """The regions of the proofs that rows are read as they were written."""
     represent, again = "plant_tables_read/proofs/RowsRepresentTables.antt", "plant_tables_read/proofs/RowsReadBack.antt"
     rows, columns = tables[1:], "plant_tables_columns.specs.TableColumns"
@@ -451,7 +456,7 @@ let $list = later_again ${one}_from $place ${name}_table t.$list (nat_le $schema
 # ---- lookups by key: plant_keyed
 
 
-def in_keyed(desk):
+def in_keyed(desk: Desk) -> list[Region]:
     """The regions of plant_keyed."""
     tables = desk.tables
     found = [it for it in tables if it.looked_up]
@@ -473,9 +478,9 @@ ${one}_is $key_field = first_again $read row_of_$one $values $again ${name}_tabl
     ]
 
 
-def look_up_selects(desk, name, table, columns):
+def look_up_selects(desk: Desk, name: str, table_name: str, columns: str) -> str:
     """That the text of a lookup selects what it has to."""
-    table = desk.table(table)
+    table = desk.table(table_name)
     places = chain(str(table.number(column)) for column in columns.split())
     parameters = chain(f'codes "?{number}"' for number in range(1, len(columns.split()) + 1))
     return f"""\
@@ -500,7 +505,7 @@ returns g c = found_reported g.S.Store c.first_found.ensures.same_reference c.fi
     (λ valid holds. ${one}_is _ _ valid holds c.args.$looked_up)"""
 
 
-def in_abstraction(tables, with_state, late):
+def in_abstraction(tables: Sequence[Table], with_state: Sequence[Table], late: Sequence[Table]) -> list[Region]:
     """The regions of the state that a database shows."""
     specs, proof = "plant_keyed/specs/Abstraction.antt", "plant_keyed/proofs/AbstractionIsState.antt"
     shown = [tables[0], *with_state]
@@ -531,7 +536,7 @@ ${list}_here = abstraction_again $order ($key_total) row_of_$one $read $values $
 # ---- the check of rows: plant_check
 
 
-def rule(column, code):
+def rule(column: Column, code: bool) -> str:
     """The rule of a column, as code or as specs name it."""
     name = column.kind.rule
     if name.isupper():
@@ -539,18 +544,18 @@ def rule(column, code):
     return f"ValueRule::{name}" if code else "rule." + re.sub(r"[(), ]+", " ", name).rstrip()
 
 
-def rules_in_code(table):
+def rules_in_code(table: Table) -> str:
     """The rules of a table's columns."""
     rules = bracketed([f"(Column::{variant(column)}, {rule(column, True)})" for column in table.columns])
     return filled(f"Table::$Name => &{rules},".replace("\n    ", "\n"), table)
 
 
-def variant(column):
+def variant(column: Column) -> str:
     """The variant of a column."""
     return "".join(part.capitalize() for part in column.name.split("_"))
 
 
-def in_check(desk):
+def in_check(desk: Desk) -> list[Region]:
     """The regions of plant_check and desk_check."""
     rows = desk.tables[1:]
     rules, fault = "plant_check/src/column_rules.rt", "plant_faults/src/fault.rt"
@@ -590,7 +595,7 @@ fn all_tables() -> [Table; {len(rows)}]
 # ---- the rest
 
 
-def in_other_files(desk):
+def in_other_files(desk: Desk) -> list[Region]:
     """The regions of other crates."""
     late = [it for it in desk.tables if it.schema >= 3 and it.in_state]
     changes = "\n".join(
@@ -616,7 +621,7 @@ impl HasKey for $row {
     ]
 
 
-def in_states(states, plain):
+def in_states(states: Sequence[Table], plain: Sequence[Table]) -> list[Region]:
     """The regions of the rows of a state, and of the lookups of those that one id finds."""
     lists, specs, state = "plant_desk/src/lists.rt", "plant_desk/specs/Lists.antt", "plant_base/specs/PlantState.antt"
     return [
@@ -663,6 +668,6 @@ pub fn $one<V: View>(view: &mut V, id: Id) -> Result<Option<$row>, ViewFault<V::
 }"""
 
 
-def regions(desk):
+def regions(desk: Desk) -> list[Region]:
     """All regions."""
     return [*in_plant_tables(desk), *in_columns(desk), *in_readings(desk), *in_keyed(desk), *in_check(desk), *in_other_files(desk)]

@@ -2,23 +2,28 @@
 from __future__ import annotations
 
 import string
+from collections.abc import Iterable, Sequence
+from typing import TYPE_CHECKING
 
 from regions import camel, chain, packed
+
+if TYPE_CHECKING:
+    from tables import Column, Table
 
 # ---- words of a table
 
 
-def names(columns):
+def names(columns: Iterable[Column]) -> str:
     """Columns by their names."""
     return ", ".join(column.name for column in columns)
 
 
-def is_stored_as_read(table):
+def is_stored_as_read(table: Table) -> bool:
     """Whether what is stored is a row, and not one whose columns may be those of another kind or state."""
     return table.stored_row == table.row
 
 
-def key_kinds(table):
+def key_kinds(table: Table) -> str:
     """The kinds of the columns of a table's key, as the names of lemmas have them."""
     kinds = ["number" if column.kind.is_number else "text" for column in table.keys[0]]
     pairs = {"text text": "two_texts", "number number": "two_numbers", "text number number": "text_numbers", "number text text": "number_two_texts"}
@@ -26,17 +31,17 @@ def key_kinds(table):
     return pairs.get(joined, "_".join(kinds))
 
 
-def key_of(column, row):
+def key_of(column: Column, row: str) -> str:
     """A column of a key as proofs compare it."""
     return f"({column.kind.code} {row}.{column.field})" if column.kind.code else f"{row}.{column.field}"
 
 
-def key_pairs(table, one, other):
+def key_pairs(table: Table, one: str, other: str) -> str:
     """The columns of the keys of two rows, one pair after the other."""
     return " ".join(f"{key_of(column, one)} {key_of(column, other)}" for column in table.keys[0])
 
 
-def key_total(table):
+def key_total(table: Table) -> str:
     """Why the order of a table's rows is total."""
     proof = ""
     for column in table.keys[0]:
@@ -52,7 +57,7 @@ NAMED = (
 ).split()
 
 
-def words(table):
+def words(table: Table) -> dict[str, object]:
     """What a template may name of a table."""
     key = table.keys[0]
     return {
@@ -72,34 +77,36 @@ def words(table):
     }
 
 
-def filled(template, table):
+def filled(template: str, table: Table) -> str:
     """A template with the words of a table."""
     return string.Template(template).substitute(words(table))
 
 
-def many(tables, template, between="\n"):
+def many(tables: Iterable[Table], template: str, between: str = "\n") -> str:
     """A template for each table, with what comes between two."""
     return between.join(filled(template, table) for table in tables)
 
 
-def imports(module, tables, template, before=(), after=()):
+def imports(
+    module: str, tables: Iterable[Table], template: str, before: Iterable[str] = (), after: Iterable[str] = (),
+) -> str:
     """The line of specs and proofs that uses a name of each table."""
     return uses(module, [*before, *(filled(template, table) for table in tables), *after])
 
 
-def bracketed(items, width=60):
+def bracketed(items: Sequence[str], width: int = 60) -> str:
     """The items of an array in a block, in the layout of code: in one line where they are short."""
     if len(", ".join(items)) <= width:
         return f"[{', '.join(items)}]"
     return "[\n" + "".join(f"        {item},\n" for item in items) + "    ]"
 
 
-def uses(module, items):
+def uses(module: str, items: Iterable[str]) -> str:
     """The line of specs and proofs that uses these names of a module."""
     return f"use Rattle.{module}.{{{', '.join(items)}}}"
 
 
-def used(path, items, before="use "):
+def used(path: str, items: Sequence[str], before: str = "use ") -> str:
     """The names that code uses of a module, in one line or in lines that are as full as they can be."""
     line = f"{before}{path}::{{{', '.join(items)}}};"
     return line if len(line) <= 98 else packed(items, f"{before}{path}::{{", "};")
@@ -108,12 +115,12 @@ def used(path, items, before="use "):
 # ---- kinds of tables
 
 
-def later(tables):
+def later(tables: Iterable[Table]) -> list[Table]:
     """The tables that the first schema lacks."""
     return [it for it in tables if it.schema > 1]
 
 
-def keyed(tables):
+def keyed(tables: Sequence[Table]) -> list[Table]:
     """The tables whose rows are in the order of their keys by a premise."""
     return [it for it in tables[1:] if not it.grows]
 
@@ -125,26 +132,26 @@ def keyed(tables):
 ELSEWHERE = ("batch_row_order", "sublot_order", "edge_order", "mark_order")
 
 
-def orders(tables):
+def orders(tables: Iterable[Table]) -> list[str]:
     """The orders of rows, but those that are defined elsewhere than those of the state."""
     return [it.order for it in tables if it.order not in ELSEWHERE]
 
 
-def row_types(tables, others=()):
+def row_types(tables: Iterable[Table], others: Iterable[str] = ()) -> list[str]:
     """The types of rows, and others, by their names."""
     return sorted({it.row for it in tables}.union(others))
 
 
-def values(tables, in_base):
+def values(tables: Iterable[Table], in_base: bool) -> list[str]:
     """That values obey their rules: the names that plant_base defines, or the others."""
     return [it.values for it in tables if it.has_base_values == in_base]
 
 
-def law(table):
+def law(table: Table) -> str:
     """Why a row that is stored as it is read is read again as it was written."""
     return f"{table.one}_reads" if table.again.startswith("(") else table.again
 
 
-def row_laws(tables):
+def row_laws(tables: Iterable[Table]) -> list[str]:
     """Why each stored row is read again as what was written."""
     return [law(it) if is_stored_as_read(it) else f"{it.one}_row_again" for it in tables]

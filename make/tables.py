@@ -11,6 +11,7 @@ from __future__ import annotations
 
 import dataclasses
 import sys
+from collections.abc import Sequence
 
 import line_regions
 import regions
@@ -39,7 +40,7 @@ class Kind:
     code: str = ""
 
     @property
-    def is_number(self):
+    def is_number(self) -> bool:
         """Whether a value in the file is a number, and not a text."""
         return self.sql.startswith("INTEGER")
 
@@ -93,7 +94,7 @@ class Column:
     kind: Kind
 
 
-def columns_of(text):
+def columns_of(text: str) -> list[Column]:
     """Columns that are written NAME:KIND, or NAME=FIELD:KIND where the row's field has another name."""
     columns = []
     for word in text.split():
@@ -124,11 +125,14 @@ class Table:
 
     # In the file; its columns as `columns_of` reads them; its rows in words.
     name: str
-    columns: str
+    written: dataclasses.InitVar[str]
     doc: str
     # The sets of columns that are unique, of which the first is the key; the first schema that has the table.
-    keys: list = dataclasses.field(default_factory=lambda: ["id"])
+    unique: dataclasses.InitVar[Sequence[str]] = ("id",)
     schema: int = 1
+    # The columns, and those of each unique set.
+    columns: list[Column] = dataclasses.field(init=False)
+    keys: list[list[Column]] = dataclasses.field(init=False)
     # In the names of functions. Where rows are stored as those of another type: that type, and in the names of functions of those.
     one: str = ""
     stored: str = ""
@@ -166,9 +170,9 @@ class Table:
     looked_up: str = ""
     place: int = 0
 
-    def __post_init__(self):
-        self.columns = columns_of(self.columns)
-        self.keys = [[next(it for it in self.columns if it.name == word) for word in key.split()] for key in self.keys]
+    def __post_init__(self, written: str, unique: Sequence[str]) -> None:
+        self.columns = columns_of(written)
+        self.keys = [[next(it for it in self.columns if it.name == word) for word in key.split()] for key in unique]
         self.one = self.one or self.name
         self.stored = self.stored or self.one
         self.row = self.row or camel(self.one)
@@ -183,16 +187,16 @@ class Table:
         self.again = self.again or f"(λ r h. {self.one}_reads.again r h tt)"
 
     @property
-    def has_base_values(self):
+    def has_base_values(self) -> bool:
         """Whether it is plant_base that says what values a row has."""
         return self.plain or self.base_values
 
     @property
-    def rows(self):
+    def rows(self) -> str:
         """How the rows are made of a state s in a schema k."""
         return self.made or (f"s.{self.list}" if self.schema == 1 else f"{self.list}_in k s.{self.list}")
 
-    def number(self, column):
+    def number(self, column: str) -> int:
         """The place of a column, from 1."""
         return [it.name for it in self.columns].index(column) + 1
 
@@ -201,19 +205,19 @@ TABLES = [
     Table(
         "meta", "k:number schema:number seq=position.seq:seq at=position.at:moment",
         "The one row with the schema of the tables, the number of accepted commands and the moment of the last.",
-        keys=["k"], list="meta", updates=True, in_state=False,
+        unique=["k"], list="meta", updates=True, in_state=False,
     ),
     Table("class", "id:id name:text", "Material classes.", list="classes", plain=True, looked_up="id"),
     Table("definition", "id:id class:id name:text unit:unit", "Material definitions.", plain=True, looked_up="id"),
     Table(
         "recipe",
         "id=header.recipe:id version=header.version:version product:id base:amount low:amount high:amount title:text state:recipe_state",
-        "Versions of master recipes, without their lines.", keys=["id version"], updates=True,
+        "Versions of master recipes, without their lines.", unique=["id version"], updates=True,
     ),
     Table(
         "recipe_line",
         "recipe:id version:version no=number:line_number kind:line_kind def:id_or_null qty:quantity t1:id_or_empty t2:text t3:id_or_empty",
-        "The lines of master recipes.", keys=["recipe version no"], one="master_line", again="master_line_again",
+        "The lines of master recipes.", unique=["recipe version no"], one="master_line", again="master_line_again",
     ),
     Table(
         "job", "id=order.order:id recipe:id version:version size:amount due:due priority:priority state:job_state",
@@ -222,39 +226,41 @@ TABLES = [
     Table(
         "batch", "id=batch.id:id job:id at:moment by_who:text note:text state:batch_state attempt:attempt next:next closed:flag",
         "Batches, with the columns that are the fold of their events. No two are of one order.",
-        keys=["id", "job"], row="BatchRow", list="batches", order="batch_row_order", updates=True,
+        unique=["id", "job"], row="BatchRow", list="batches", order="batch_row_order", updates=True,
         state_row="Batch", bare="map batch_of_row", lacks="the columns that follow from their events",
         made="map (batch_row s.control_lines s.events) s.batches",
     ),
     Table(
         "control_line", "batch:id no=number:line_number kind:line_kind def:id_or_null qty:quantity t1:id_or_empty t2:text t3:id_or_empty",
-        "The lines of control recipes.", keys=["batch no"], again="control_line_again",
+        "The lines of control recipes.", unique=["batch no"], again="control_line_again",
     ),
     Table(
         "batch_event", "seq:seq batch:id word:event_word phase:phase at:moment by_who:text note:text",
         "What happened to batches.",
-        keys=["seq"], one="event", stored="batch_event", row="BatchEvent", values="HasEventRowValues", grows=True,
+        unique=["seq"], one="event", stored="batch_event", row="BatchEvent", values="HasEventRowValues", grows=True,
     ),
     Table("lot", "id:id def:id", "Material lots.", looked_up="id", base_values=True),
     Table(
         "sublot", "lot:id no=number:sublot place:text stock:quantity", "Material sublots, with their stock.",
-        keys=["lot no"], updates=True, added="Adds a sublot of a lot that is added with it.", state_row="Place", state_list="places",
-        bare="map place_of_row", lacks="their stock", made="map (sublot_row s.movements) s.places",
+        unique=["lot no"], updates=True, added="Adds a sublot of a lot that is added with it.",
+        state_row="Place", state_list="places", bare="map place_of_row", lacks="their stock",
+        made="map (sublot_row s.movements) s.places",
     ),
     Table(
         "movement",
         "seq:seq line:line_number kind:movement_kind lot:id sub:sublot lot2:id_or_null sub2:sublot_or_null batch:id_or_null"
         " amount:amount at:moment by_who:text note:text",
-        "Bookings.", keys=["seq line"], stored="booked", stored_row="BookedRow",
+        "Bookings.", unique=["seq line"], stored="booked", stored_row="BookedRow",
         values="HasMovementRowValues", read="movement_read", again="movement_again", grows=True,
     ),
     Table(
         "hold", "lot:id id:id at:moment by_who=by:text note:text", "The holds of lots.",
-        keys=["lot id"], base_values=True, taken=Taken("Unhold", "lot hold", "DELETE_HOLD", "lot id", after="receipt"),
+        unique=["lot id"], base_values=True,
+        taken=Taken("Unhold", "lot hold", "DELETE_HOLD", "lot id", after="receipt"),
     ),
     Table(
         "edge", "kind:edge_kind a=from:id b=to:id", "Edges of the genealogy.",
-        keys=["kind a b"], row="EdgeRow", values="HasEdgeValues", schema=2, updates=True, in_state=False,
+        unique=["kind a b"], row="EdgeRow", values="HasEdgeValues", schema=2, updates=True, in_state=False,
         made="edges_in k s.movements",
     ),
     Table(
@@ -269,7 +275,7 @@ TABLES = [
     ),
     Table(
         "mark", "recall:id kind:mark_kind id:id", "The marks on what open recalls reach.",
-        keys=["recall kind id"], schema=4, in_state=False, made="marks_in k s.recalls s.movements",
+        unique=["recall kind id"], schema=4, in_state=False, made="marks_in k s.recalls s.movements",
         taken=Taken("Unmark", "recall", "DELETE_MARKS", "recall", after="mark", doc="Takes all marks of a recall away."),
     ),
 ]
@@ -287,7 +293,7 @@ class Index:
     doc: str
 
     @property
-    def table(self):
+    def table(self) -> str:
         return self.name.split("_by_")[0]
 
 
@@ -341,28 +347,28 @@ LOOKUPS = [
 class Desk:
     """The description as a whole."""
 
-    tables: list
-    indexes: list
-    lookups: list
+    tables: list[Table]
+    indexes: list[Index]
+    lookups: list[tuple[str, str, str]]
 
-    def table(self, name):
+    def table(self, name: str) -> Table:
         """The table of this name."""
         return next(it for it in self.tables if it.name == name)
 
 
-def described():
+def described() -> Desk:
     """The description, with the place of each table."""
     for place, table in enumerate(TABLES):
         table.place = place
     return Desk(TABLES, INDEXES, LOOKUPS)
 
 
-def regions_of(desk):
+def regions_of(desk: Desk) -> list[regions.Region]:
     """All regions."""
     return [region for part in (table_regions, schema_regions, line_regions) for region in part.regions(desk)]
 
 
-def main():
+def main() -> int:
     return regions.run("make/tables.py", __doc__, "tables", regions_of(described()))
 
 

@@ -15,6 +15,8 @@ whose function is refused for a call of what another edit broke. A function that
 does a proof that names what the edit took away; but a goal that the edit gave another name is left to the search, without the answer that
 it had, and one that the search leaves open counts as refused: that its clause is false is then to be read.
 """
+from __future__ import annotations
+
 import concurrent.futures
 import os
 import pathlib
@@ -23,6 +25,8 @@ import shutil
 import subprocess
 import sys
 import tempfile
+from collections.abc import Iterable, Iterator, Sequence
+from typing import NamedTuple
 
 TOP = pathlib.Path(__file__).resolve().parent.parent
 sys.path.insert(0, str(TOP / "make"))
@@ -32,7 +36,7 @@ from side_by_side import below, lines_listed, most_at_once, stands_on  # noqa: E
 BY_FORM = re.compile(r"has no field|\(nearest: |is not in scope|has no `|was not admitted")
 
 
-def spans(text, function):
+def spans(text: str, function: str) -> Iterator[tuple[int, int]]:
     """The first and the last line, from 0, of each function of this name in a file that rt fmt has laid out."""
     lines = text.splitlines()
     for at, line in enumerate(lines):
@@ -41,12 +45,21 @@ def spans(text, function):
             yield at, next((end for end in range(at, len(lines)) if lines[end] in ends), at)
 
 
+class Pair(NamedTuple):
+    """A change of a text: the file's name in the crate, empty where none is given, the old text and the new one."""
+
+    name: str
+    old: str
+    new: str
+
+
 class Edit:
     """A wrong body: which function has to refuse it, and the texts that it changes."""
 
-    def __init__(self, path):
-        self.path, self.crate, self.function, self.pairs = path, path.parent.parent.name, None, []
-        name = old = None
+    def __init__(self, path: pathlib.Path) -> None:
+        self.path, self.crate, self.function = path, path.parent.parent.name, ""
+        self.pairs: list[Pair] = []
+        name, old = "", None
         for line in path.read_text().splitlines():
             word, _, text = line.partition(":")
             if word == "refused by" and (named := re.search(r"`([^`]+)`", text)):
@@ -56,29 +69,29 @@ class Edit:
             elif word == "old":
                 old = text.removeprefix(" ")
             elif word == "new" and old is not None:
-                self.pairs.append((name, old, text.removeprefix(" ")))
+                self.pairs.append(Pair(name, old, text.removeprefix(" ")))
                 old = None
 
-    def __str__(self):
+    def __str__(self) -> str:
         return f"{self.crate}/{self.path.stem}"
 
-    def is_in(self, name, line):
+    def is_in(self, name: str, line: int) -> bool:
         """Whether a line, from 0, of one of the crate's files as the edit is applied stands in the function that it names."""
-        texts = {}
+        texts: dict[str, str] = {}
         self.apply(texts)
         return any(first <= line <= last for first, last in spans(texts.get(name, ""), self.function.split("::")[-1]))
 
-    def is_local(self):
+    def is_local(self) -> bool:
         """Whether it changes nothing but the function that it names."""
         files = {name: (TOP / "crates" / self.crate / name).read_text() for name, _, _ in self.pairs}
         return all(self.is_in(name, files[name][: files[name].find(old)].count("\n")) for name, old, _ in self.pairs)
 
-    def apply(self, texts):
+    def apply(self, texts: dict[str, str]) -> str | None:
         """Applies it to the texts of the crate's files, by name, and says what keeps it from being applied, if anything does."""
         for name, old, new in self.pairs:
-            file = TOP / "crates" / self.crate / (name or "")
+            file = TOP / "crates" / self.crate / name
             if not file.is_file():
-                return f"there is no file {name}"
+                return f"there is no file {name or None}"
             text = texts.setdefault(name, file.read_text())
             if text.count(old) != 1:
                 return f"the text stands {text.count(old)} times in {name}: {old.strip()}"
@@ -88,11 +101,11 @@ class Edit:
         return None if self.pairs else "it changes nothing"
 
 
-def edits(folder, names=()):
+def edits(folder: str, names: Sequence[str] = ()) -> list[Edit]:
     return [Edit(it) for it in sorted(TOP.glob(f"crates/*/{folder}/*.edit")) if not names or it.parent.parent.name in names]
 
 
-def apply():
+def apply() -> int:
     every = edits("must-fail") + edits("edits")
     bad = [(edit, why) for edit in every if (why := edit.apply({}))]
     for edit, why in bad:
@@ -101,7 +114,7 @@ def apply():
     return 1 if bad else 0
 
 
-def copy(folder):
+def copy(folder: pathlib.Path) -> int:
     shutil.rmtree(folder, ignore_errors=True)
     shutil.copytree(TOP, folder, ignore=shutil.ignore_patterns(".git", "build", "out", "__pycache__", "*.edit"))
     # rt goes up to the first .git for the top of a repository.
@@ -112,14 +125,15 @@ def copy(folder):
 class Prover:
     """The kit's prover, over the libraries that stand in a folder's crates."""
 
-    def __init__(self, folder):
+    def __init__(self, folder: pathlib.Path) -> None:
         said = subprocess.run(["rt", "doc"], check=True, capture_output=True, text=True).stdout
         self.kit, self.crates = pathlib.Path(said.strip()).parent, folder / "crates"
         self.lines = lines_listed()
         self.listed = stands_on(self.lines)
 
-    def words(self, crate, functions, kept):
+    def words(self, crate: str, functions: Iterable[str], kept: str) -> list[str | pathlib.Path]:
         root = "main" if (TOP / "crates" / crate / "src/main.rt").is_file() else "lib"
+        words: list[str | pathlib.Path]
         words = [self.kit / "bin/rattle", "check", "--crate-name", crate, f"src/{root}.rt", "--jobs", "1", "--incremental", kept]
         words += ["--antt-project", self.kit / "rattle/logic/antt-project.json", "--logic-built", self.kit / "logic_built"]
         words += ["-L", f"dependency={self.kit}/rlibs"]
@@ -130,10 +144,10 @@ class Prover:
             words += ["-L", f"dependency={self.crates / name / 'out/rlib'}"]
         return [*words, *(word for it in functions for word in ("--only", it))]
 
-    def said(self, crate, tried, kept):
+    def said(self, crate: str, tried: Sequence[Edit], kept: str) -> str:
         """What the prover says of the functions that the edits name, with the edits in their files; none where it comes to no end."""
         with tempfile.TemporaryDirectory(prefix="edits-") as room:
-            texts = {}
+            texts: dict[str, str] = {}
             for it in tried:
                 it.apply(texts)
             for part in ("src", "specs", "proofs"):
@@ -149,18 +163,18 @@ class Prover:
 class Verdicts:
     """What the prover said of each function."""
 
-    def __init__(self, said):
+    def __init__(self, said: str) -> None:
         self.said = said.splitlines()
         self.is_whole = bool(self.said) and self.said[-1].startswith("only=")
         found = [re.fullmatch(r"fn \w+::(\S+): (.*)", it) for it in self.said]
         self.functions = {it[1]: it[2] for it in found if it}
 
-    def path(self, function):
+    def path(self, function: str) -> str | None:
         """The path of the function that is meant: the one whose path ends so."""
         fitting = [it for it in self.functions if it == function or it.endswith(f"::{function}")]
         return fitting[0] if len(fitting) == 1 else None
 
-    def open_goals(self, edit, path, is_alone):
+    def open_goals(self, edit: Edit, path: str, is_alone: bool) -> list[str]:
         """What isn't proved of the function itself: its goals that no search closes, and what is wrong with their answers. All that is wrong,
         in other files too, where the edit was tried by itself."""
         goals = re.findall(r"`search` did not prove ([^;]+)", self.functions[path])
@@ -174,7 +188,7 @@ class Verdicts:
         return goals
 
 
-def judged(edit, verdicts, is_alone):
+def judged(edit: Edit, verdicts: Verdicts, is_alone: bool) -> tuple[bool | None, str]:
     """Whether the edit is refused, none where this trial doesn't tell, and what is to be said."""
     if not verdicts.is_whole:
         return None, " / ".join(verdicts.said[:6])[:600]
@@ -190,9 +204,10 @@ def judged(edit, verdicts, is_alone):
     return (True, f"refused by {path}: {goals[0][:110]}") if goals else (None, f"{path}: {verdicts.functions[path][:200]}")
 
 
-def first_round(left):
+def first_round(left: list[Edit]) -> list[Edit]:
     """Those of the edits that can be tried together with the first, in order."""
-    chosen, texts = [], {}
+    chosen: list[Edit] = []
+    texts: dict[str, str] = {}
     for it in left:
         trial = dict(texts)
         if it.is_local() and all(it.function != other.function for other in chosen) and it.apply(trial) is None:
@@ -201,9 +216,10 @@ def first_round(left):
     return chosen or left[:1]
 
 
-def try_crate(prover, crate, every, kept):
+def try_crate(prover: Prover, crate: str, every: Iterable[Edit], kept: str) -> list[tuple[Edit, bool, str]]:
     """Tries the edits of a crate, and gives for each whether it is refused and what is to be said."""
-    left, alone, told = list(every), [], []
+    left, told = list(every), []
+    alone: list[Edit] = []
     while left or alone:
         tried = first_round(left) if left else [alone.pop(0)]
         left = [it for it in left if it not in tried]
@@ -217,12 +233,12 @@ def try_crate(prover, crate, every, kept):
     return told
 
 
-def try_all(chosen, folder, keeps):
+def try_all(chosen: Sequence[Edit], folder: pathlib.Path, keeps: bool) -> int:
     """Tries edits side by side, crate by crate, and gives the status."""
     prover = Prover(folder)
     by_crate = {name: [it for it in chosen if it.crate == name] for name in prover.listed}
 
-    def attempt(name):
+    def attempt(name: str) -> list[tuple[Edit, bool, str]]:
         with tempfile.TemporaryDirectory(prefix="edits-kept-") as kept:
             former = folder / "crates" / name / "out/incremental"
             if keeps and former.is_dir():
@@ -239,13 +255,13 @@ def try_all(chosen, folder, keeps):
     return 1 if failed or not chosen else 0
 
 
-def build_below(names):
+def build_below(names: Iterable[str]) -> None:
     """Builds the libraries below these crates, where they have changed."""
     for name in names:
         subprocess.run(["rt", "check", "--only", ""], cwd=TOP / "crates" / name, check=True, stdout=subprocess.DEVNULL)
 
 
-def main(words):
+def main(words: list[str]) -> int:
     os.chdir(TOP)
     if words == ["apply"]:
         return apply()

@@ -14,6 +14,8 @@ many as crates at once, in build/copies/; what it leaves in out/ comes back to t
 Leaves each program at build/PROGRAM, and what rt says of a crate in build/CRATE.log. Ends with status 0 where all are built; with 1 where
 one isn't, whose last lines are shown; with 2 where nothing could be begun.
 """
+from __future__ import annotations
+
 import fcntl
 import hashlib
 import json
@@ -23,6 +25,7 @@ import signal
 import subprocess
 import sys
 import time
+from collections.abc import Iterable, Mapping, Sequence
 
 COPIES = "build/copies"
 
@@ -47,27 +50,30 @@ SHOWN = 20
 # The files of a crate on which it depends how it is built.
 PARTS = ("src", "specs", "proofs", "stdin", "args", "status")
 
+# Of each crate those of the repository on which it stands.
+Listed = Mapping[str, Sequence[str]]
+
 
 class Wrong(Exception):
     """Why nothing can be begun."""
 
 
-def lines_listed():
+def lines_listed() -> dict[str, str]:
     """The lines of crates.txt, in its order, by the crate that each is about."""
     with open("crates.txt") as it:
         lines = [line.split("#")[0].strip() for line in it]
     return {line.partition(":")[0].split()[0]: line for line in lines if line}
 
 
-def stands_on(lines):
+def stands_on(lines: Mapping[str, str]) -> dict[str, list[str]]:
     """The crates of the list, each with those of the repository on which it stands."""
     named = {name: line.partition(":")[2].split() for name, line in lines.items()}
     return {name: [it for it in words if it in named] for name, words in named.items()}
 
 
-def below(listed, name):
+def below(listed: Listed, name: str) -> list[str]:
     """All crates on which a crate stands, in the order of the list."""
-    found = set()
+    found: set[str] = set()
     left = list(listed[name])
     while left:
         found.add(left[-1])
@@ -75,7 +81,7 @@ def below(listed, name):
     return [it for it in listed if it in found]
 
 
-def sum_of_files(name):
+def sum_of_files(name: str) -> tuple[str, int]:
     """A sum of the texts of one crate, and how many lines they have."""
     sum_of_all, count = hashlib.sha256(), 0
     for part in PARTS:
@@ -89,7 +95,7 @@ def sum_of_files(name):
     return sum_of_all.hexdigest(), count
 
 
-def sums_of(lines, listed, files):
+def sums_of(lines: Mapping[str, str], listed: Listed, files: Mapping[str, tuple[str, int]]) -> dict[str, str]:
     """For each crate needed a sum of all of which it is built: the toolchain, its texts, and those below it."""
     toolchain = subprocess.run(["rt", "version"], capture_output=True, check=True).stdout.decode()
     own = {name: f"{toolchain}{lines[name]} {sum_of_all}" for name, (sum_of_all, _) in files.items()}
@@ -97,31 +103,31 @@ def sums_of(lines, listed, files):
     return {name: hashlib.sha256(text.encode()).hexdigest() for name, text in whole.items()}
 
 
-def chains(listed, files):
+def chains(listed: Listed, files: dict[str, tuple[str, int]]) -> dict[str, int]:
     """For each crate needed the lines of the longest chain of crates that begins with it, each of which stands on the one before."""
-    found = {}
+    found: dict[str, int] = {}
     for name in reversed(files):
         found[name] = files[name][1] + max((found[it] for it in found if name in listed[it]), default=0)
     return found
 
 
-def clock(seconds):
+def clock(seconds: float) -> str:
     return f"{int(seconds) // 60}:{int(seconds) % 60:02}"
 
 
-def processors():
+def processors() -> int:
     """How many processors there are."""
     return len(os.sched_getaffinity(0))
 
 
-def most_at_once():
+def most_at_once() -> int:
     """How many crates may be built at once."""
     with open("/proc/meminfo") as it:
         free = next(1024 * int(line.split()[1]) for line in it if line.startswith("MemAvailable"))
     return max(1, min(processors() + MORE, free // ROOM))
 
 
-def link(one, other):
+def link(one: str, other: str) -> None:
     """Gives a file a second name, or copies it: rt replaces such a file and never writes into it."""
     try:
         os.link(one, other)
@@ -129,7 +135,7 @@ def link(one, other):
         shutil.copy2(one, other)
 
 
-def move(one, other):
+def move(one: str, other: str) -> None:
     """Moves a folder, where it is there, into the place of another."""
     if os.path.isdir(one):
         shutil.rmtree(other, ignore_errors=True)
@@ -139,7 +145,7 @@ def move(one, other):
 class Copy:
     """A copy of the repository in which one crate at a time is built."""
 
-    def __init__(self, number, lines):
+    def __init__(self, number: int, lines: Mapping[str, str]) -> None:
         self.folder = f"{COPIES}/{number}"
         for name in lines:
             os.makedirs(f"{self.folder}/crates/{name}")
@@ -153,7 +159,7 @@ class Copy:
             it.write("".join(f"{line}\n" for line in lines.values()))
         shutil.copy2("HANDLES", f"{self.folder}/HANDLES")
 
-    def take_libraries(self, names):
+    def take_libraries(self, names: Iterable[str]) -> None:
         """Takes over the libraries that were built."""
         for name in names:
             library, to = f"crates/{name}/out/rlib", f"{self.folder}/crates/{name}/out/rlib"
@@ -161,7 +167,7 @@ class Copy:
                 shutil.copytree(library, to, copy_function=link)
 
 
-def words_of(name):
+def words_of(name: str) -> list[str]:
     """The words that a program is to be run with, one a line of its args, as rt takes them."""
     try:
         with open(f"crates/{name}/args") as it:
@@ -173,7 +179,7 @@ def words_of(name):
 class Build:
     """A crate that is being built in a copy."""
 
-    def __init__(self, listed, name, copy, is_program, jobs):
+    def __init__(self, listed: Listed, name: str, copy: Copy, is_program: bool, jobs: int) -> None:
         self.name, self.copy, self.is_program, self.began, self.nice = name, copy, is_program, time.monotonic(), 0
         self.own, self.there = f"crates/{name}", f"{copy.folder}/crates/{name}"
         copy.take_libraries(below(listed, name))
@@ -183,13 +189,14 @@ class Build:
         given = f"{self.there}/stdin" if is_program else os.devnull
         words = ["rt", "run" if is_program else "lib", "--jobs", str(jobs), *(words_of(name) if is_program else [])]
         with open(f"build/{name}.log", "wb") as log, open(given, "rb") as it:
-            how = {"cwd": self.there, "stdin": it, "stdout": log, "stderr": log}
-            self.process = subprocess.Popen(words, start_new_session=True, **how)
+            self.process = subprocess.Popen(
+                words, cwd=self.there, stdin=it, stdout=log, stderr=log, start_new_session=True,
+            )
 
-    def seconds(self):
+    def seconds(self) -> float:
         return time.monotonic() - self.began
 
-    def stand_back(self, nice):
+    def stand_back(self, nice: int) -> None:
         """Has it stand back by so much. It is a session of its own, and Linux shares the processors among these; elsewhere nothing changes."""
         if nice == self.nice:
             return
@@ -200,14 +207,14 @@ class Build:
         except OSError:
             pass
 
-    def end(self):
+    def end(self) -> None:
         """Ends what still runs of it, and has the crate's own folder keep what is there of its work."""
         if self.process.poll() is None:
             os.killpg(self.process.pid, signal.SIGTERM)
             self.process.wait()
         move(f"{self.there}/out", f"{self.own}/out")
 
-    def is_good(self):
+    def is_good(self) -> bool:
         """Whether it ended as it has to: a program with the status that it is to have on its input."""
         wanted = 0
         if self.is_program and os.path.isfile(f"{self.own}/status"):
@@ -216,7 +223,7 @@ class Build:
         is_there = not self.is_program or os.path.isfile(f"{self.own}/out/{self.name}")
         return self.process.returncode == wanted and is_there
 
-    def print_failure(self):
+    def print_failure(self) -> None:
         print(f"\n{self.name} is not built. The last lines of build/{self.name}.log:", flush=True)
         with open(f"build/{self.name}.log", errors="replace") as it:
             print("".join(f"  {line}" for line in it.readlines()[-SHOWN:]), flush=True)
@@ -225,7 +232,7 @@ class Build:
 class Work:
     """All that is to be built, what of it is under way, and what is built."""
 
-    def __init__(self, programs):
+    def __init__(self, programs: Sequence[str]) -> None:
         self.began, self.programs, lines = time.monotonic(), programs, lines_listed()
         self.listed = stands_on(lines)
         for name in programs:
@@ -238,35 +245,37 @@ class Work:
         self.chains, self.sums = chains(self.listed, files), sums_of(self.lines, self.listed, files)
         self.noted = self.read_noted()
         self.built = {it for it in self.needed if self.is_unchanged(it)}
-        self.running, self.news = [], time.monotonic()
+        self.running: list[Build] = []
+        self.news = time.monotonic()
 
     @staticmethod
-    def read_noted():
+    def read_noted() -> dict[str, str]:
         try:
             with open(BUILT) as it:
-                return json.load(it)
+                noted: dict[str, str] = json.load(it)
+                return noted
         except (OSError, ValueError):
             return {}
 
-    def is_unchanged(self, name):
+    def is_unchanged(self, name: str) -> bool:
         left = f"build/{name}" if name in self.programs else f"crates/{name}/out/rlib"
         return self.noted.get(name) == self.sums[name] and os.path.exists(left)
 
-    def print_line(self, words):
+    def print_line(self, words: str) -> None:
         print(f"{clock(time.monotonic() - self.began):>6}  {words}", flush=True)
         self.news = time.monotonic()
 
-    def print_running(self):
+    def print_running(self) -> None:
         shown = ", ".join(f"{it.name} {clock(it.seconds())}" for it in self.running)
         self.print_line(f"{len(self.built)} of {len(self.needed)} done; under way: {shown}")
 
-    def ready(self):
+    def ready(self) -> list[str]:
         """The crates that can be begun, those first that have the longest chain above them."""
         begun = self.built.union(it.name for it in self.running)
         found = [it for it in self.needed if it not in begun and self.built.issuperset(self.listed[it])]
         return sorted(found, key=lambda it: -self.chains[it])
 
-    def begin(self, copies):
+    def begin(self, copies: Iterable[Copy]) -> None:
         ready = self.ready()
         longest = sorted([*ready, *(it.name for it in self.running)], key=lambda it: -self.chains[it])
         for name, copy in zip(ready, [it for it in copies if it not in [other.copy for other in self.running]]):
@@ -275,7 +284,7 @@ class Work:
         for place, build in enumerate(sorted(self.running, key=lambda it: -self.chains[it.name])):
             build.stand_back(STEP * place)
 
-    def note(self, build):
+    def note(self, build: Build) -> None:
         """Notes a crate as built, and leaves a program where it is looked for."""
         self.running.remove(build)
         self.built.add(build.name)
@@ -289,7 +298,7 @@ class Work:
         left = len(self.needed) - len(self.built)
         self.print_line(f"{build.name} is built ({clock(build.seconds())}); {len(self.built)} of {len(self.needed)} done, {left} left")
 
-    def build_all(self, copies):
+    def build_all(self, copies: Sequence[Copy]) -> bool:
         """Builds what isn't built, and tells whether all of it is."""
         while len(self.built) < len(self.needed):
             self.begin(copies)
@@ -305,7 +314,7 @@ class Work:
                 self.print_running()
         return True
 
-    def locked(self):
+    def locked(self) -> list[int]:
         """Keeps other commands of rt out of the crates' folders until what is given is closed, as rt does itself."""
         held = [os.open(f"crates/{it}", os.O_RDONLY) for it in sorted(self.needed)]
         for it in held:
@@ -316,7 +325,7 @@ class Work:
                 fcntl.flock(it, fcntl.LOCK_EX)
         return held
 
-    def done(self):
+    def done(self) -> int:
         """Does all of it, and gives the status."""
         at_once = most_at_once()
         left = len(self.needed) - len(self.built)
@@ -339,7 +348,7 @@ class Work:
         return 0
 
 
-def main(words):
+def main(words: list[str]) -> int:
     if words[:1] in (["-h"], ["--help"]) or not words:
         print(__doc__, end="")
         return 0 if words else 2

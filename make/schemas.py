@@ -7,11 +7,15 @@
 Commands, questions and the rules of values are what `line_check --schema` prints, which is made of the tables by which lines are read. Answers
 and routes are described here; tests/test_schemas.py holds all answers of the sessions against them, and all paths against the program.
 """
+from __future__ import annotations
+
 import json
 import pathlib
 import re
 import subprocess
 import sys
+from collections.abc import Iterable, Mapping, Sequence
+from typing import Any
 
 TOP = pathlib.Path(__file__).resolve().parent.parent
 DOCS = TOP / "docs"
@@ -24,40 +28,45 @@ MOVEMENTS = ("received", "consumed", "produced", "scrapped", "divided", "split",
 CSV_FAULTS = ("TooLong", "Header", "Shape", "Order", "Recipe", "Version", "Size", "Due", "Priority", "TooManyRows", "Memory")
 
 
-def ref(name):
+# A value of JSON; and an object of JSON, such as a schema.
+Json = Any
+Schema = dict[str, Json]
+
+
+def ref(name: str) -> Schema:
     """What a definition says."""
     return {"$ref": f"#/$defs/{name}"}
 
 
-def number(least, most=MOST):
+def number(least: int, most: int = MOST) -> Schema:
     """A whole number from the least to the most."""
     return {"type": "integer", "minimum": least, "maximum": most}
 
 
-def one_of(*schemas):
+def one_of(*schemas: Schema) -> Schema:
     return {"oneOf": list(schemas)}
 
 
-def or_null(schema):
+def or_null(schema: Schema) -> Schema:
     return {"anyOf": [schema, {"type": "null"}]}
 
 
-def words(*those):
+def words(*those: str | int) -> Schema:
     return {"enum": list(those)}
 
 
-def exact(**members):
+def exact(**members: Schema) -> Schema:
     """An object of exactly these members, whose names have no underline at their ends."""
     members = {name.strip("_"): it for name, it in members.items()}
     return {"type": "object", "properties": members, "required": sorted(members), "additionalProperties": False}
 
 
-def rows(schema, most=None):
+def rows(schema: Schema, most: int | None = None) -> Schema:
     """A list of any number of these, or of at most so many."""
     return {"type": "array", "items": schema, **({"maxItems": most} if most else {})}
 
 
-def page(name, row, **more):
+def page(name: str, row: Schema, **more: Schema) -> Schema:
     """A page of a list of this name."""
     return exact(**{name: rows(row, 100)}, more={"type": "boolean"}, **more)
 
@@ -97,7 +106,7 @@ CHECKED = one_of(
 )
 
 
-def answers(states_of_orders, states_of_recipes, commands):
+def answers(states_of_orders: Schema, states_of_recipes: Schema, commands: Iterable[str]) -> dict[str, Schema]:
     """The schema of the answer to each question, by its word; the states and the words of commands are the reader's."""
     batches, orders = page("batches", BATCH_ROW), page("orders", exact(**ORDER))
     return {
@@ -139,13 +148,13 @@ def answers(states_of_orders, states_of_recipes, commands):
     }
 
 
-def refusals():
+def refusals() -> list[tuple[str, int]]:
     """The names of refusals with their numbers, as the program has them."""
     text = (TOP / "crates/plant_base/src/refusal.rt").read_text()
     return [(name, int(no)) for name, no in re.findall(r"^    (\w+) = (\d+),$", text, re.M)]
 
 
-def replies():
+def replies() -> dict[str, Schema]:
     """The schemas of replies and of what is answered in place of an answer."""
     pairs = [exact(name={"const": name}, refused={"const": no}) for name, no in refusals()]
     return {
@@ -160,7 +169,7 @@ def replies():
     }
 
 
-def schema_of(lines):
+def schema_of(lines: Schema) -> Schema:
     """The schemas of lines, with those of replies and answers."""
     found = answers(ref("order_state"), ref("recipe_state"), [it[len("do_"):] for it in lines["$defs"] if it.startswith("do_")])
     asked = sorted(it[len("ask_"):] for it in lines["$defs"] if it.startswith("ask_"))
@@ -211,16 +220,16 @@ CAUSES = {
 }
 
 # Fields of the head of an import.
-FIELDS = [
+FIELDS: list[tuple[str, bool, str, Schema]] = [
     ("Desk-At", True, "the moment of the import", {"type": "string", "pattern": "^[0-9]{1,12}$"}),
     ("Desk-By", False, "who gives it", TEXT),
     ("Desk-Ref", False, "its reference", ID),
 ]
 
 
-def lists(defs):
+def lists(defs: Mapping[str, Schema]) -> dict[str, str]:
     """The paths of lists: of what they are, and their places, as in the questions."""
-    paths = {}
+    paths: dict[str, str] = {}
     for name in sorted(it for it in defs if it.startswith("ask_")):
         members = defs[name].get("properties", {})
         if "above" in members:
@@ -230,28 +239,28 @@ def lists(defs):
     return paths
 
 
-def with_places(value):
+def with_places(value: Json) -> Json:
     """A schema with its references as OpenAPI has them."""
     if isinstance(value, dict):
         return {name: it.replace("#/$defs/", "#/components/schemas/") if name == "$ref" else with_places(it) for name, it in value.items()}
     return [with_places(it) for it in value] if isinstance(value, list) else value
 
 
-def body(schema, kind="application/json"):
+def body(schema: Schema, kind: str = "application/json") -> Schema:
     return {"content": {kind: {"schema": schema}}}
 
 
-def refusing(status, name, schema):
+def refusing(status: int, name: str, schema: Schema) -> dict[str, Schema]:
     """A response of a status other than 200, by its name."""
-    found = {"description": CAUSES[status]}
+    found: Schema = {"description": CAUSES[status]}
     if status == 405:
         found["headers"] = {"Allow": {"description": "the methods of the path", "schema": {"type": "string"}}}
     return {name: {**found, **body(schema)}}
 
 
-def responses():
+def responses() -> dict[str, Schema]:
     """The responses that several paths have, by their names: the status, and of what it is where there is more than one of it."""
-    found = {}
+    found: dict[str, Schema] = {}
     for it in CAUSES:
         schema = {409: ref("refusal"), 503: ref("fault")}.get(it, ref("status"))
         found.update(refusing(it, f"of_{it}", schema))
@@ -261,12 +270,12 @@ def responses():
     return found
 
 
-def others(statuses, **names):
+def others(statuses: Iterable[int], **names: str) -> dict[str, Schema]:
     """References to the responses of statuses, each to the one of that status alone unless another is named."""
     return {str(it): {"$ref": f"#/components/responses/{names.get(f'of_{it}', f'of_{it}')}"} for it in statuses}
 
 
-def parameter(name, defs, word):
+def parameter(name: str, defs: Mapping[str, Schema], word: str) -> Schema:
     """The parameter of a path, by the rule of the question's member; a version is digits there, and so is the number of a command."""
     schema = defs[f"ask_{word}"].get("properties", {}).get(name, ID)
     if name == "version":
@@ -276,27 +285,30 @@ def parameter(name, defs, word):
     return {"name": name, "in": "path", "required": True, "schema": schema}
 
 
-def asked(path, word, defs, schema, kind="application/json"):
+def asked(path: str, word: str, defs: Mapping[str, Schema], schema: Schema, kind: str = "application/json") -> Schema:
     """A path that is asked by GET and HEAD."""
     statuses = (400, 403, 404, 405, 413, 431, 501, 503)
     parameters = [parameter(it, defs, word) for it in re.findall(r"{(\w+)}", path)]
     name = re.sub(r"\W+", "_", path.replace("/v1/", "")).strip("_") or "page"
-    found = {"parameters": parameters} if parameters else {}
+    found: Schema = {"parameters": parameters} if parameters else {}
     for method, answer in (("get", {"description": "The answer", **body(schema, kind)}), ("head", {"description": "As of GET, without the body"})):
         given = {"200": answer, **others(statuses, of_404="of_404_question")}
         found[method] = {"operationId": f"{method}_{name}", "responses": given}
     return found
 
 
-def posted(name, about, taken, answered, parameters=(), conflicts=(409,), **names):
+def posted(
+    name: str, about: str, taken: Schema, answered: Schema,
+    parameters: Sequence[Schema] = (), conflicts: Iterable[int] = (409,), **names: str,
+) -> Schema:
     """A path to which a body is posted."""
     statuses = sorted({400, 403, 404, 405, *conflicts, 411, 413, 431, 501, 503})
-    given = {"parameters": list(parameters)} if parameters else {}
+    given: Schema = {"parameters": list(parameters)} if parameters else {}
     answers = {"200": {"description": about, **body(answered)}, **others(statuses, **names)}
     return {"post": {"operationId": f"post_{name}", **given, "requestBody": {"required": True, **taken}, "responses": answers}}
 
 
-def paths_of(defs):
+def paths_of(defs: Mapping[str, Schema]) -> dict[str, Schema]:
     """All paths of the server."""
     questions = {**QUESTIONS, **lists(defs)}
     found = {path: asked(path, word, defs, ref(f"answer_{word}")) for path, word in questions.items()}
@@ -311,31 +323,33 @@ def paths_of(defs):
     return dict(sorted(found.items()))
 
 
-def version():
+def version() -> str:
     """The newest version of CHANGELOG."""
-    return re.search(r"^## (\S+)", (TOP / "CHANGELOG.md").read_text(), re.M)[1]
+    versions: list[str] = re.findall(r"^## (\S+)", (TOP / "CHANGELOG.md").read_text(), re.M)
+    return versions[0]
 
 
-def openapi_of(schema):
+def openapi_of(schema: Schema) -> Schema:
     """The description of the HTTP of a desk."""
     about = "What `desk serve` answers on 127.0.0.1. FORMATS.md says what members mean. The path / is served with --page alone."
-    return with_places({
+    described: Schema = with_places({
         "openapi": "3.1.0",
         "info": {"title": "Desk", "version": version(), "description": about},
         "servers": [{"url": "http://127.0.0.1:8080"}],
         "paths": paths_of(schema["$defs"]),
         "components": {"responses": responses(), "schemas": schema["$defs"]},
     })
+    return described
 
 
-def made(program):
+def made(program: pathlib.Path) -> dict[pathlib.Path, str]:
     """Both files by their paths, from what the program prints."""
     lines = json.loads(subprocess.run([program, "--schema"], capture_output=True, check=True, text=True, stdin=subprocess.DEVNULL).stdout)
     schema = schema_of(lines)
     return {path: json.dumps(it, indent=1) + "\n" for path, it in ((DOCS / "schema.json", schema), (DOCS / "openapi.json", openapi_of(schema)))}
 
 
-def main(options):
+def main(options: list[str]) -> int:
     if len(options) not in (1, 2) or options[1:] not in ([], ["--check"]):
         sys.exit(__doc__)
     found = made(pathlib.Path(options[0]).resolve())

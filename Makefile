@@ -8,8 +8,8 @@
 # make dist  packs the built programs in build/ with pages of the manual, completions and a unit for systemd, as tar.gz and for Debian
 # make test  the gate (gate/test.sh): every proof, must-fail edit, test and program from nothing, then the tests of the built programs (tests/)
 # make edits has the prover try the edits that the gate doesn't, of all crates or of some: make edits NAMES="plant_tables"
-# What repeats the tables and the commands of the desk is written by make/tables.py and make/commands.py, each from one description, and the
-# gate compares.
+# What repeats the tables, the commands and the questions of the desk is written by make/tables.py, make/commands.py and make/questions.py, each
+# from one description, and the gate compares.
 .PHONY: run desk order_check line_check desk_check genealogy_picture bench_lists dist test edits
 
 run:

@@ -317,8 +317,8 @@ class Http(DeskTestCase):
                 self.check(case, status, wanted)
 
     def test_paths_have_the_methods_that_are_described_and_no_others(self) -> None:
-        source = (TOP / "crates/plant_http_routes/src/routes.rt").read_text()
-        routes = set(re.findall(r'insert\(\s*"(/[^"]*)"', source))
+        source = (TOP / "crates/plant_http_routes/src/route_table.rt").read_text()
+        routes = set(re.findall(r'"(/v1/[^"]*)"', source))
         self.check("paths", set(OPENAPI["paths"]), {*routes, "/"})
         with self.serve("--page") as server:
             for path, methods in OPENAPI["paths"].items():

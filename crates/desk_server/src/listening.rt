@@ -272,6 +272,25 @@ pub fn serve_listener<R: Net + Clock, S: Alter + Drop>(
     ensures ends { EndsServing desk.new.is_shut result }
 {
     let routes = routes_of(Routes::new(alloc))?;
+    serve_by(rt, alloc, listener, &routes, profile, count, desk, log)
+}
+
+/// Serves so many connections of a listener by these routes.
+fn serve_by<R: Net + Clock, S: Alter + Drop>(
+    rt: &R,
+    alloc: Global,
+    listener: &TcpListener,
+    routes: &Routes,
+    profile: Profile<'_>,
+    count: u32,
+    desk: &mut Desk<S>,
+    log: AccessLog<'_>,
+) -> Result<(), ServingFault>
+    requires { desk.old.is_shut ≡ false }
+    ensures same { IsSameStore S.Store desk.old desk.new }
+    ensures serves { ServesAtMost S.Store profile.entry count desk.old desk.new }
+    ensures ends { EndsServing desk.new.is_shut result }
+{
     let mut waiting = waiting_of(Waiting::new(alloc))?;
     let mut reception = Reception::new(alloc, rt, listener)?;
     let mut answered = None;
@@ -281,7 +300,7 @@ pub fn serve_listener<R: Net + Clock, S: Alter + Drop>(
         &mut reception,
         &mut waiting,
         count,
-        &routes,
+        routes,
         profile,
         desk,
         log,

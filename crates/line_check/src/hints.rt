@@ -1,6 +1,7 @@
 //! Hints on bad lines: what is probably meant. A hint goes to standard error, apart from the report; nothing is promised of it.
 
-use crate::words::{command_words, question_words};
+use crate::question_words::question_words;
+use crate::words::command_words;
 use jiff::Timestamp;
 use plant_command_errors::Reason;
 use plant_message_schema::{FormatError, Member, ShapeError, command_kind, own_of, shared_members};

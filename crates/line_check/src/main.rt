@@ -5,6 +5,7 @@ mod ending;
 mod hints;
 mod judge;
 mod lines;
+mod question_words;
 mod rules;
 mod schema;
 mod words;

@@ -1,12 +1,13 @@
 //! The JSON Schema (draft 2020-12) of lines. Its members and their rules are those of the tables by which lines are read, so that a further
 //! command, question or member is in it without being named here.
 
+use crate::question_words::question_words;
 use crate::rules::{DEFINED, name_of, rule_value};
-use crate::words::{command_words, question_words};
+use crate::words::command_words;
 use plant_base::{GREATEST_ORDERS, GREATEST_PARTS};
 use plant_message_schema::{
-    AskedKind, Member, QuestionKind, Row, Rule, asked_kind, check_members, command_kind,
-    list_members, own_of, row_own, shared_members,
+    AskedKind, Member, NodeKind, QuestionKind, Row, Rule, asked_kind, check_members, command_kind,
+    own_of, question_members, row_own, shared_members,
 };
 use plant_recipe::GREATEST_LINES;
 use serde_json::{Map, Value, json};
@@ -118,45 +119,24 @@ fn object_value(
     })
 }
 
-/// An object of a question's word and one id.
-fn named_value(alloc: Global, member: Member, word: &str) -> Result<Value, AllocError> {
-    object_value(alloc, &[Member::Ask], &[member], word)
-}
-
-/// A question about a lot or a batch.
-fn node_value(alloc: Global, word: &str) -> Result<Value, AllocError> {
-    let lot = named_value(alloc, Member::Lot, word)?;
-    let batch = named_value(alloc, Member::Batch, word)?;
-    json!(in alloc; {"oneOf": [lot, batch]})
-}
-
 /// A question of a kind.
 fn question_value(alloc: Global, kind: QuestionKind, word: &str) -> Result<Value, AllocError> {
-    match kind {
-        QuestionKind::Desk | QuestionKind::Moment => object_value(alloc, &[Member::Ask], &[], word),
-        QuestionKind::Lot => named_value(alloc, Member::Lot, word),
-        QuestionKind::Order => named_value(alloc, Member::Order, word),
-        QuestionKind::Batch | QuestionKind::BatchLines => named_value(alloc, Member::Batch, word),
-        QuestionKind::Recall => named_value(alloc, Member::Recall, word),
-        QuestionKind::Definition => named_value(alloc, Member::Definition, word),
-        QuestionKind::Recipe => object_value(
-            alloc,
-            &[Member::Ask],
-            &[Member::Recipe, Member::Version],
-            word,
-        ),
-        QuestionKind::Back | QuestionKind::Forward => node_value(alloc, word),
-        QuestionKind::BackEdges | QuestionKind::ForwardEdges => node_value(alloc, word),
-        QuestionKind::Stands => node_value(alloc, word),
-        QuestionKind::List(list) => object_value(alloc, list_members(list), &[], word),
-    }
+    object_value(alloc, &[Member::Ask], question_members(kind), word)
 }
 
 /// What a word asks for.
 fn asked_value(alloc: Global, kind: AskedKind, word: &str) -> Result<Value, AllocError> {
     match kind {
         AskedKind::Check => object_value(alloc, check_members(), &[], word),
-        AskedKind::Question(question) => question_value(alloc, question, word),
+        AskedKind::About(topic) => question_value(alloc, QuestionKind::About(topic), word),
+        AskedKind::List(list) => question_value(alloc, QuestionKind::List(list), word),
+        AskedKind::Around(around) => {
+            let lot = QuestionKind::Around(around, NodeKind::Lot);
+            let batch = QuestionKind::Around(around, NodeKind::Batch);
+            let lot = question_value(alloc, lot, word)?;
+            let batch = question_value(alloc, batch, word)?;
+            json!(in alloc; {"oneOf": [lot, batch]})
+        }
     }
 }
 

@@ -12,7 +12,7 @@ use Rattle.plant_view.specs.DecisionInvariant.{DecisionInvariant}
 use Rattle.plant_answers.specs.Answers.{answer}
 use Rattle.plant_answers.specs.Genealogy.{amount_of, named}
 use Rattle.plant_answers.specs.Traces.{missing}
-use Rattle.plant_answers.specs.Worklists.{standing_lot}
+use Rattle.plant_answers.specs.ListAnswers.{standing_lot}
 use Rattle.plant_messages.specs.{BookedEdge, Genealogy, RecallAnswer, StandingLot}
 use Rattle.plant_messages.specs.declared.question.Question.TheVariants as Q
 use Rattle.plant_messages.specs.declared.question.Answer.TheVariants as A

@@ -10,7 +10,7 @@ use Rattle.plant_answers.specs.LotAnswers.{answer_lot}
 use Rattle.plant_answers.specs.RecallAnswers.{answer_recall}
 use Rattle.plant_answers.specs.RecipeAnswers.{answer_definition, answer_recipe}
 use Rattle.plant_answers.specs.Traces.{missing, answer_trace}
-use Rattle.plant_answers.specs.Worklists.{answer_list, answer_recipes, answer_ledger, answer_all_holds, answer_by_due, answer_commands}
+use Rattle.plant_answers.specs.ListAnswers.{answer_list}
 use Rattle.plant_messages.specs.{Answer, OrderAnswer, Question}
 use Rattle.plant_messages.specs.declared.question.Question.TheVariants as Q
 use Rattle.plant_messages.specs.declared.question.Answer.TheVariants as A
@@ -33,12 +33,7 @@ answer k s (Q.Stands start) = answer_stands s start (missing s start)
 answer k s (Q.Edges direction start) = answer_edges s direction start (missing s start)
 answer k s (Q.Recall recall) = answer_recall s (recall_at s recall)
 answer k s Q.Moment = A.Moment s.at
-answer k s (Q.List list cursor) = answer_list s list cursor
-answer k s (Q.Recipes state cursor) = answer_recipes s state cursor
-answer k s (Q.Ledger lot cursor) = answer_ledger s lot cursor (lot_at s lot)
-answer k s (Q.AllHolds cursor) = answer_all_holds s cursor
-answer k s (Q.OrdersByDue state cursor) = answer_by_due s state cursor
-answer k s (Q.Commands cursor) = answer_commands s cursor
+answer k s (Q.List list) = answer_list s list
 answer k s (Q.Definition def) = answer_definition (definition_at s def)
 answer k s (Q.Recipe recipe version) = answer_recipe s (recipe_at s recipe version)
 answer k s (Q.BatchLines batch) = answer_batch_lines s (batch_at s batch)

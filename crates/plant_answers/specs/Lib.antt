@@ -9,9 +9,9 @@ pub mod Genealogy
 pub mod AnswerLaws
 pub mod KnownLots
 pub mod LotAnswers
+pub mod ListAnswers
 pub mod RecallAnswers
 pub mod Traces
-pub mod Worklists
 pub mod RecipeAnswers
 pub use Answering.{IsFoundOf, IsRowOf}
 unfoldable pub use Answers.{answer}
@@ -26,5 +26,5 @@ pub use LotAnswers.{answer_lot, lot_answer}
 pub use RecallAnswers.{answer_recall, recall_answer}
 unfoldable pub use RecallAnswers.{reached_list}
 pub use Traces.{answer_trace, ends, is_reached, missing, trace_along, trace_of}
-pub use Worklists.{if_stocked, open_batch, standing_lot}
+pub use ListAnswers.{if_stocked, open_batch, standing_lot}
 pub use RecipeAnswers.{recipe_line}

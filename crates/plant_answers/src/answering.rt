@@ -8,11 +8,8 @@ ghost use Rattle.plant_messages.specs.declared.question.Answer.TheVariants as A;
 
 use crate::batch_answers::batch_answer;
 use crate::batch_lines::batch_lines_answer;
-use crate::commands::commands_answer;
 use crate::edge_answers::edges_answer;
-use crate::list_answers::{
-    all_holds_answer, due_answer, ledger_answer, list_answer, recipes_answer,
-};
+use crate::list_answers::list_answer;
 use crate::lot_answers::lot_answer;
 use crate::recalls::recall_answer;
 use crate::recipe_answers::{definition_answer, recipe_answer};
@@ -48,12 +45,7 @@ pub fn answer<V: Worklists>(
         Question::Edges(direction, start) => edges_answer(alloc, view, *direction, *start),
         Question::Recall(recall) => recall_answer(alloc, view, *recall),
         Question::Moment => moment_answer(view),
-        Question::List(list, cursor) => list_answer(alloc, view, *list, *cursor),
-        Question::Recipes(state, cursor) => recipes_answer(view, *state, *cursor),
-        Question::Ledger(lot, cursor) => ledger_answer(view, *lot, *cursor),
-        Question::AllHolds(cursor) => all_holds_answer(alloc, view, *cursor),
-        Question::OrdersByDue(state, cursor) => due_answer(view, *state, *cursor),
-        Question::Commands(cursor) => commands_answer(alloc, view, *cursor),
+        Question::List(list) => list_answer(alloc, view, *list),
         Question::Definition(def) => definition_answer(view, *def),
         Question::Recipe(recipe, version) => recipe_answer(alloc, view, *recipe, *version),
         Question::BatchLines(batch) => batch_lines_answer(alloc, view, *batch),

@@ -5,43 +5,25 @@ ghost use Rattle.plant_trace.specs.ReadOnly.{ReadOnly};
 ghost use Rattle.plant_worklists.specs.{page_of, receipts_by_number};
 ghost use Rattle.plant_answers.specs.CommandHeads.{behind, has_command, head_of, is_padded};
 ghost use Rattle.plant_answers.specs.CommandHeads.{line_in, moment_in, word_in};
-ghost use Rattle.plant_answers.specs.Worklists.{answer_commands, booked_command, command_page};
+ghost use Rattle.plant_answers.specs.ListAnswers.{booked_command, command_page};
 
 use plant_base::{Items, Moment, Receipt, Text, read_digits};
-use plant_messages::{Answer, BookedCommand, CommandHead, Listed};
+use plant_messages::{BookedCommand, CommandHead};
 use plant_view::ViewFault;
 use plant_worklists::{Page, Worklists};
 use std::alloc::{AllocError, Global};
 
 /// A page of the commands that had references, by their numbers.
-pub(crate) fn commands_answer<V: Worklists>(
+pub(crate) fn command_page<V: Worklists>(
     alloc: Global,
     view: &mut V,
     cursor: Option<u64>,
-) -> Result<Answer, ViewFault<V::Fault>>
-    ensures { ReadOnly V.Edges view.old view.new (IfOk result (λ a. a ≡ answer_commands (V.state view.old) cursor)) }
-{
-    let page = receipts_after(view, cursor)?;
-    match command_page(alloc, &page) {
-        Ok(page) => Ok(Answer::List(Listed::Commands(page))),
-        Err(_) => Err(ViewFault::Memory),
-    }
-}
-
-fn receipts_after<V: Worklists>(
-    view: &mut V,
-    cursor: Option<u64>,
-) -> Result<Page<Receipt>, ViewFault<V::Fault>>
+) -> Result<Page<BookedCommand>, ViewFault<V::Fault>>
     ensures { ReadOnly V.Edges view.old view.new
-        (IfOk result (λ page. page ≡ page_of (receipts_by_number (V.state view.old) cursor))) }
+        (IfOk result (λ page. page ≡ command_page (page_of (receipts_by_number (V.state view.old) cursor)))) }
 {
-    view.receipts_after(cursor).map_err(ViewFault::View)
-}
-
-fn command_page(alloc: Global, page: &Page<Receipt>) -> Result<Page<BookedCommand>, AllocError>
-    ensures { IfOk result (λ shown. shown ≡ command_page page.now) }
-{
-    let rows = booked_commands(alloc, page.rows.as_slice())?;
+    let page = view.receipts_after(cursor).map_err(ViewFault::View)?;
+    let rows = booked_commands(alloc, page.rows.as_slice()).map_err(|_| ViewFault::Memory)?;
     Ok(Page {
         rows: Items::new(rows),
         has_more: page.has_more,

@@ -1,211 +1,115 @@
-// What is answered of a worklist.
-ghost use Rattle.std.specs.Prelude.{◌≡◌, ℕ, true, false, List, Option, IfOk};
-ghost use Rattle.plant_base.specs.{State, class_at, lot_at};
+// What is answered of a list.
+ghost use Rattle.std.specs.Prelude.{◌≡◌, IfOk};
 ghost use Rattle.plant_trace.specs.ReadOnly.{ReadOnly};
 ghost use Rattle.plant_view.specs.DecisionInvariant.{DecisionInvariant};
-ghost use Rattle.plant_worklists.specs.{page_of, orders_in, holds_on, recalls_in, classes_after};
-ghost use Rattle.plant_worklists.specs.{definitions_in, ledger_of, MovementCursor};
-ghost use Rattle.plant_answers.specs.Worklists.{answer_list, answer_holds, answer_definitions};
-ghost use Rattle.plant_answers.specs.Worklists.{answer_recipes, answer_ledger, answer_all_holds};
-ghost use Rattle.plant_answers.specs.Worklists.{answer_by_due};
-ghost use Rattle.plant_messages.specs.declared.listed.Listed.TheVariants as listed;
-ghost use Rattle.plant_messages.specs.declared.question.Answer.TheVariants as A;
+ghost use Rattle.plant_answers.specs.ListAnswers.{answer_list, listed_of, unknown_of, unless_there};
 
-use crate::open_batches::batches_answer;
-use crate::stocked_lots::lots_answer;
-use plant_base::{Class, Definition, Hold, Id, JobState, Lot, Movement, RecipeState, Refusal};
+use crate::commands::command_page;
+use crate::open_batches::batch_page;
+use crate::stocked_lots::lot_page;
+use plant_base::Refusal;
 use plant_messages::{Answer, Listed};
-use plant_view::{ViewFault, lookup};
-use plant_worklists::{
-    DueCursor, HoldCursor, MovementCursor, Page, RecipeCursor, Worklist, Worklists, all_holds,
-};
+use plant_view::{View, ViewFault, lookup};
+use plant_worklists::{ListQuestion, Worklists, all_holds};
 use std::alloc::Global;
 
-/// A page of a worklist: what comes after an id, or its beginning where none is given.
+/// The page that is asked for, or the refusal where what the list is of isn't there.
 pub(crate) fn list_answer<V: Worklists>(
     alloc: Global,
     view: &mut V,
-    list: Worklist,
-    cursor: Option<Id>,
+    list: ListQuestion,
 ) -> Result<Answer, ViewFault<V::Fault>>
     ensures { ReadOnly V.Edges view.old view.new
         (DecisionInvariant (V.state view.old)
-        → IfOk result (λ a. a ≡ answer_list (V.state view.old) list cursor)) }
+        → IfOk result (λ a. a ≡ answer_list (V.state view.old) list)) }
+{
+    match unknown_of(view, list)? {
+        Some(refusal) => Ok(Answer::Unknown(refusal)),
+        None => Ok(Answer::List(listed_of(alloc, view, list)?)),
+    }
+}
+
+/// The refusal where what the list is of isn't there.
+fn unknown_of<V: View>(
+    view: &mut V,
+    list: ListQuestion,
+) -> Result<Option<Refusal>, ViewFault<V::Fault>>
+    ensures { ReadOnly V.Edges view.old view.new
+        (IfOk result (λ refusal. refusal ≡ unknown_of (V.state view.old) list)) }
 {
     match list {
-        Worklist::Orders(state) => orders_answer(view, state, cursor),
-        Worklist::OpenBatches => batches_answer(alloc, view, false, cursor),
-        Worklist::ClosedBatches => batches_answer(alloc, view, true, cursor),
-        Worklist::Lots(def) => lots_answer(alloc, view, def, cursor),
-        Worklist::Holds(lot) => holds_answer(view, lot, cursor),
-        Worklist::OpenRecalls => recalls_answer(view, cursor),
-        Worklist::LiftedRecalls => lifted_answer(view, cursor),
-        Worklist::Classes => classes_answer(view, cursor),
-        Worklist::Definitions(class) => definitions_answer(view, class, cursor),
+        ListQuestion::Lots(def, _) => {
+            let known = lookup::definition(view, def)?;
+            Ok(unless_there(known, Refusal::UnknownDefinition))
+        }
+        ListQuestion::Holds(lot, _) | ListQuestion::Movements(lot, _) => {
+            let known = lookup::lot(view, lot)?;
+            Ok(unless_there(known, Refusal::UnknownLot))
+        }
+        ListQuestion::Definitions(class, _) => {
+            let known = lookup::class(view, class)?;
+            Ok(unless_there(known, Refusal::UnknownClass))
+        }
+        _ => Ok(None),
     }
 }
 
-fn orders_answer<V: Worklists>(
-    view: &mut V,
-    state: JobState,
-    cursor: Option<Id>,
-) -> Result<Answer, ViewFault<V::Fault>>
-    ensures { ReadOnly V.Edges view.old view.new
-        (IfOk result (λ a. a
-        ≡ A.List (listed.Orders (page_of (orders_in (V.state view.old) state cursor))))) }
-{
-    let page = view.orders_in(state, cursor).map_err(ViewFault::View)?;
-    Ok(Answer::List(Listed::Orders(page)))
-}
-
-fn recalls_answer<V: Worklists>(
-    view: &mut V,
-    cursor: Option<Id>,
-) -> Result<Answer, ViewFault<V::Fault>>
-    ensures { ReadOnly V.Edges view.old view.new
-        (IfOk result (λ a. a
-        ≡ A.List (listed.Recalls (page_of (recalls_in (V.state view.old) true cursor))))) }
-{
-    let page = view.recalls_in(true, cursor).map_err(ViewFault::View)?;
-    Ok(Answer::List(Listed::Recalls(page)))
-}
-
-fn lifted_answer<V: Worklists>(
-    view: &mut V,
-    cursor: Option<Id>,
-) -> Result<Answer, ViewFault<V::Fault>>
-    ensures { ReadOnly V.Edges view.old view.new
-        (IfOk result (λ a. a
-        ≡ A.List (listed.LiftedRecalls (page_of (recalls_in (V.state view.old) false cursor))))) }
-{
-    let page = view.recalls_in(false, cursor).map_err(ViewFault::View)?;
-    Ok(Answer::List(Listed::LiftedRecalls(page)))
-}
-
-fn classes_answer<V: Worklists>(
-    view: &mut V,
-    cursor: Option<Id>,
-) -> Result<Answer, ViewFault<V::Fault>>
-    ensures { ReadOnly V.Edges view.old view.new
-        (IfOk result (λ a. a
-        ≡ A.List (listed.Classes (page_of (classes_after (V.state view.old) cursor))))) }
-{
-    let page = view.classes_after(cursor).map_err(ViewFault::View)?;
-    Ok(Answer::List(Listed::Classes(page)))
-}
-
-fn holds_answer<V: Worklists>(
-    view: &mut V,
-    lot: Id,
-    cursor: Option<Id>,
-) -> Result<Answer, ViewFault<V::Fault>>
-    ensures { ReadOnly V.Edges view.old view.new
-        (IfOk result (λ a. a ≡ answer_holds (V.state view.old) lot cursor
-        (lot_at (V.state view.old) lot))) }
-{
-    let known = lookup::lot(view, lot)?;
-    let page = view.holds_on(lot, cursor).map_err(ViewFault::View)?;
-    Ok(answer_of_holds(known, page))
-}
-
-// The answer by what was found.
-fn answer_of_holds(known: Option<Lot>, page: Page<Hold>) -> Answer
-    ensures { (s : State) (lot : List ℕ) (cursor : Option (List ℕ)) → page ≡ page_of (holds_on s lot cursor)
-        → result ≡ answer_holds s lot cursor known }
+/// The refusal where this isn't there.
+fn unless_there<T: Copy>(known: Option<T>, refusal: Refusal) -> Option<Refusal>
+    ensures { result ≡ unless_there known refusal }
 {
     match known {
-        None => Answer::Unknown(Refusal::UnknownLot),
-        Some(_) => Answer::List(Listed::Holds(page)),
+        Some(_) => None,
+        None => Some(refusal),
     }
 }
 
-fn definitions_answer<V: Worklists>(
-    view: &mut V,
-    class: Id,
-    cursor: Option<Id>,
-) -> Result<Answer, ViewFault<V::Fault>>
-    ensures { ReadOnly V.Edges view.old view.new
-        (IfOk result (λ a. a ≡ answer_definitions (V.state view.old) class cursor
-        (class_at (V.state view.old) class))) }
-{
-    let known = lookup::class(view, class)?;
-    let page = view.definitions_in(class, cursor).map_err(ViewFault::View)?;
-    Ok(answer_of_definitions(known, page))
-}
-
-// The answer by what was found.
-fn answer_of_definitions(known: Option<Class>, page: Page<Definition>) -> Answer
-    ensures { (s : State) (class : List ℕ) (cursor : Option (List ℕ)) → page ≡ page_of (definitions_in s class cursor)
-        → result ≡ answer_definitions s class cursor known }
-{
-    match known {
-        None => Answer::Unknown(Refusal::UnknownClass),
-        Some(_) => Answer::List(Listed::Definitions(page)),
-    }
-}
-
-/// A page of the versions of recipes in a state.
-pub(crate) fn recipes_answer<V: Worklists>(
-    view: &mut V,
-    state: RecipeState,
-    cursor: Option<RecipeCursor>,
-) -> Result<Answer, ViewFault<V::Fault>>
-    ensures { ReadOnly V.Edges view.old view.new
-        (IfOk result (λ a. a ≡ answer_recipes (V.state view.old) state cursor)) }
-{
-    let page = view.recipes_in(state, cursor).map_err(ViewFault::View)?;
-    Ok(Answer::List(Listed::Recipes(page)))
-}
-
-/// A page of the holds of all lots.
-pub(crate) fn all_holds_answer<V: Worklists>(
+/// The page of the list: what comes after the cursor, or the beginning where none is given.
+fn listed_of<V: Worklists>(
     alloc: Global,
     view: &mut V,
-    cursor: Option<HoldCursor>,
-) -> Result<Answer, ViewFault<V::Fault>>
+    list: ListQuestion,
+) -> Result<Listed, ViewFault<V::Fault>>
     ensures { ReadOnly V.Edges view.old view.new
         (DecisionInvariant (V.state view.old)
-        → IfOk result (λ a. a ≡ answer_all_holds (V.state view.old) cursor)) }
+        → IfOk result (λ rows. rows ≡ listed_of (V.state view.old) list)) }
 {
-    let page = all_holds(alloc, view, cursor)?;
-    Ok(Answer::List(Listed::AllHolds(page)))
-}
-
-/// A page of the orders in a state by their due dates.
-pub(crate) fn due_answer<V: Worklists>(
-    view: &mut V,
-    state: JobState,
-    cursor: Option<DueCursor>,
-) -> Result<Answer, ViewFault<V::Fault>>
-    ensures { ReadOnly V.Edges view.old view.new
-        (IfOk result (λ a. a ≡ answer_by_due (V.state view.old) state cursor)) }
-{
-    let page = view.orders_by_due(state, cursor).map_err(ViewFault::View)?;
-    Ok(Answer::List(Listed::Orders(page)))
-}
-
-/// A page of the ledger of a lot.
-pub(crate) fn ledger_answer<V: Worklists>(
-    view: &mut V,
-    lot: Id,
-    cursor: Option<MovementCursor>,
-) -> Result<Answer, ViewFault<V::Fault>>
-    ensures { ReadOnly V.Edges view.old view.new
-        (IfOk result (λ a. a ≡ answer_ledger (V.state view.old) lot cursor
-        (lot_at (V.state view.old) lot))) }
-{
-    let known = lookup::lot(view, lot)?;
-    let page = view.ledger_of(lot, cursor).map_err(ViewFault::View)?;
-    Ok(answer_of_ledger(known, page))
-}
-
-// The answer by what was found.
-fn answer_of_ledger(known: Option<Lot>, page: Page<Movement>) -> Answer
-    ensures { (s : State) (lot : List ℕ) (cursor : Option MovementCursor) → page ≡ page_of (ledger_of s lot cursor)
-        → result ≡ answer_ledger s lot cursor known }
-{
-    match known {
-        None => Answer::Unknown(Refusal::UnknownLot),
-        Some(_) => Answer::List(Listed::Ledger(page)),
+    match list {
+        ListQuestion::Orders(state, cursor) => {
+            Ok(Listed::Orders(view.orders_in(state, cursor).map_err(ViewFault::View)?))
+        }
+        ListQuestion::OrdersByDue(state, cursor) => {
+            Ok(Listed::Orders(view.orders_by_due(state, cursor).map_err(ViewFault::View)?))
+        }
+        ListQuestion::Batches(cursor) => {
+            Ok(Listed::Batches(batch_page(alloc, view, false, cursor)?))
+        }
+        ListQuestion::ClosedBatches(cursor) => {
+            Ok(Listed::Batches(batch_page(alloc, view, true, cursor)?))
+        }
+        ListQuestion::Lots(def, cursor) => Ok(Listed::Lots(lot_page(alloc, view, def, cursor)?)),
+        ListQuestion::Holds(lot, cursor) => {
+            Ok(Listed::Holds(view.holds_on(lot, cursor).map_err(ViewFault::View)?))
+        }
+        ListQuestion::AllHolds(cursor) => Ok(Listed::AllHolds(all_holds(alloc, view, cursor)?)),
+        ListQuestion::Recalls(cursor) => {
+            Ok(Listed::Recalls(view.recalls_in(true, cursor).map_err(ViewFault::View)?))
+        }
+        ListQuestion::LiftedRecalls(cursor) => {
+            Ok(Listed::LiftedRecalls(view.recalls_in(false, cursor).map_err(ViewFault::View)?))
+        }
+        ListQuestion::Classes(cursor) => {
+            Ok(Listed::Classes(view.classes_after(cursor).map_err(ViewFault::View)?))
+        }
+        ListQuestion::Definitions(class, cursor) => {
+            Ok(Listed::Definitions(view.definitions_in(class, cursor).map_err(ViewFault::View)?))
+        }
+        ListQuestion::Recipes(state, cursor) => {
+            Ok(Listed::Recipes(view.recipes_in(state, cursor).map_err(ViewFault::View)?))
+        }
+        ListQuestion::Movements(lot, cursor) => {
+            Ok(Listed::Ledger(view.ledger_of(lot, cursor).map_err(ViewFault::View)?))
+        }
+        ListQuestion::Commands(cursor) => Ok(Listed::Commands(command_page(alloc, view, cursor)?)),
     }
 }

@@ -3,33 +3,30 @@ ghost use Rattle.std.specs.Prelude.{◌≡◌, IfOk, map};
 ghost use Rattle.std.specs.List.{filter_map};
 ghost use Rattle.plant_trace.specs.ReadOnly.{ReadOnly};
 ghost use Rattle.plant_worklists.specs.{page_of, batches_in};
-ghost use Rattle.plant_answers.specs.Worklists.{batch_page, open_batch, opened, phase_of};
-ghost use Rattle.plant_messages.specs.declared.listed.Listed.TheVariants as listed;
-ghost use Rattle.plant_messages.specs.declared.question.Answer.TheVariants as A;
+ghost use Rattle.plant_answers.specs.ListAnswers.{batch_page, open_batch, opened, phase_of};
 
 use plant_base::{BatchRow, ControlLine, Id, Items, RecipeLine};
-use plant_messages::{Answer, Listed, OpenBatch};
+use plant_messages::OpenBatch;
 use plant_view::{View, ViewFault, lookup};
 use plant_worklists::{Page, Worklists};
 use std::alloc::{AllocError, Global};
 
 /// A page of the batches that are closed, or of those that aren't, each with the phase that is next.
-pub(crate) fn batches_answer<V: Worklists>(
+pub(crate) fn batch_page<V: Worklists>(
     alloc: Global,
     view: &mut V,
     closed: bool,
     cursor: Option<Id>,
-) -> Result<Answer, ViewFault<V::Fault>>
+) -> Result<Page<OpenBatch>, ViewFault<V::Fault>>
     ensures { ReadOnly V.Edges view.old view.new
-        (IfOk result (λ a. a ≡ A.List (listed.Batches (batch_page (V.state view.old)
-        (page_of (batches_in (V.state view.old) closed cursor)))))) }
+        (IfOk result (λ page. page ≡ batch_page (V.state view.old) (page_of (batches_in (V.state view.old) closed cursor)))) }
 {
     let page = view.batches_in(closed, cursor).map_err(ViewFault::View)?;
     let rows = with_phases(alloc, view, page.rows.as_slice())?;
-    Ok(Answer::List(Listed::Batches(Page {
+    Ok(Page {
         rows: Items::new(rows),
         has_more: page.has_more,
-    })))
+    })
 }
 
 fn with_phases<V: View>(

@@ -1,38 +1,22 @@
 // What is answered of the lots of a definition.
-ghost use Rattle.std.specs.Prelude.{◌≡◌, ◌-◌, ℕ, List, Option, IfOk, length, option_map, slice_get};
-ghost use Rattle.plant_base.specs.{State, definition_at};
+ghost use Rattle.std.specs.Prelude.{◌≡◌, ◌-◌, IfOk, length, option_map, slice_get};
 ghost use Rattle.plant_trace.specs.ReadOnly.{ReadOnly};
 ghost use Rattle.plant_view.specs.DecisionInvariant.{DecisionInvariant};
 ghost use Rattle.plant_view.specs.{is_blocked};
 ghost use Rattle.plant_worklists.specs.{page_of, lots_of};
 ghost use Rattle.plant_answers.specs.KnownLots.{after_stocked};
-ghost use Rattle.plant_answers.specs.Worklists.{answer_lots, lot_page, if_stocked, stocked_lot};
+ghost use Rattle.plant_answers.specs.ListAnswers.{lot_page, if_stocked, stocked_lot};
 
 use crate::each_told::{RowOf, each_row};
 use crate::known_lots::{KnownLots, known_lot};
-use plant_base::{Definition, Id, Items, Lot, Refusal};
-use plant_messages::{Answer, Listed, LotAnswer, LotPage, StandingLot};
+use plant_base::{Id, Items, Lot};
+use plant_messages::{LotAnswer, LotPage, StandingLot};
 use plant_view::{View, ViewFault, lookup};
 use plant_worklists::Worklists;
 use std::alloc::Global;
 
 /// A page of the lots of a definition: those of the page that have stock.
-pub(crate) fn lots_answer<V: Worklists>(
-    alloc: Global,
-    view: &mut V,
-    def: Id,
-    cursor: Option<Id>,
-) -> Result<Answer, ViewFault<V::Fault>>
-    ensures { ReadOnly V.Edges view.old view.new
-        (DecisionInvariant (V.state view.old) → IfOk result (λ a. a ≡ answer_lots (V.state view.old) def cursor
-        (definition_at (V.state view.old) def))) }
-{
-    let known = lookup::definition(view, def)?;
-    let page = lot_page(alloc, view, def, cursor)?;
-    Ok(answer_of_lots(known, page))
-}
-
-fn lot_page<V: Worklists>(
+pub(crate) fn lot_page<V: Worklists>(
     alloc: Global,
     view: &mut V,
     def: Id,
@@ -57,17 +41,6 @@ fn last_of(lots: &[Lot]) -> Option<Id>
     match lots.last() {
         Some(lot) => Some(lot.id),
         None => None,
-    }
-}
-
-// The answer by what was found.
-fn answer_of_lots(known: Option<Definition>, page: LotPage) -> Answer
-    ensures { (s : State) (def : List ℕ) (cursor : Option (List ℕ))
-        → page ≡ lot_page s (page_of (lots_of s def cursor)) → result ≡ answer_lots s def cursor known }
-{
-    match known {
-        None => Answer::Unknown(Refusal::UnknownDefinition),
-        Some(_) => Answer::List(Listed::Lots(page)),
     }
 }
 

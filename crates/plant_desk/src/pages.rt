@@ -10,13 +10,13 @@ use crate::keys::copy_of;
 use crate::lots::{movements_into, stocked};
 use crate::view::ListsView;
 use plant_base::{
-    Batch, BatchEvent, BatchRow, Class, ControlLine, Definition, Hold, Id, Job, JobState, Lot,
+    Batch, BatchEvent, BatchRow, Class, ControlLine, Definition, Due, Hold, Id, Job, JobState, Lot,
     Movement, MovementKind, Place, Recall, Receipt, Recipe, RecipeState, Sublot,
 };
 use plant_sorted::{ByDue, ByNumber, in_order};
 use plant_worklists::{
-    DueCursor, MovementCursor, PAGE_SIZE, Page, RecipeCursor, Worklists, first_page, is_after,
-    is_due_after, is_movement_after, is_number_after, is_recipe_after,
+    Cursor, PAGE_SIZE, Page, Worklists, first_page, is_after, is_due_after, is_movement_after,
+    is_number_after, is_recipe_after,
 };
 use std::alloc::{AllocError, Global};
 
@@ -35,7 +35,7 @@ impl<'a> Worklists for ListsView<'a> {
     fn orders_by_due(
         &mut self,
         state: JobState,
-        cursor: Option<DueCursor>,
+        cursor: Option<Cursor<Due, Id>>,
     ) -> Result<Page<Job>, AllocError> {
         let rows = due_in(self.lists.alloc, &self.lists.jobs, state, cursor)?;
         Ok(first_page(rows))
@@ -129,7 +129,7 @@ impl<'a> Worklists for ListsView<'a> {
     fn recipes_in(
         &mut self,
         state: RecipeState,
-        cursor: Option<RecipeCursor>,
+        cursor: Option<Cursor<Id, u16>>,
     ) -> Result<Page<Recipe>, AllocError> {
         let rows = self
             .lists
@@ -144,7 +144,7 @@ impl<'a> Worklists for ListsView<'a> {
     fn ledger_of(
         &mut self,
         lot: Id,
-        cursor: Option<MovementCursor>,
+        cursor: Option<Cursor<u64, u16>>,
     ) -> Result<Page<Movement>, AllocError> {
         let rows = self
             .lists
@@ -230,7 +230,7 @@ fn due_in(
     alloc: Global,
     jobs: &[Job],
     state: JobState,
-    cursor: Option<DueCursor>,
+    cursor: Option<Cursor<Due, Id>>,
 ) -> Result<Vec<Job>, AllocError>
     ensures { IfOk result (λ v. v.items ≡ in_order due_order (filter (is_due_in state cursor) jobs.now)) }
 {
@@ -243,7 +243,7 @@ fn jobs_due(
     alloc: Global,
     jobs: &[Job],
     state: JobState,
-    cursor: Option<DueCursor>,
+    cursor: Option<Cursor<Due, Id>>,
 ) -> Result<Vec<ByDue>, AllocError>
     ensures { IfOk result
         (λ v. map (λ r. r.0) v.items ≡ filter (is_due_in state cursor) jobs.now) }
@@ -257,7 +257,7 @@ fn jobs_due(
     Ok(rows)
 }
 
-fn is_due_in(job: &Job, state: JobState, cursor: &Option<DueCursor>) -> bool
+fn is_due_in(job: &Job, state: JobState, cursor: &Option<Cursor<Due, Id>>) -> bool
     ensures { result ≡ is_due_in state cursor.now job.now }
 {
     job.state.name() == state.name() && is_due_after(job, cursor)

@@ -6,7 +6,8 @@ use Rattle.plant_messages.specs.{Answer as DeskAnswer, DeskFault, Question, Repl
 use Rattle.plant_messages.specs.declared.reply.DeskFault.TheVariants.{Store, Memory, Shut}
 use Rattle.plant_text.specs.{RepresentsDurably, ChecksAs, check_when_shut}
 use Rattle.plant_text.proofs.RunCrashStates.{CrashStateIsOwn}
-use Rattle.plant_http_requests.specs.{is_of_body, Reads, BodyFormat, Job}
+use Rattle.plant_http_requests.specs.{is_of_body, Reads, Job}
+use Rattle.plant_http_routes.specs.{BodyFormat}
 use Rattle.plant_http_requests.specs.declared.job.Job.TheVariants as J
 use Rattle.plant_text_commands.specs.{ToCheck}
 use Rattle.plant_text_commands.specs.declared.checks.ToCheck.TheVariants as to_check

@@ -15,9 +15,10 @@ use Rattle.plant_record.specs.{record_text}
 use Rattle.plant_text_answers.specs.{text_of_answer, reply_text, fault_text}
 use Rattle.plant_text_checks.specs.{check_text, check_answer, CheckAnswer}
 use Rattle.plant_text.specs.{check_when_shut}
-use Rattle.plant_http_requests.specs.{Allow, BodyFormat, Job, Status}
+use Rattle.plant_http_requests.specs.{Allow, Job, Status}
+use Rattle.plant_http_routes.specs.{BodyFormat}
 use Rattle.plant_http_requests.specs.declared.job.Job.TheVariants as J
-use Rattle.plant_http_requests.specs.declared.job.BodyFormat.TheVariants.{Json, Record}
+use Rattle.plant_http_routes.specs.declared.routes.BodyFormat.TheVariants.{Json, Record}
 use Rattle.plant_http_requests.specs.declared.status.Status.TheVariants as st
 use Rattle.plant_http_requests.specs.declared.status.Allow.TheVariants.{Unsaid, Get, Post}
 use Rattle.plant_http.specs.declared.media.MediaType.{MediaType}

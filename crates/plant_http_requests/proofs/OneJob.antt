@@ -10,18 +10,19 @@ use Rattle.plant_base.specs.{Envelope, OrderRow}
 use Rattle.plant_orders.specs.{FailsAs, CsvFault, CsvKind, ImportMetadata}
 use Rattle.plant_orders.specs.declared.fault.CsvKind.TheVariants as csv
 use Rattle.plant_messages.specs.{Question}
-use Rattle.plant_text.specs.{asked_by, asked_of, checked_by, kind_at, Line, line_says, object_says, question_of, text_checked, value_in, value_says}
+use Rattle.plant_text.specs.{asked_by, asked_of, checked_by, kind_at, Line, line_says, kind_around, object_says, text_checked, value_in, value_says}
 use Rattle.plant_text.specs.declared.LineFault.{LineFault}
 use Rattle.plant_text.specs.declared.read.Line.TheVariants as L
 use Rattle.plant_text.specs.declared.LineFault.TheVariants as line
 use Rattle.plant_http_requests.specs.declared.reading.HeadEnd.{HeadEnd}
 use Rattle.plant_http_requests.specs.declared.reading.HeadEnd.TheVariants as end
 use Rattle.plant_http_requests.specs.{end_of_head, field_lines, Parsed, fails, command_job, command_of, file_job, fault_job_of, body_job, is_of_body, Reads, EndJob, JobOf, parsed_step, finish}
-use Rattle.plant_message_schema.specs.{AskedKind, Field, fields_of, FormatError, ShapeError, ◌>>=◌, object}
+use Rattle.plant_message_schema.specs.{Around, AskedKind, Field, NodeKind, fields_of, node_in, question_in, FormatError, ShapeError, ◌>>=◌, object}
 use Rattle.plant_message_schema.specs.declared.format_errors.FormatError.TheVariants as format_error
 use Rattle.plant_message_schema.specs.declared.format_errors.ShapeError.TheVariants as shape_error
 use Rattle.plant_message_schema.specs.declared.members.Member.TheVariants as m
-use Rattle.plant_message_schema.specs.declared.words.AskedKind.TheVariants as asked
+use Rattle.plant_message_schema.specs.declared.question_tables.AskedKind.TheVariants as asked
+use Rattle.plant_message_schema.specs.declared.question_tables.QuestionKind.TheVariants as q
 use Rattle.plant_text_commands.specs.{check_of, checked_as, command_among, command_of as command_of_value, ToCheck}
 use Rattle.plant_text_commands.specs.declared.checks.ToCheck.TheVariants as to_check
 use Rattle.plant_http_requests.specs.declared.job.Content.TheVariants as content
@@ -81,10 +82,16 @@ no_question : (r : Result Question FormatError) → command_job (result_ok (r >>
 no_question (Ok q) = refl
 no_question (Err p) = refl
 
+around_is_none : (around : Around) (d : Data) (o : Option NodeKind) → command_job (result_ok (kind_around around o >>= (λ kind. question_in kind d >>= (λ question. Ok (L.Question question))))) ≡ J.BadForm
+around_is_none around d None = refl
+around_is_none around d (Some node) = no_question (question_in (q.Around around node) d)
+
 asked_is_none : (kind : Option AskedKind) (d : Data) → command_job (result_ok (asked_by kind d)) ≡ J.BadForm
 asked_is_none None d = no_word (fields_of (m.Ask ∷ []) d)
 asked_is_none (Some asked.Check) d = no_check (check_of d)
-asked_is_none (Some (asked.Question kind)) d = no_question (question_of kind d)
+asked_is_none (Some (asked.About topic)) d = no_question (question_in (q.About topic) d)
+asked_is_none (Some (asked.List list)) d = no_question (question_in (q.List list) d)
+asked_is_none (Some (asked.Around around)) d = around_is_none around d (node_in d)
 
 by_words : (has_do has_ask : Bool) (d : Data) (e : Envelope)
     → Same (result_ok (if has_do then command_of_value d >>= (λ c. Ok (L.Command c)) else (if has_ask then asked_of d else Err format_error.Neither)))

@@ -15,7 +15,6 @@ pub use Origins.{is_further_host}
 pub use Heads.{Parsed, field_lines}
 pub use Steps.{fails, refusal_of}
 pub use Jobs.{AsksFor, EndJob, HeadAsksFor, HeadJob, JobOf, Reads, ReadsSome, StepOf, body_job, command_job, command_of, fault_job_of, file_job, finish, is_of_body, most_reads, parsed_step}
-pub use declared.job.BodyFormat.{BodyFormat}
 pub use declared.job.Job.{Job}
 pub use declared.profile.Profile.{Profile}
 pub use declared.reading.InputFault.{InputFault}

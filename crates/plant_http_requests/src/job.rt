@@ -1,17 +1,9 @@
 use crate::status::{Allow, Status};
 use plant_base::Envelope;
+use plant_http_routes::BodyFormat;
 use plant_messages::Question;
 use plant_orders::{CsvFault, ImportMetadata};
 use plant_text::ToCheck;
-
-/// As what an answer is written.
-#[derive(Clone, Copy, Debug, PartialEq, Eq)]
-pub enum BodyFormat {
-    /// JSON.
-    Json,
-    /// The batch record, a plain text.
-    Record,
-}
 
 /// What a request asks for. `silent` where the answer's body is left out, as to a HEAD.
 #[derive(Drop)]

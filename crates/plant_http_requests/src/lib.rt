@@ -17,7 +17,7 @@ mod status;
 mod steps;
 
 pub use head_end::head_length;
-pub use job::{BodyFormat, Job};
+pub use job::Job;
 pub use law::{check_law, job_law};
 pub use profile::Profile;
 pub use read::{MOST_READS, read_job};

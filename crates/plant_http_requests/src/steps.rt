@@ -1,22 +1,20 @@
 //! What the head of a request decides.
 ghost use Rattle.std.specs.Prelude.{◌≡◌, bytes_eq, length, map, All};
 ghost use Rattle.httparse.specs.Spans.{IsHeaderWithin, IsWithin, header_bytes, span_bytes};
-ghost use Rattle.plant_http_requests.specs.Steps.{refusal_of, fails, is_head, question_of};
-ghost use Rattle.plant_http_requests.specs.Steps.{body_format_of, post_step, posted_step};
-ghost use Rattle.plant_http_requests.specs.Steps.{asked_step, target_step, is_page, page_step};
+ghost use Rattle.plant_http_requests.specs.Steps.{refusal_of, fails, is_head, post_step};
+ghost use Rattle.plant_http_requests.specs.Steps.{posted_step, asked_step, content_of};
+ghost use Rattle.plant_http_requests.specs.Steps.{target_step, is_page, page_step};
 ghost use Rattle.plant_http_requests.specs.Steps.{routed_step, request_step};
 
 use crate::fields::import_metadata_in;
 use crate::framing::framing;
-use crate::job::{BodyFormat, Content, HeadStep, Job};
+use crate::job::{Content, HeadStep, Job};
 use crate::profile::Profile;
 use crate::status::{Allow, Status};
 use http::Method;
 use httparse::spans::{HeaderSpan, RequestSpans};
-use plant_base::Id;
-use plant_http_routes::{Kind, Routes, Target};
+use plant_http_routes::{BodyFormat, Post, Routes, Target};
 use plant_messages::Question;
-use plant_trace::{Direction, Node};
 
 /// The job of a request that is answered by a status alone; no methods are named.
 pub(crate) fn refusal_of(status: Status, silent: bool) -> Job
@@ -52,38 +50,6 @@ fn is_head(method: &[u8]) -> bool
     ensures { result ≡ is_head method.now }
 {
     is_method(method, &Method::HEAD)
-}
-
-fn question_of(kind: Kind, id: Id) -> Question
-    ensures { result ≡ question_of kind id }
-{
-    match kind {
-        Kind::Order => Question::Order(id),
-        Kind::Lot => Question::Lot(id),
-        Kind::LotBack => Question::Trace(Direction::Back, Node::Lot(id)),
-        Kind::LotForward => Question::Trace(Direction::Forward, Node::Lot(id)),
-        Kind::Batch | Kind::Record => Question::Batch(id),
-        Kind::Recall => Question::Recall(id),
-        Kind::Definition => Question::Definition(id),
-        Kind::BatchLines => Question::BatchLines(id),
-        Kind::BatchBack => Question::Trace(Direction::Back, Node::Batch(id)),
-        Kind::BatchForward => Question::Trace(Direction::Forward, Node::Batch(id)),
-        Kind::LotStands => Question::Stands(Node::Lot(id)),
-        Kind::BatchStands => Question::Stands(Node::Batch(id)),
-        Kind::LotBackEdges => Question::Edges(Direction::Back, Node::Lot(id)),
-        Kind::LotForwardEdges => Question::Edges(Direction::Forward, Node::Lot(id)),
-        Kind::BatchBackEdges => Question::Edges(Direction::Back, Node::Batch(id)),
-        Kind::BatchForwardEdges => Question::Edges(Direction::Forward, Node::Batch(id)),
-    }
-}
-
-fn body_format_of(kind: Kind) -> BodyFormat
-    ensures { result ≡ body_format_of kind }
-{
-    match kind {
-        Kind::Record => BodyFormat::Record,
-        _ => BodyFormat::Json,
-    }
 }
 
 /// A path that takes a body by POST.
@@ -124,11 +90,16 @@ fn asked_step(question: Question, body_format: BodyFormat, method: &[u8]) -> Hea
     }
 }
 
-/// A path that is asked, and answered in JSON.
-fn json_step(question: Question, method: &[u8]) -> HeadStep
-    ensures { result ≡ asked_step question BodyFormat.Json method.now }
+/// What a path brings by POST.
+fn content_of(head: &[u8], fields: &[HeaderSpan], post: Post) -> Content
+    requires { All (IsHeaderWithin (length head.now)) fields.now }
+    ensures { result ≡ content_of post (map (header_bytes head.now) fields.now) }
 {
-    asked_step(question, BodyFormat::Json, method)
+    match post {
+        Post::Command => Content::Command,
+        Post::Check => Content::Check,
+        Post::Orders => Content::Orders(import_metadata_in(head, fields)),
+    }
 }
 
 fn target_step(
@@ -142,26 +113,8 @@ fn target_step(
     ensures { result ≡ target_step target method.now size (map (header_bytes head.now) fields.now) }
 {
     match target {
-        Target::Desk => json_step(Question::Desk, method),
-        Target::Moment => json_step(Question::Moment, method),
-        Target::Commands => posted_step(Content::Command, method, size),
-        Target::Check => posted_step(Content::Check, method, size),
-        Target::Orders => posted_step(
-            Content::Orders(import_metadata_in(head, fields)),
-            method,
-            size,
-        ),
-        Target::Named(kind, id) => asked_step(question_of(kind, id), body_format_of(kind), method),
-        Target::List(list, cursor) => json_step(Question::List(list, cursor), method),
-        Target::OrdersByDue(state, cursor) => json_step(
-            Question::OrdersByDue(state, cursor),
-            method,
-        ),
-        Target::BookedCommands(cursor) => json_step(Question::Commands(cursor), method),
-        Target::AllHolds(cursor) => json_step(Question::AllHolds(cursor), method),
-        Target::Recipe(recipe, version) => json_step(Question::Recipe(recipe, version), method),
-        Target::Recipes(state, cursor) => json_step(Question::Recipes(state, cursor), method),
-        Target::Ledger(lot, cursor) => json_step(Question::Ledger(lot, cursor), method),
+        Target::Question(question, body_format) => asked_step(question, body_format, method),
+        Target::Post(post) => posted_step(content_of(head, fields, post), method, size),
     }
 }
 

@@ -1,9 +1,8 @@
 //! The routes of the desk's HTTP server: which path asks for what.
 #![tactic(auto)]
 
-mod lists;
 mod path;
-mod recipes;
+mod route_table;
 mod routes;
 
-pub use routes::{Kind, Routes, RoutesFault, Target};
+pub use routes::{BodyFormat, Post, Routes, RoutesFault, Target};

@@ -1,15 +1,13 @@
-//! Paths of ASCII, and the id in a path.
-ghost use Rattle.std.specs.Prelude.{◌≡◌, IfSome, is_some, option_and_then, option_copied};
+//! Paths of ASCII, and the parts of a path.
+ghost use Rattle.std.specs.Prelude.{◌≡◌, IfSome, is_some, option_copied};
 ghost use Rattle.std.specs.Bool.{OnTrue};
 ghost use Rattle.std.specs.Char.{is_ascii};
 ghost use Rattle.std.specs.List.{list_all};
 ghost use Rattle.std.specs.Str.{IsAscii};
 ghost use Rattle.matchit.specs.Params.{walk};
-ghost use Rattle.plant_base.specs.{is_id, only};
 ghost use Rattle.plant_http_routes.specs.Routes.{first_part, second_part};
 
 use matchit::Params;
-use plant_base::Id;
 use std::str;
 
 fn is_all_ascii(path: &[u8]) -> bool
@@ -40,26 +38,6 @@ pub(crate) fn ascii_text(path: &[u8]) -> Option<&str>
         return None;
     }
     Some(ascii_str(path))
-}
-
-/// The id that the bytes are, if they are one.
-pub(crate) fn read_id(bytes: &[u8]) -> Option<Id>
-    ensures { result ≡ only is_id bytes.now }
-{
-    Id::read(bytes)
-}
-
-/// The id that a path has for the route's parameter.
-pub(crate) fn id_in(params: &Params<'_, '_>) -> Option<Id>
-    requires { IsAscii params.now.path.now }
-    ensures { result ≡ option_and_then (only is_id) (first_part (walk params.now.pattern.now
-        params.now.text.now params.now.path.now params.now.names.now 0 0)) }
-{
-    let mut parts = params.iter();
-    match parts.next() {
-        Some((_, part)) => read_id(part.as_bytes()),
-        None => None,
-    }
 }
 
 /// What a path has for the route's first parameter.

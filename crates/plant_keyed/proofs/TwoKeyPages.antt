@@ -24,7 +24,7 @@ use Rattle.plant_tables.specs.{recipe_table, movement_table, job_table, HoldsTab
 use Rattle.plant_tables_columns.specs.{other_lot, number, HasRecipeValues, HasMovementRowValues, HasJobValues, HasValidValues, row_of_recipe, row_of_movement, row_of_job, recipe_from, movement_read, job_from}
 use Rattle.plant_tables_columns.proofs.RowLaws.{recipe_reads, job_reads}
 use Rattle.plant_invariant_tables.proofs.TablesHaveValidValues.{in_order, valid_values, newest_known}
-use Rattle.plant_worklists.specs.{page_size, page_of, recipe_after, recipes_in, movement_after, is_movement_after, lot_made, is_in_ledger, ledger_of, due_after, due_order, orders_by_due, DueCursor, MovementCursor, Page, RecipeCursor, in_order as as_sorted}
+use Rattle.plant_worklists.specs.{page_size, page_of, recipe_after, recipes_in, movement_after, is_movement_after, lot_made, is_in_ledger, ledger_of, due_after, due_order, orders_by_due, Cursor, Page, in_order as as_sorted}
 use Rattle.plant_worklists.proofs.MergedLists.{merged_filters}
 use Rattle.plant_keyed.specs.{IsOfBoth, IsPagedBeyond}
 use Rattle.plant_keyed.proofs.InOrderAgain.{IsOnce, kept_in_order, once_by_key, ordered}
@@ -134,7 +134,7 @@ in_ledger true true = refl
 in_ledger true false = refl
 in_ledger false b = refl
 
-named_so : (lot : List ℕ) (cursor : Option MovementCursor) (m : Movement) → ((same m.lot lot && is_movement_after cursor m) || (is_second lot m && is_movement_after cursor m)) ≡ is_in_ledger lot cursor m
+named_so : (lot : List ℕ) (cursor : Option (Cursor ℕ ℕ)) (m : Movement) → ((same m.lot lot && is_movement_after cursor m) || (is_second lot m && is_movement_after cursor m)) ≡ is_in_ledger lot cursor m
 named_so lot cursor m = by m.kind
   where
     b : Bool
@@ -152,46 +152,46 @@ module _ (db : Database) (s : State) (valid : StateInvariant s) (holds : HoldsTa
   values : HasValidValues (tables_of newest_schema s)
   values = valid_values s valid newest_schema newest_known
 
-  pub recipes_are : (state : RecipeState) (cursor : Option RecipeCursor) (page : Page Recipe)
-      → IsPagedBeyond db recipe_table (first_of recipe_table.keys) recipe_from recipe_order 8 1 2 (Text (recipe_state_name state)) (Text (recipe_after cursor).recipe) (number (recipe_after cursor).version) page → page ≡ page_of (recipes_in s state cursor)
+  pub recipes_are : (state : RecipeState) (cursor : Option (Cursor (List ℕ) ℕ)) (page : Page Recipe)
+      → IsPagedBeyond db recipe_table (first_of recipe_table.keys) recipe_from recipe_order 8 1 2 (Text (recipe_state_name state)) (Text (recipe_after cursor).first) (number (recipe_after cursor).second) page → page ≡ page_of (recipes_in s state cursor)
   recipes_are state cursor =
       let place = recipe_after cursor in
       beyond_again recipe_from row_of_recipe HasRecipeValues (λ r h. recipe_reads.again r h tt) recipe_table (first_of recipe_table.keys) recipe_order recipe_order_total (λ a b. by_text_number a.header.recipe b.header.recipe a.header.version b.header.version)
-      db s.recipes (holds.each 3 recipe_table refl) (in_order newest_schema s valid).keyed.recipes values.recipes 8 1 2 (Text (recipe_state_name state)) (Text place.recipe) (number place.version)
-      (λ r. same (recipe_state_name r.state) (recipe_state_name state)) (λ r. id_cmp r.header.recipe place.recipe) (λ r. nat_cmp r.header.version place.version)
-      (λ r. both_so (text_is (recipe_state_name r.state) (recipe_state_name state)) (both_so (ap is_eq (value_cmp-Text r.header.recipe place.recipe)) (ap is_gt (number_cmp r.header.version place.version))))
-      (λ r. both_so (text_is (recipe_state_name r.state) (recipe_state_name state)) (ap is_gt (value_cmp-Text r.header.recipe place.recipe)))
+      db s.recipes (holds.each 3 recipe_table refl) (in_order newest_schema s valid).keyed.recipes values.recipes 8 1 2 (Text (recipe_state_name state)) (Text place.first) (number place.second)
+      (λ r. same (recipe_state_name r.state) (recipe_state_name state)) (λ r. id_cmp r.header.recipe place.first) (λ r. nat_cmp r.header.version place.second)
+      (λ r. both_so (text_is (recipe_state_name r.state) (recipe_state_name state)) (both_so (ap is_eq (value_cmp-Text r.header.recipe place.first)) (ap is_gt (number_cmp r.header.version place.second))))
+      (λ r. both_so (text_is (recipe_state_name r.state) (recipe_state_name state)) (ap is_gt (value_cmp-Text r.header.recipe place.first)))
 
   -- no two orders tie, since their ids differ
-  pub orders_by_due_are : (state : JobState) (cursor : Option DueCursor) (page : Page Job)
-      → IsPagedBeyond db job_table (5 ∷ 1 ∷ []) job_from due_order 7 5 1 (Text (job_state_name state)) (Text (due_after cursor).due) (Text (due_after cursor).order) page → page ≡ page_of (orders_by_due s state cursor)
+  pub orders_by_due_are : (state : JobState) (cursor : Option (Cursor (List ℕ) (List ℕ))) (page : Page Job)
+      → IsPagedBeyond db job_table (5 ∷ 1 ∷ []) job_from due_order 7 5 1 (Text (job_state_name state)) (Text (due_after cursor).first) (Text (due_after cursor).second) page → page ≡ page_of (orders_by_due s state cursor)
   orders_by_due_are state cursor =
       let place = due_after cursor in
       let rising = (in_order newest_schema s valid).keyed.jobs in
       let once = once_by_key job_order due_order job_order_total due_order_total (λ a b. second_ties (id_cmp a.order.due b.order.due) (job_order a b)) s.jobs rising in
       beyond_in_order job_from row_of_job HasJobValues (λ r h. job_reads.again r h tt) job_table (5 ∷ 1 ∷ []) due_order due_order_total (λ a b. by_two_texts a.order.due b.order.due a.order.order b.order.order)
-      db s.jobs (holds.each 5 job_table refl) once values.jobs 7 5 1 (Text (job_state_name state)) (Text place.due) (Text place.order)
-      (λ r. same (job_state_name r.state) (job_state_name state)) (λ r. id_cmp r.order.due place.due) (λ r. id_cmp r.order.order place.order)
-      (λ r. both_so (text_is (job_state_name r.state) (job_state_name state)) (both_so (ap is_eq (value_cmp-Text r.order.due place.due)) (ap is_gt (value_cmp-Text r.order.order place.order))))
-      (λ r. both_so (text_is (job_state_name r.state) (job_state_name state)) (ap is_gt (value_cmp-Text r.order.due place.due)))
+      db s.jobs (holds.each 5 job_table refl) once values.jobs 7 5 1 (Text (job_state_name state)) (Text place.first) (Text place.second)
+      (λ r. same (job_state_name r.state) (job_state_name state)) (λ r. id_cmp r.order.due place.first) (λ r. id_cmp r.order.order place.second)
+      (λ r. both_so (text_is (job_state_name r.state) (job_state_name state)) (both_so (ap is_eq (value_cmp-Text r.order.due place.first)) (ap is_gt (value_cmp-Text r.order.order place.second))))
+      (λ r. both_so (text_is (job_state_name r.state) (job_state_name state)) (ap is_gt (value_cmp-Text r.order.due place.first)))
 
   -- movements that come after a cursor, by a column that names a lot
-  pub movements_beyond : (place : ℕ) (lot : List ℕ) (cursor : Option MovementCursor) (names : Movement → Bool)
-      → ((m : Movement) → IsNear place (names m) lot (movement_after cursor).seq (movement_after cursor).line m) → ((m : Movement) → IsFar place (names m) lot (movement_after cursor).seq m) → (page : Page Movement)
-      → IsPagedBeyond db movement_table (first_of movement_table.keys) movement_read movement_order place 1 2 (Text lot) (number (movement_after cursor).seq) (number (movement_after cursor).line) page → page ≡ page_of (filter (λ m. names m && is_movement_after cursor m) s.movements)
+  pub movements_beyond : (place : ℕ) (lot : List ℕ) (cursor : Option (Cursor ℕ ℕ)) (names : Movement → Bool)
+      → ((m : Movement) → IsNear place (names m) lot (movement_after cursor).first (movement_after cursor).second m) → ((m : Movement) → IsFar place (names m) lot (movement_after cursor).first m) → (page : Page Movement)
+      → IsPagedBeyond db movement_table (first_of movement_table.keys) movement_read movement_order place 1 2 (Text lot) (number (movement_after cursor).first) (number (movement_after cursor).second) page → page ≡ page_of (filter (λ m. names m && is_movement_after cursor m) s.movements)
   movements_beyond place lot cursor names near far =
       let start = movement_after cursor in
       beyond_again movement_read row_of_movement HasMovementRowValues movement_again movement_table (first_of movement_table.keys) movement_order movement_order_total (λ a b. by_two_numbers a.seq b.seq a.line b.line)
-      db s.movements (holds.each 11 movement_table refl) (in_order newest_schema s valid).movements values.movements place 1 2 (Text lot) (number start.seq) (number start.line)
-      names (λ m. nat_cmp m.seq start.seq) (λ m. nat_cmp m.line start.line) near far
+      db s.movements (holds.each 11 movement_table refl) (in_order newest_schema s valid).movements values.movements place 1 2 (Text lot) (number start.first) (number start.second)
+      names (λ m. nat_cmp m.seq start.first) (λ m. nat_cmp m.line start.second) near far
 
-  pub ledger_is : (lot : List ℕ) (cursor : Option MovementCursor) (page : Page Movement)
-      → IsOfBoth movement_order (IsPagedBeyond db movement_table (first_of movement_table.keys) movement_read movement_order 4 1 2 (Text lot) (number (movement_after cursor).seq) (number (movement_after cursor).line))
-      (IsPagedBeyond db movement_table (first_of movement_table.keys) movement_read movement_order 6 1 2 (Text lot) (number (movement_after cursor).seq) (number (movement_after cursor).line)) page → page ≡ page_of (ledger_of s lot cursor)
+  pub ledger_is : (lot : List ℕ) (cursor : Option (Cursor ℕ ℕ)) (page : Page Movement)
+      → IsOfBoth movement_order (IsPagedBeyond db movement_table (first_of movement_table.keys) movement_read movement_order 4 1 2 (Text lot) (number (movement_after cursor).first) (number (movement_after cursor).second))
+      (IsPagedBeyond db movement_table (first_of movement_table.keys) movement_read movement_order 6 1 2 (Text lot) (number (movement_after cursor).first) (number (movement_after cursor).second)) page → page ≡ page_of (ledger_of s lot cursor)
   ledger_is lot cursor page is =
       let start = movement_after cursor in
-      let first = movements_beyond 4 lot cursor (λ m. same m.lot lot) (near_first lot start.seq start.line) (far_first lot start.seq start.line) is.first is.of_first in
-      let second = movements_beyond 6 lot cursor (is_second lot) (near_second lot start.seq start.line) (far_second lot start.seq start.line) is.second is.of_second in
+      let first = movements_beyond 4 lot cursor (λ m. same m.lot lot) (near_first lot start.first start.second) (far_first lot start.first start.second) is.first is.of_first in
+      let second = movements_beyond 6 lot cursor (is_second lot) (near_second lot start.first start.second) (far_second lot start.first start.second) is.second is.of_second in
       is.as_one _ _ first second
       ∙ ap page_of (merged_filters movement_order movement_order_total (λ m. same m.lot lot && is_movement_after cursor m) (λ m. is_second lot m && is_movement_after cursor m) s.movements (in_order newest_schema s valid).movements
       ∙ (λ i. filter (λ m. named_so lot cursor m i) s.movements))

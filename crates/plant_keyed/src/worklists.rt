@@ -7,8 +7,8 @@ use crate::faults::if_memory;
 use crate::keyed::Keyed;
 use crate::texts;
 use plant_base::{
-    BatchRow, Class, Definition, Hold, Id, Job, JobState, Lot, Movement, Recall, Receipt, Recipe,
-    RecipeState, Sublot,
+    BatchRow, Class, Definition, Due, Hold, Id, Job, JobState, Lot, Movement, Recall, Receipt,
+    Recipe, RecipeState, Sublot,
 };
 use plant_tables::table_defs::{
     BATCH, CLASS, DEFINITION, HOLD, JOB, LOT, MOVEMENT, RECALL, RECEIPT, RECIPE, SUBLOT,
@@ -16,8 +16,8 @@ use plant_tables::table_defs::{
 use plant_tables_columns::RecallState;
 use plant_tables_columns::storing::{id as text_of, large, small, truth, word};
 use plant_worklists::{
-    DueCursor, MovementCursor, Page, RecipeCursor, Worklists, due_text_after, merge_pages,
-    movement_after, order_text_after, recipe_text_after, version_after,
+    Cursor, Page, Worklists, due_text_after, merge_pages, movement_after, order_text_after,
+    recipe_text_after, version_after,
 };
 use sql_queries::first_key;
 use sql_tables::Fault;
@@ -43,7 +43,7 @@ impl<'a, S: Alter> Worklists for Keyed<'a, S> {
     fn orders_by_due(
         &mut self,
         state: JobState,
-        cursor: Option<DueCursor>,
+        cursor: Option<Cursor<Due, Id>>,
     ) -> Result<Page<Job>, Fault> {
         self.page_beyond(
             &JOB,
@@ -98,7 +98,7 @@ impl<'a, S: Alter> Worklists for Keyed<'a, S> {
     fn recipes_in(
         &mut self,
         state: RecipeState,
-        cursor: Option<RecipeCursor>,
+        cursor: Option<Cursor<Id, u16>>,
     ) -> Result<Page<Recipe>, Fault> {
         self.page_beyond(
             &RECIPE,
@@ -114,11 +114,11 @@ impl<'a, S: Alter> Worklists for Keyed<'a, S> {
     fn ledger_of(
         &mut self,
         lot: Id,
-        cursor: Option<MovementCursor>,
+        cursor: Option<Cursor<u64, u16>>,
     ) -> Result<Page<Movement>, Fault> {
         let place = movement_after(&cursor);
-        let seq = large(place.seq)?;
-        let line = small(place.line);
+        let seq = large(place.first)?;
+        let line = small(place.second);
         let by = first_key(&MOVEMENT);
         let named = self.page_beyond(
             &MOVEMENT,

@@ -3,7 +3,7 @@ use Rattle.std.proofs.Common.{◌≡◌, ℕ, List, [], ◌∷◌, Bool, true, f
 use Rattle.std.specs.Prelude.{⊤}
 use Rattle.serde_json.specs.Data.{Data}
 use Rattle.serde_json.specs.Find.{get, as_str, as_array, as_object}
-use Rattle.plant_base.specs.{is_due, only, is_id, is_text, is_unit, is_amount, is_moment}
+use Rattle.plant_base.specs.{digits_of, is_due, only, is_id, is_text, is_unit, is_amount, is_moment}
 use Rattle.plant_message_schema.specs.declared.members.Member.{Member}
 use Rattle.plant_message_schema.specs.declared.members.Member.TheVariants as m
 use Rattle.plant_message_schema.specs.declared.members.Rule.{Rule}
@@ -12,8 +12,8 @@ use Rattle.plant_message_schema.specs.declared.fields.Field.{Field}
 use Rattle.plant_message_schema.specs.declared.fields.Field.TheVariants as field
 use Rattle.plant_message_schema.specs.declared.format_errors.ShapeError.{ShapeError}
 use Rattle.plant_message_schema.specs.declared.format_errors.ShapeError.TheVariants as shape_error
-use Rattle.plant_message_schema.specs.{name_of, rule_of, is_needed, command_kind, asked_kind, line_kind, batch_word, order_state, recipe_state, ◌>>=◌, object, is_reported, format_error_is_reported, natural, is_between, field_of, by_rule, member_where, member_of, fields_of, first_other, other_where, none_other, exactly, Means, field_in, May, may_in, Values, fields_in}
-use Rattle.plant_worklists.specs.{due_cursor, hold_cursor, recipe_cursor, movement_cursor}
+use Rattle.plant_message_schema.specs.{name_of, rule_of, is_needed, command_kind, asked_kind, line_kind, batch_word, order_state, recipe_state, ◌>>=◌, object, is_reported, format_error_is_reported, natural, is_between, chosen, field_of, field_of_text, by_rule, member_where, member_of, fields_of, first_other, other_where, none_other, exactly, Means, field_in, May, may_in, Values, fields_in}
+use Rattle.plant_worklists.specs.{cursor_in}
 
 -- what was read is such, or else the error says what is wrong
 abbrev pub Good : {A E : Type 0} → (E → Bool) → (A → Type 0) → Result A E → Type 0
@@ -42,28 +42,50 @@ map_some f (Some x) Q k = k x
 
 -- ---- members
 
+-- a text that is read by a rule has the rule's type
+text_typed : (r : Rule) (text : List ℕ) (Q : Field → Type 0) → ((x : Means r) → Q (field_in r x)) → OnSome Q (field_of_text r text)
+text_typed rule.Id text Q k = map_some field.Id (only is_id text) Q k
+text_typed rule.Text text Q k = map_some field.Text (only is_text text) Q k
+text_typed rule.Unit text Q k = map_some field.Unit (only is_unit text) Q k
+text_typed rule.Due text Q k = map_some field.Due (only is_due text) Q k
+text_typed rule.Word text Q k = map_some field.Word (batch_word text) Q k
+text_typed rule.OrderState text Q k = map_some field.OrderState (order_state text) Q k
+text_typed rule.RecipeState text Q k = map_some field.RecipeState (recipe_state text) Q k
+text_typed rule.RecipeCursor text Q k = map_some field.RecipeCursor (cursor_in (only is_id) (digits_of 3) text) Q k
+text_typed rule.DueCursor text Q k = map_some field.DueCursor (cursor_in (only is_due) (only is_id) text) Q k
+text_typed rule.HoldCursor text Q k = map_some field.HoldCursor (cursor_in (only is_id) (only is_id) text) Q k
+text_typed rule.MovementCursor text Q k = map_some field.MovementCursor (cursor_in (digits_of 16) (digits_of 3) text) Q k
+text_typed rule.Command text Q k = map_some (λ w. field.Chosen) (command_kind text) Q (λ w. k tt)
+text_typed rule.Question text Q k = map_some (λ w. field.Chosen) (asked_kind text) Q (λ w. k tt)
+text_typed rule.Kind text Q k = map_some (λ w. field.Chosen) (line_kind text) Q (λ w. k tt)
+text_typed _ text Q k = tt
+
+of_text : (r : Rule) (o : Option (List ℕ)) (Q : Field → Type 0) → ((x : Means r) → Q (field_in r x)) → OnSome Q (option_and_then (field_of_text r) o)
+of_text r None Q k = tt
+of_text r (Some text) Q k = text_typed r text Q k
+
 -- a value that is read by a rule has the rule's type
 field_typed : (r : Rule) (d : Data) (Q : Field → Type 0) → ((x : Means r) → Q (field_in r x)) → OnSome Q (field_of r d)
-field_typed rule.Id d Q k = map_some field.Id (option_and_then (only is_id) (as_str d)) Q k
-field_typed rule.Text d Q k = map_some field.Text (option_and_then (only is_text) (as_str d)) Q k
-field_typed rule.Unit d Q k = map_some field.Unit (option_and_then (only is_unit) (as_str d)) Q k
-field_typed rule.Due d Q k = map_some field.Due (option_and_then (only is_due) (as_str d)) Q k
 field_typed rule.Amount d Q k = map_some field.Amount (option_and_then (only is_amount) (natural d)) Q k
 field_typed rule.Moment d Q k = map_some field.Moment (option_and_then (only is_moment) (natural d)) Q k
 field_typed (rule.Number a b) d Q k = map_some field.Number (option_and_then (only (is_between a b)) (natural d)) Q k
 field_typed (rule.Small a b) d Q k = map_some field.Small (option_and_then (only (is_between a b)) (natural d)) Q k
-field_typed rule.Word d Q k = map_some field.Word (option_and_then batch_word (as_str d)) Q k
-field_typed rule.OrderState d Q k = map_some field.OrderState (option_and_then order_state (as_str d)) Q k
-field_typed rule.RecipeState d Q k = map_some field.RecipeState (option_and_then recipe_state (as_str d)) Q k
-field_typed rule.RecipeCursor d Q k = map_some field.RecipeCursor (option_and_then recipe_cursor (as_str d)) Q k
-field_typed rule.DueCursor d Q k = map_some field.DueCursor (option_and_then due_cursor (as_str d)) Q k
-field_typed rule.HoldCursor d Q k = map_some field.HoldCursor (option_and_then hold_cursor (as_str d)) Q k
-field_typed rule.MovementCursor d Q k = map_some field.MovementCursor (option_and_then movement_cursor (as_str d)) Q k
-field_typed rule.Command d Q k = map_some (λ w. field.Chosen) (option_and_then command_kind (as_str d)) Q (λ w. k tt)
-field_typed rule.Question d Q k = map_some (λ w. field.Chosen) (option_and_then asked_kind (as_str d)) Q (λ w. k tt)
-field_typed rule.Kind d Q k = map_some (λ w. field.Chosen) (option_and_then line_kind (as_str d)) Q (λ w. k tt)
 field_typed rule.List d Q k = map_some (λ w. field.List) (as_array d) Q (λ w. k tt)
 field_typed rule.Object d Q k = map_some (λ w. field.Object) (as_object d) Q (λ w. k tt)
+field_typed rule.Id d Q k = of_text rule.Id (as_str d) Q k
+field_typed rule.Text d Q k = of_text rule.Text (as_str d) Q k
+field_typed rule.Unit d Q k = of_text rule.Unit (as_str d) Q k
+field_typed rule.Due d Q k = of_text rule.Due (as_str d) Q k
+field_typed rule.Word d Q k = of_text rule.Word (as_str d) Q k
+field_typed rule.OrderState d Q k = of_text rule.OrderState (as_str d) Q k
+field_typed rule.RecipeState d Q k = of_text rule.RecipeState (as_str d) Q k
+field_typed rule.RecipeCursor d Q k = of_text rule.RecipeCursor (as_str d) Q k
+field_typed rule.DueCursor d Q k = of_text rule.DueCursor (as_str d) Q k
+field_typed rule.HoldCursor d Q k = of_text rule.HoldCursor (as_str d) Q k
+field_typed rule.MovementCursor d Q k = of_text rule.MovementCursor (as_str d) Q k
+field_typed rule.Command d Q k = of_text rule.Command (as_str d) Q k
+field_typed rule.Question d Q k = of_text rule.Question (as_str d) Q k
+field_typed rule.Kind d Q k = of_text rule.Kind (as_str d) Q k
 
 by_rule-valid : (which : Member) (o : Option Field) (Q : Field → Type 0) → OnSome Q o → Good is_reported Q (by_rule which o)
 by_rule-valid which None Q h = refl
@@ -122,14 +144,18 @@ later_fails which ms d h =
 pub only_fails : (which : Member) (d : Data) → Good is_reported (λ f. ⊥) (member_where which (get (name_of which) d)) → Good is_reported (λ fs. ⊥) (fields_of (which ∷ []) d)
 only_fails which d h = valid_bind is_reported (λ fs. ⊥) (member_of which d) _ (valid_map is_reported (λ f. ⊥) _ (member_of which d) (λ f z. absurd z) h)
 
+text_fails : {A : Type 0} (r : Rule) (which : Member) (kind : List ℕ → Option A) → ((text : List ℕ) → field_of_text r text ≡ chosen (kind text)) → (o : Option (List ℕ)) → option_and_then kind o ≡ None → Good is_reported (λ f. ⊥) (by_rule which (option_and_then (field_of_text r) o))
+text_fails r which kind same None e = refl
+text_fails r which kind same (Some text) e = rw (same text, e) refl
+
 pub do_fails : (o : Option Data) → option_and_then command_kind (option_and_then as_str o) ≡ None → Good is_reported (λ f. ⊥) (member_where m.Do o)
 do_fails None e = refl
-do_fails (Some v) e = rw e refl
+do_fails (Some v) e = text_fails rule.Command m.Do command_kind (λ text. refl) (as_str v) e
 
 pub ask_fails : (o : Option Data) → option_and_then asked_kind (option_and_then as_str o) ≡ None → Good is_reported (λ f. ⊥) (member_where m.Ask o)
 ask_fails None e = refl
-ask_fails (Some v) e = rw e refl
+ask_fails (Some v) e = text_fails rule.Question m.Ask asked_kind (λ text. refl) (as_str v) e
 
 pub kind_fails : (o : Option Data) → option_and_then line_kind (option_and_then as_str o) ≡ None → Good is_reported (λ f. ⊥) (member_where m.Kind o)
 kind_fails None e = refl
-kind_fails (Some v) e = rw e refl
+kind_fails (Some v) e = text_fails rule.Kind m.Kind line_kind (λ text. refl) (as_str v) e

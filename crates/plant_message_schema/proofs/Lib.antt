@@ -1,2 +1,5 @@
+pub mod PartsInOrder
+pub mod QuestionsAreMade
+pub mod QuestionsAreReported
 pub mod EachMember
 pub mod FieldsAreTyped

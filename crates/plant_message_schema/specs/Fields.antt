@@ -3,8 +3,8 @@ use Rattle.std.specs.Prelude.{ℕ, List, [], ◌∷◌, Bool, ◌&&◌, ◌||◌
 use Rattle.std.specs.List.{list_any}
 use Rattle.serde_json.specs.Data.{Data, Members, no_members, member}
 use Rattle.serde_json.specs.Find.{get, as_number, as_u64, as_str, as_array, as_object}
-use Rattle.plant_base.specs.{is_due, only, is_id, is_text, is_unit, is_amount, is_moment}
-use Rattle.plant_worklists.specs.{due_cursor, hold_cursor, recipe_cursor, movement_cursor}
+use Rattle.plant_base.specs.{digits_of, is_due, only, is_id, is_text, is_unit, is_amount, is_moment}
+use Rattle.plant_worklists.specs.{cursor_in}
 use Rattle.plant_message_schema.specs.declared.members.Member.{Member}
 use Rattle.plant_message_schema.specs.declared.members.Rule.{Rule}
 use Rattle.plant_message_schema.specs.declared.members.Rule.TheVariants as rule
@@ -13,8 +13,9 @@ use Rattle.plant_message_schema.specs.declared.fields.Field.TheVariants as field
 use Rattle.plant_message_schema.specs.declared.format_errors.ShapeError.{ShapeError}
 use Rattle.plant_message_schema.specs.declared.format_errors.ShapeError.TheVariants as shape_error
 use Rattle.plant_message_schema.specs.Members.{name_of, rule_of, is_needed}
-use Rattle.plant_message_schema.specs.Words.{command_kind, asked_kind, line_kind, batch_word, order_state, recipe_state}
+use Rattle.plant_message_schema.specs.Words.{command_kind, line_kind, batch_word, order_state, recipe_state}
 use Rattle.plant_message_schema.specs.FormatErrors.{◌>>=◌}
+use Rattle.plant_message_schema.specs.QuestionTables.{asked_kind}
 
 -- ---- values
 
@@ -29,28 +30,39 @@ is_between least greatest n = nat_le least n && nat_le n greatest
 abbrev pub chosen : {A : Type 0} → Option A → Option Field
 chosen kind = option_map (λ k. field.Chosen) kind
 
+-- the typed value that a text is by a rule, where the rule asks for a text
+abbrev pub field_of_text : Rule → List ℕ → Option Field
+field_of_text rule.Id text = option_map field.Id (only is_id text)
+field_of_text rule.Text text = option_map field.Text (only is_text text)
+field_of_text rule.Unit text = option_map field.Unit (only is_unit text)
+field_of_text rule.Due text = option_map field.Due (only is_due text)
+field_of_text rule.Word text = option_map field.Word (batch_word text)
+field_of_text rule.OrderState text = option_map field.OrderState (order_state text)
+field_of_text rule.RecipeState text = option_map field.RecipeState (recipe_state text)
+field_of_text rule.RecipeCursor text = option_map field.RecipeCursor (cursor_in (only is_id) (digits_of 3) text)
+field_of_text rule.DueCursor text = option_map field.DueCursor (cursor_in (only is_due) (only is_id) text)
+field_of_text rule.HoldCursor text = option_map field.HoldCursor (cursor_in (only is_id) (only is_id) text)
+field_of_text rule.MovementCursor text = option_map field.MovementCursor (cursor_in (digits_of 16) (digits_of 3) text)
+field_of_text rule.Command text = chosen (command_kind text)
+field_of_text rule.Question text = chosen (asked_kind text)
+field_of_text rule.Kind text = chosen (line_kind text)
+field_of_text _ text = None
+
 -- the typed value that a value is by a rule
 abbrev pub field_of : Rule → Data → Option Field
-field_of rule.Id d = option_map field.Id (option_and_then (only is_id) (as_str d))
-field_of rule.Text d = option_map field.Text (option_and_then (only is_text) (as_str d))
-field_of rule.Unit d = option_map field.Unit (option_and_then (only is_unit) (as_str d))
-field_of rule.Due d = option_map field.Due (option_and_then (only is_due) (as_str d))
 field_of rule.Amount d = option_map field.Amount (option_and_then (only is_amount) (natural d))
 field_of rule.Moment d = option_map field.Moment (option_and_then (only is_moment) (natural d))
 field_of (rule.Number least greatest) d = option_map field.Number (option_and_then (only (is_between least greatest)) (natural d))
 field_of (rule.Small least greatest) d = option_map field.Small (option_and_then (only (is_between least greatest)) (natural d))
-field_of rule.Word d = option_map field.Word (option_and_then batch_word (as_str d))
-field_of rule.OrderState d = option_map field.OrderState (option_and_then order_state (as_str d))
-field_of rule.RecipeState d = option_map field.RecipeState (option_and_then recipe_state (as_str d))
-field_of rule.RecipeCursor d = option_map field.RecipeCursor (option_and_then recipe_cursor (as_str d))
-field_of rule.DueCursor d = option_map field.DueCursor (option_and_then due_cursor (as_str d))
-field_of rule.HoldCursor d = option_map field.HoldCursor (option_and_then hold_cursor (as_str d))
-field_of rule.MovementCursor d = option_map field.MovementCursor (option_and_then movement_cursor (as_str d))
-field_of rule.Command d = chosen (option_and_then command_kind (as_str d))
-field_of rule.Question d = chosen (option_and_then asked_kind (as_str d))
-field_of rule.Kind d = chosen (option_and_then line_kind (as_str d))
 field_of rule.List d = option_map (λ ds. field.List) (as_array d)
 field_of rule.Object d = option_map (λ ms. field.Object) (as_object d)
+field_of r d = option_and_then (field_of_text r) (as_str d)
+
+-- the typed value that a part of a path is by a rule: numbers in digits, at most 16 of an amount and 3 of another, whatever its range
+abbrev pub field_of_digits : Rule → List ℕ → Option Field
+field_of_digits rule.Amount text = option_map field.Amount (option_and_then (only is_amount) (digits_of 16 text))
+field_of_digits (rule.Number least greatest) text = option_map field.Number (digits_of 3 text)
+field_of_digits r text = field_of_text r text
 
 -- ---- members
 
@@ -94,3 +106,10 @@ none_other some more d = other_where (option_and_then (first_other some more) (a
 -- the typed values of an object that has these members and no other
 abbrev pub exactly : List Member → Data → Result (List Field) ShapeError
 exactly members d = fields_of members d >>= (λ fs. none_other members [] d >>= (λ u. Ok fs))
+
+-- ---- paths
+
+-- the typed value of a member by the part of a path that is its, where it has one
+abbrev pub field_of_part : Member → Option (List ℕ) → Option Field
+field_of_part which None = if is_needed which then None else Some field.Absent
+field_of_part which (Some text) = field_of_digits (rule_of which) text

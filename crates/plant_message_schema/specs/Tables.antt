@@ -1,11 +1,9 @@
--- Which members commands, checks, questions for lists and the rows of lists have, in the order in which problems are reported.
+-- Which members commands, checks and the rows of lists have, in the order in which problems are reported.
 use Rattle.std.specs.Prelude.{ℕ, List, [], ◌∷◌}
 use Rattle.plant_message_schema.specs.declared.members.Member.{Member}
 use Rattle.plant_message_schema.specs.declared.members.Member.TheVariants as m
 use Rattle.plant_message_schema.specs.declared.words.CommandKind.{CommandKind}
 use Rattle.plant_message_schema.specs.declared.words.CommandKind.TheVariants as c
-use Rattle.plant_message_schema.specs.declared.words.ListKind.{ListKind}
-use Rattle.plant_message_schema.specs.declared.words.ListKind.TheVariants as list
 use Rattle.plant_message_schema.specs.declared.words.Row.{Row}
 use Rattle.plant_message_schema.specs.declared.words.Row.TheVariants as row
 
@@ -45,23 +43,6 @@ own_of c.Consume = m.Batch ∷ m.Lot ∷ m.Sub ∷ m.Amount ∷ []
 own_of c.Produce = m.Batch ∷ m.Lot ∷ m.Definition ∷ m.Amount ∷ m.Place ∷ []
 
 -- ---- end of the members of commands
-
--- the members of a question for a page of a list: its word, what the list is of, and the cursor to go on from
-abbrev pub list_members : ListKind → List Member
-list_members list.Orders = m.Ask ∷ m.State ∷ m.Above ∷ []
-list_members list.OrdersByDue = m.Ask ∷ m.State ∷ m.AfterDue ∷ []
-list_members list.Batches = m.Ask ∷ m.Above ∷ []
-list_members list.ClosedBatches = m.Ask ∷ m.Above ∷ []
-list_members list.Lots = m.Ask ∷ m.Definition ∷ m.Above ∷ []
-list_members list.Holds = m.Ask ∷ m.Lot ∷ m.Above ∷ []
-list_members list.AllHolds = m.Ask ∷ m.AfterHold ∷ []
-list_members list.Recalls = m.Ask ∷ m.Above ∷ []
-list_members list.LiftedRecalls = m.Ask ∷ m.Above ∷ []
-list_members list.Classes = m.Ask ∷ m.Above ∷ []
-list_members list.Definitions = m.Ask ∷ m.Class ∷ m.Above ∷ []
-list_members list.Recipes = m.Ask ∷ m.RecipeState ∷ m.AfterRecipe ∷ []
-list_members list.Movements = m.Ask ∷ m.Lot ∷ m.AfterMovement ∷ []
-list_members list.Commands = m.Ask ∷ m.AfterNumber ∷ []
 
 -- the members of the question what would become of a command: its word and the command
 abbrev pub check_members : List Member

@@ -1,7 +1,7 @@
 -- What the typed values of members are.
 use Rattle.std.specs.Prelude.{⊤, ℕ, List, [], ◌∷◌, Bool, true, false, Option, Some, None}
 use Rattle.plant_base.specs.{JobState, RecipeState, Word}
-use Rattle.plant_worklists.specs.{DueCursor, HoldCursor, MovementCursor, RecipeCursor}
+use Rattle.plant_worklists.specs.{Cursor}
 use Rattle.plant_message_schema.specs.declared.members.Member.{Member}
 use Rattle.plant_message_schema.specs.declared.members.Rule.{Rule}
 use Rattle.plant_message_schema.specs.declared.members.Rule.TheVariants as rule
@@ -22,10 +22,10 @@ Means (rule.Small least greatest) = ℕ
 Means rule.Word = Word
 Means rule.OrderState = JobState
 Means rule.RecipeState = RecipeState
-Means rule.RecipeCursor = RecipeCursor
-Means rule.DueCursor = DueCursor
-Means rule.HoldCursor = HoldCursor
-Means rule.MovementCursor = MovementCursor
+Means rule.RecipeCursor = Cursor (List ℕ) ℕ
+Means rule.DueCursor = Cursor (List ℕ) (List ℕ)
+Means rule.HoldCursor = Cursor (List ℕ) (List ℕ)
+Means rule.MovementCursor = Cursor ℕ ℕ
 Means rule.Command = ⊤
 Means rule.Question = ⊤
 Means rule.Kind = ⊤

@@ -1,16 +1,11 @@
 -- The words that choose a shape, those for a batch, and the states of orders and recipes.
-use Rattle.std.specs.Prelude.{ℕ, List, if◌then◌else◌, codes, Option, Some, None, option_map, bytes_eq}
+use Rattle.std.specs.Prelude.{ℕ, List, if◌then◌else◌, codes, Option, Some, None, bytes_eq}
 use Rattle.plant_base.specs.{JobState, RecipeState, Word}
 use Rattle.plant_base.specs.declared.states.JobState.TheVariants as job_state
 use Rattle.plant_base.specs.declared.states.RecipeState.TheVariants as recipe
 use Rattle.plant_base.specs.declared.states.Word.TheVariants.{Start, Stop, Hold, Restart, Abort, Reset, Pause, Resume}
-use Rattle.plant_message_schema.specs.declared.words.AskedKind.{AskedKind}
-use Rattle.plant_message_schema.specs.declared.words.AskedKind.TheVariants as asked
 use Rattle.plant_message_schema.specs.declared.words.CommandKind.{CommandKind}
 use Rattle.plant_message_schema.specs.declared.words.CommandKind.TheVariants as c
-use Rattle.plant_message_schema.specs.declared.words.ListKind.TheVariants as list
-use Rattle.plant_message_schema.specs.declared.words.QuestionKind.{QuestionKind}
-use Rattle.plant_message_schema.specs.declared.words.QuestionKind.TheVariants as q
 use Rattle.plant_message_schema.specs.declared.words.Row.{Row}
 use Rattle.plant_message_schema.specs.declared.words.Row.TheVariants as row
 
@@ -44,43 +39,6 @@ command_kind word =
     None)))))))))))))))))))))))
 
 -- ---- end of the words of commands
-
--- the question of a word
-abbrev pub question_kind : List ℕ → Option QuestionKind
-question_kind word =
-    if bytes_eq word (codes "desk") then Some q.Desk else (
-    if bytes_eq word (codes "lot") then Some q.Lot else (
-    if bytes_eq word (codes "order") then Some q.Order else (
-    if bytes_eq word (codes "batch") then Some q.Batch else (
-    if bytes_eq word (codes "recall") then Some q.Recall else (
-    if bytes_eq word (codes "back") then Some q.Back else (
-    if bytes_eq word (codes "forward") then Some q.Forward else (
-    if bytes_eq word (codes "stands") then Some q.Stands else (
-    if bytes_eq word (codes "back_edges") then Some q.BackEdges else (
-    if bytes_eq word (codes "forward_edges") then Some q.ForwardEdges else (
-    if bytes_eq word (codes "moment") then Some q.Moment else (
-    if bytes_eq word (codes "definition") then Some q.Definition else (
-    if bytes_eq word (codes "recipe") then Some q.Recipe else (
-    if bytes_eq word (codes "batch_lines") then Some q.BatchLines else (
-    if bytes_eq word (codes "orders") then Some (q.List list.Orders) else (
-    if bytes_eq word (codes "orders_by_due") then Some (q.List list.OrdersByDue) else (
-    if bytes_eq word (codes "batches") then Some (q.List list.Batches) else (
-    if bytes_eq word (codes "closed_batches") then Some (q.List list.ClosedBatches) else (
-    if bytes_eq word (codes "lots") then Some (q.List list.Lots) else (
-    if bytes_eq word (codes "holds") then Some (q.List list.Holds) else (
-    if bytes_eq word (codes "all_holds") then Some (q.List list.AllHolds) else (
-    if bytes_eq word (codes "recalls") then Some (q.List list.Recalls) else (
-    if bytes_eq word (codes "lifted_recalls") then Some (q.List list.LiftedRecalls) else (
-    if bytes_eq word (codes "classes") then Some (q.List list.Classes) else (
-    if bytes_eq word (codes "definitions") then Some (q.List list.Definitions) else (
-    if bytes_eq word (codes "recipes") then Some (q.List list.Recipes) else (
-    if bytes_eq word (codes "movements") then Some (q.List list.Movements) else (
-    if bytes_eq word (codes "commands") then Some (q.List list.Commands) else (
-    None))))))))))))))))))))))))))))
-
--- what a word asks for: what would become of a command, or the answer to a question
-abbrev pub asked_kind : List ℕ → Option AskedKind
-asked_kind word = if bytes_eq word (codes "check") then Some asked.Check else option_map asked.Question (question_kind word)
 
 -- the recipe's line of a kind
 abbrev pub line_kind : List ℕ → Option Row

@@ -1,10 +1,10 @@
 //! The typed values of an object's members, or its first flaw.
-ghost use Rattle.std.specs.Prelude.{◌≡◌, ◌≤◌, length, ◌||◌, true, IfOk, IfErr};
+ghost use Rattle.std.specs.Prelude.{◌≡◌, ◌≤◌, length, ◌||◌, true, IfOk, IfErr, option_copied};
 ghost use Rattle.serde_json.specs.View.{view, members_view};
 ghost use Rattle.plant_base.specs.{is_due, is_id, is_text, is_unit, only};
 ghost use Rattle.plant_message_schema.specs.Fields.{field_of, member_of, fields_of, is_listed};
 ghost use Rattle.plant_message_schema.specs.Fields.{chosen, first_other, other_where, none_other};
-ghost use Rattle.plant_message_schema.specs.Fields.{exactly};
+ghost use Rattle.plant_message_schema.specs.Fields.{exactly, field_of_part, field_of_text};
 ghost use Rattle.plant_message_schema.specs.ValueLaws.{Values, fields_in};
 ghost use Rattle.plant_message_schema.specs.FormatErrors.{is_reported};
 ghost use Rattle.plant_message_schema.specs.Tables.{most_members};
@@ -12,10 +12,11 @@ ghost use Rattle.plant_message_schema.specs.declared.members.Rule.TheVariants as
 
 use crate::format_errors::ShapeError;
 use crate::members::{Member, Rule};
-use crate::words::{asked_kind, batch_word, command_kind, line_kind, order_state, recipe_state};
+use crate::question_tables::asked_kind;
+use crate::words::{batch_word, command_kind, line_kind, order_state, recipe_state};
 use arrayvec::ArrayVec;
 use plant_base::{Amount, Due, Id, JobState, Moment, RecipeState, Text, Unit, Word};
-use plant_worklists::{DueCursor, HoldCursor, MovementCursor, RecipeCursor};
+use plant_worklists::{Cursor, Key};
 use serde_json::{Map, Value};
 use std::marker::Model;
 
@@ -45,13 +46,13 @@ pub enum Field {
     /// The state of a recipe.
     RecipeState(RecipeState),
     /// A cursor in a list of recipes.
-    RecipeCursor(RecipeCursor),
+    RecipeCursor(Cursor<Id, u16>),
     /// A cursor in a list of orders by their due dates.
-    DueCursor(DueCursor),
+    DueCursor(Cursor<Due, Id>),
     /// A cursor in the list of the holds of all lots.
-    HoldCursor(HoldCursor),
+    HoldCursor(Cursor<Id, Id>),
     /// A cursor in a ledger.
-    MovementCursor(MovementCursor),
+    MovementCursor(Cursor<u64, u16>),
     /// A word that chose the object's shape.
     Chosen,
     /// A list is there, whose rows are read after the other members.
@@ -173,31 +174,61 @@ fn chosen<T: Copy>(kind: Option<T>) -> Option<Field>
     }
 }
 
+/// The typed value that a text is by a rule, where the rule asks for a text.
+fn field_of_text(rule: Rule, text: &str) -> Option<Field>
+    ensures { result ≡ field_of_text rule text.now }
+{
+    match rule {
+        Rule::Id => Some(Field::Id(read_id(text.as_bytes())?)),
+        Rule::Text => Some(Field::Text(read_text(text.as_bytes())?)),
+        Rule::Unit => Some(Field::Unit(read_unit(text.as_bytes())?)),
+        Rule::Due => Some(Field::Due(read_due(text.as_bytes())?)),
+        Rule::Word => Some(Field::Word(batch_word(text)?)),
+        Rule::OrderState => Some(Field::OrderState(order_state(text)?)),
+        Rule::RecipeState => Some(Field::RecipeState(recipe_state(text)?)),
+        Rule::RecipeCursor => Some(Field::RecipeCursor(Cursor::read(text)?)),
+        Rule::DueCursor => Some(Field::DueCursor(Cursor::read(text)?)),
+        Rule::HoldCursor => Some(Field::HoldCursor(Cursor::read(text)?)),
+        Rule::MovementCursor => Some(Field::MovementCursor(Cursor::read(text)?)),
+        Rule::Command => chosen(command_kind(text)),
+        Rule::Question => chosen(asked_kind(text)),
+        Rule::Kind => chosen(line_kind(text)),
+        Rule::Amount | Rule::Moment | Rule::Number(_, _) | Rule::Small(_, _) => None,
+        Rule::List | Rule::Object => None,
+    }
+}
+
 /// The typed value that a value is by a rule.
 fn field_of(rule: Rule, value: &Value) -> Option<Field>
     ensures { result ≡ field_of rule (view value.now) }
 {
     match rule {
-        Rule::Id => Some(Field::Id(read_id(value.as_str()?.as_bytes())?)),
-        Rule::Text => Some(Field::Text(read_text(value.as_str()?.as_bytes())?)),
-        Rule::Unit => Some(Field::Unit(read_unit(value.as_str()?.as_bytes())?)),
-        Rule::Due => Some(Field::Due(read_due(value.as_str()?.as_bytes())?)),
         Rule::Amount => Some(Field::Amount(Amount::new(value.as_u64()?)?)),
         Rule::Moment => Some(Field::Moment(Moment::new(value.as_u64()?)?)),
         Rule::Number(least, greatest) => number_of(value, least, greatest),
         Rule::Small(least, greatest) => small_of(value, least, greatest),
-        Rule::Word => Some(Field::Word(batch_word(value.as_str()?)?)),
-        Rule::OrderState => Some(Field::OrderState(order_state(value.as_str()?)?)),
-        Rule::RecipeState => Some(Field::RecipeState(recipe_state(value.as_str()?)?)),
-        Rule::RecipeCursor => Some(Field::RecipeCursor(RecipeCursor::read(value.as_str()?)?)),
-        Rule::DueCursor => Some(Field::DueCursor(DueCursor::read(value.as_str()?)?)),
-        Rule::HoldCursor => Some(Field::HoldCursor(HoldCursor::read(value.as_str()?)?)),
-        Rule::MovementCursor => Some(Field::MovementCursor(MovementCursor::read(value.as_str()?)?)),
-        Rule::Command => chosen(command_kind(value.as_str()?)),
-        Rule::Question => chosen(asked_kind(value.as_str()?)),
-        Rule::Kind => chosen(line_kind(value.as_str()?)),
         Rule::List => list_of(value),
         Rule::Object => object_of(value),
+        _ => field_of_text(rule, value.as_str()?),
+    }
+}
+
+/// The typed value of a member that a part of a path is: numbers in digits, at most 16 of an amount and 3 of another, whatever its range.
+/// `None` where it is none, and where the part isn't there though the member is needed.
+pub fn field_of_part(member: Member, part: Option<&str>) -> Option<Field>
+    ensures { result ≡ field_of_part member (option_copied part.entry) }
+{
+    let Some(text) = part else {
+        return if member.is_needed() {
+            None
+        } else {
+            Some(Field::Absent)
+        };
+    };
+    match member.rule() {
+        Rule::Amount => Some(Field::Amount(Amount::new(u64::read_key(text)?)?)),
+        Rule::Number(_, _) => Some(Field::Number(u16::read_key(text)?)),
+        rule => field_of_text(rule, text),
     }
 }
 

@@ -1,16 +1,15 @@
-//! Which members commands, checks, questions for lists and the rows of lists have, in the order in which problems are reported.
+//! Which members commands, checks and the rows of lists have, in the order in which problems are reported.
 ghost use Rattle.std.specs.Prelude.{◌≡◌, ◌≤◌, length};
-ghost use Rattle.plant_message_schema.specs.Tables.{shared_members, own_of, list_members};
+ghost use Rattle.plant_message_schema.specs.Tables.{shared_members, own_of};
 ghost use Rattle.plant_message_schema.specs.Tables.{check_members, row_own, most_members};
 
 use crate::members::Member::{
-    self, Above, AfterDue, AfterHold, AfterMovement, AfterNumber, AfterRecipe, Amount, Ask, At,
-    Base, Batch, By, Class, Command, Definition, Do, Due, Greatest, Hold, Kind, Least, Lines, Lot,
-    Name, New, Note, Operation, Order, Orders, Parameter, Parts, Phase, PhaseName, Place, Priority,
-    Product, Quantity, Recall, Recipe, RecipeState, Reference, Size, State, Sub, Title, Unit,
-    UnitProcedure, Value, Version, Word,
+    self, Amount, Ask, At, Base, Batch, By, Class, Command, Definition, Do, Due, Greatest, Hold,
+    Kind, Least, Lines, Lot, Name, New, Note, Operation, Order, Orders, Parameter, Parts, Phase,
+    PhaseName, Place, Priority, Product, Quantity, Recall, Recipe, Reference, Size, Sub, Title,
+    Unit, UnitProcedure, Value, Version, Word,
 };
-use crate::words::{CommandKind, ListKind, Row};
+use crate::words::{CommandKind, Row};
 
 /// The members that each command has.
 pub fn shared_members() -> &'static [Member]
@@ -53,29 +52,6 @@ pub fn own_of(kind: CommandKind) -> &'static [Member]
         CommandKind::Consume => &[Batch, Lot, Sub, Amount],
         CommandKind::Produce => &[Batch, Lot, Definition, Amount, Place],
         // ---- end of the members of commands
-    }
-}
-
-/// The members of a question for a page of a list: its word, what the list is of, and the cursor to go on from.
-pub fn list_members(kind: ListKind) -> &'static [Member]
-    ensures members { result.now ≡ list_members kind }
-    ensures few { length result.now ≤ most_members }
-{
-    match kind {
-        ListKind::Orders => &[Ask, State, Above],
-        ListKind::OrdersByDue => &[Ask, State, AfterDue],
-        ListKind::Batches => &[Ask, Above],
-        ListKind::ClosedBatches => &[Ask, Above],
-        ListKind::Lots => &[Ask, Definition, Above],
-        ListKind::Holds => &[Ask, Lot, Above],
-        ListKind::AllHolds => &[Ask, AfterHold],
-        ListKind::Recalls => &[Ask, Above],
-        ListKind::LiftedRecalls => &[Ask, Above],
-        ListKind::Classes => &[Ask, Above],
-        ListKind::Definitions => &[Ask, Class, Above],
-        ListKind::Recipes => &[Ask, RecipeState, AfterRecipe],
-        ListKind::Movements => &[Ask, Lot, AfterMovement],
-        ListKind::Commands => &[Ask, AfterNumber],
     }
 }
 

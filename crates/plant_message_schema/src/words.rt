@@ -1,8 +1,7 @@
 //! The words that choose a shape, those for a batch, and the states of orders and recipes.
 ghost use Rattle.std.specs.Prelude.{◌≡◌};
-ghost use Rattle.plant_message_schema.specs.Words.{command_kind, question_kind, asked_kind};
-ghost use Rattle.plant_message_schema.specs.Words.{line_kind, batch_word, order_state};
-ghost use Rattle.plant_message_schema.specs.Words.{recipe_state};
+ghost use Rattle.plant_message_schema.specs.Words.{command_kind, line_kind, batch_word};
+ghost use Rattle.plant_message_schema.specs.Words.{order_state, recipe_state};
 
 use plant_base::{JobState, RecipeState, Word};
 
@@ -34,69 +33,6 @@ pub enum CommandKind {
     Consume,
     Produce,
     // ---- end of the kinds of commands
-}
-
-/// Which question an object is.
-#[derive(Clone, Copy, Debug, PartialEq, Eq)]
-pub enum QuestionKind {
-    Desk,
-    Lot,
-    Order,
-    Batch,
-    Recall,
-    Back,
-    Forward,
-    Stands,
-    BackEdges,
-    ForwardEdges,
-    Moment,
-    Definition,
-    Recipe,
-    BatchLines,
-    /// A page of a list.
-    List(ListKind),
-}
-
-/// What an object asks for.
-#[derive(Clone, Copy, Debug, PartialEq, Eq)]
-pub enum AskedKind {
-    /// What would become of a command.
-    Check,
-    /// The answer to a question about the state.
-    Question(QuestionKind),
-}
-
-/// Which list an object asks for.
-#[derive(Clone, Copy, Debug, PartialEq, Eq)]
-pub enum ListKind {
-    /// The orders in a state.
-    Orders,
-    /// The orders in a state by their due dates.
-    OrdersByDue,
-    /// The batches that aren't closed.
-    Batches,
-    /// The batches that are closed.
-    ClosedBatches,
-    /// The lots of a definition.
-    Lots,
-    /// The holds of a lot.
-    Holds,
-    /// The holds of all lots.
-    AllHolds,
-    /// The recalls that weren't lifted.
-    Recalls,
-    /// The recalls that were lifted.
-    LiftedRecalls,
-    /// The classes.
-    Classes,
-    /// The definitions of a class.
-    Definitions,
-    /// The versions of recipes in a state.
-    Recipes,
-    /// The ledger of a lot.
-    Movements,
-    /// The commands that had references.
-    Commands,
 }
 
 /// Which row of a list an object is.
@@ -148,58 +84,6 @@ pub fn command_kind(word: &str) -> Option<CommandKind>
         "produce" => Some(CommandKind::Produce),
         // ---- end of the words of commands
         _ => None,
-    }
-}
-
-/// The question of a word.
-/// `None` where no question has it.
-fn question_kind(word: &str) -> Option<QuestionKind>
-    ensures { result ≡ question_kind word.now }
-{
-    match word {
-        "desk" => Some(QuestionKind::Desk),
-        "lot" => Some(QuestionKind::Lot),
-        "order" => Some(QuestionKind::Order),
-        "batch" => Some(QuestionKind::Batch),
-        "recall" => Some(QuestionKind::Recall),
-        "back" => Some(QuestionKind::Back),
-        "forward" => Some(QuestionKind::Forward),
-        "stands" => Some(QuestionKind::Stands),
-        "back_edges" => Some(QuestionKind::BackEdges),
-        "forward_edges" => Some(QuestionKind::ForwardEdges),
-        "moment" => Some(QuestionKind::Moment),
-        "definition" => Some(QuestionKind::Definition),
-        "recipe" => Some(QuestionKind::Recipe),
-        "batch_lines" => Some(QuestionKind::BatchLines),
-        "orders" => Some(QuestionKind::List(ListKind::Orders)),
-        "orders_by_due" => Some(QuestionKind::List(ListKind::OrdersByDue)),
-        "batches" => Some(QuestionKind::List(ListKind::Batches)),
-        "closed_batches" => Some(QuestionKind::List(ListKind::ClosedBatches)),
-        "lots" => Some(QuestionKind::List(ListKind::Lots)),
-        "holds" => Some(QuestionKind::List(ListKind::Holds)),
-        "all_holds" => Some(QuestionKind::List(ListKind::AllHolds)),
-        "recalls" => Some(QuestionKind::List(ListKind::Recalls)),
-        "lifted_recalls" => Some(QuestionKind::List(ListKind::LiftedRecalls)),
-        "classes" => Some(QuestionKind::List(ListKind::Classes)),
-        "definitions" => Some(QuestionKind::List(ListKind::Definitions)),
-        "recipes" => Some(QuestionKind::List(ListKind::Recipes)),
-        "movements" => Some(QuestionKind::List(ListKind::Movements)),
-        "commands" => Some(QuestionKind::List(ListKind::Commands)),
-        _ => None,
-    }
-}
-
-/// What a word asks for.
-/// `None` where it asks for nothing.
-pub fn asked_kind(word: &str) -> Option<AskedKind>
-    ensures { result ≡ asked_kind word.now }
-{
-    if word == "check" {
-        return Some(AskedKind::Check);
-    }
-    match question_kind(word) {
-        Some(kind) => Some(AskedKind::Question(kind)),
-        None => None,
     }
 }
 

@@ -8,25 +8,20 @@ use Rattle.std.specs.Result.{result_ok}
 use Rattle.serde_json.specs.Data.{Data}
 use Rattle.serde_json.specs.Find.{get}
 use Rattle.serde_json.specs.Read.{read}
-use Rattle.plant_worklists.specs.{DueCursor, HoldCursor, MovementCursor, RecipeCursor, Worklist}
-use Rattle.plant_worklists.specs.declared.list.Worklist.TheVariants as list
-use Rattle.plant_base.specs.{JobState, RecipeState}
-use Rattle.plant_messages.specs.{Question}
-use Rattle.plant_messages.specs.declared.question.Question.TheVariants as Q
-use Rattle.plant_message_schema.specs.{AskedKind, Fault, FormatError, ListKind, Member, QuestionKind, ◌>>=◌, Reports, IsReported, object, or_malformed, is_reported, format_error_is_reported, fields_of, exactly, Values, fields_in, may_in, list_members}
+use Rattle.plant_message_schema.specs.{Around, AskedKind, Fault, FormatError, NodeKind, ◌>>=◌, Reports, IsReported, is_reported, format_error_is_reported, fields_of, node_in, question_in}
 use Rattle.plant_message_schema.specs.declared.members.Member.TheVariants as m
-use Rattle.plant_message_schema.specs.declared.members.Rule.TheVariants as rule
-use Rattle.plant_message_schema.specs.declared.words.AskedKind.TheVariants as asked
-use Rattle.plant_message_schema.specs.declared.words.ListKind.TheVariants as k
-use Rattle.plant_message_schema.specs.declared.words.QuestionKind.TheVariants as q
+use Rattle.plant_message_schema.specs.declared.question_tables.AskedKind.TheVariants as asked
+use Rattle.plant_message_schema.specs.declared.question_tables.QuestionKind.TheVariants as q
 use Rattle.plant_message_schema.specs.declared.format_errors.ShapeError.TheVariants as shape_error
 use Rattle.plant_message_schema.specs.declared.format_errors.FormatError.TheVariants as format_error
 use Rattle.plant_message_schema.specs.declared.format_errors.Fault.TheVariants as fault
-use Rattle.plant_message_schema.proofs.FieldsAreTyped.{Good, valid_bind, valid_map, good_object, exactly_typed, only_fails, ask_fails}
+use Rattle.plant_message_schema.proofs.FieldsAreTyped.{Good, valid_bind, valid_map, good_object, only_fails, ask_fails}
+use Rattle.plant_message_schema.proofs.QuestionsAreReported.{question_good}
 use Rattle.plant_text_commands.specs.{check_of, checked_in}
 use Rattle.plant_text_commands.proofs.ChecksAreTyped.{check_valid}
-use Rattle.plant_text.specs.{kind_at, asked_by, asked_of, value_says, checked_by, IsProblemOf, longest_line, or_no_json, line_says, line_of, text_checked, value_in, asked_alone, one_id, id_named, node_named, recipe_in, recipe_asked, page_asked, whole_asked, recipes_asked, due_asked, ledger_asked, list_in, list_asked, question_of}
+use Rattle.plant_text.specs.{kind_at, asked_by, asked_of, value_says, checked_by, IsProblemOf, longest_line, kind_around, or_no_json, line_says, line_of, text_checked, value_in}
 use Rattle.plant_text.specs.declared.read.Line.{Line}
+use Rattle.plant_text.specs.declared.read.Line.TheVariants as L
 
 pub at_value : (bytes : List ℕ) (d : Data) → length bytes ≤ longest_line → IsUtf8 bytes → read bytes ≡ Some d → value_in bytes ≡ Ok d
 unfolding value_in
@@ -78,106 +73,22 @@ checks_reading bytes = refl
 pub line_long : (bytes : List ℕ) → longest_line < length bytes → line_of bytes ≡ None
 line_long bytes h = ap result_ok (says_long bytes h)
 
--- ---- questions
-
-id_total : (which : Member) (d : Data) → ((v : Values (m.Ask ∷ which ∷ [])) → Good is_reported (λ x. ⊤) (or_malformed (one_id (fields_in (m.Ask ∷ which ∷ []) v)))) → Good format_error_is_reported (λ x. ⊤) (id_named which d)
-id_total which d total = good_object _ (exactly (m.Ask ∷ which ∷ []) d >>= (λ fs. or_malformed (one_id fs))) (valid_bind is_reported _ (exactly (m.Ask ∷ which ∷ []) d) _ (exactly_typed (m.Ask ∷ which ∷ []) d _ total))
-
 then_made : {A B : Type 0} (r : Result A FormatError) (f : A → B) → Good format_error_is_reported (λ x. ⊤) r → Good format_error_is_reported (λ x. ⊤) (r >>= (λ x. Ok (f x)))
 then_made r f h = valid_bind format_error_is_reported _ r _ (valid_map format_error_is_reported (λ x. ⊤) _ r (λ x z. tt) h)
 
-either_valid : {A : Type 0} (b : Bool) (r s : Result A FormatError) → Good format_error_is_reported (λ x. ⊤) r → Good format_error_is_reported (λ x. ⊤) s → Good format_error_is_reported (λ x. ⊤) (cond b r s)
-either_valid true r s h g = h
-either_valid false r s h g = g
-
--- ---- lists
-
-place_total : (w : Worklist) (o : Option (List ℕ)) → Good is_reported (λ x. ⊤) (or_malformed (page_asked (Some w) (may_in false rule.Id o)))
-place_total w None = tt
-place_total w (Some id) = tt
-
-recipes_total : (state : RecipeState) (o : Option RecipeCursor) → Good is_reported (λ x. ⊤) (or_malformed (recipes_asked (may_in true rule.RecipeState state) (may_in false rule.RecipeCursor o)))
-recipes_total state None = tt
-recipes_total state (Some place) = tt
-
-due_total : (state : JobState) (o : Option DueCursor) → Good is_reported (λ x. ⊤) (or_malformed (due_asked (may_in true rule.OrderState state) (may_in false rule.DueCursor o)))
-due_total state None = tt
-due_total state (Some place) = tt
-
-commands_total : (o : Option ℕ) → Good is_reported (λ x. ⊤) (or_malformed (whole_asked k.Commands (may_in false rule.Amount o)))
-commands_total None = tt
-commands_total (Some number) = tt
-
-all_holds_total : (o : Option HoldCursor) → Good is_reported (λ x. ⊤) (or_malformed (whole_asked k.AllHolds (may_in false rule.HoldCursor o)))
-all_holds_total None = tt
-all_holds_total (Some place) = tt
-
-ledger_total : (lot : List ℕ) (o : Option MovementCursor) → Good is_reported (λ x. ⊤) (or_malformed (ledger_asked (may_in true rule.Id lot) (may_in false rule.MovementCursor o)))
-ledger_total lot None = tt
-ledger_total lot (Some place) = tt
-
-list_made : (kind : ListKind) (v : Values (list_members kind)) → Good is_reported (λ x. ⊤) (or_malformed (list_in kind (fields_in (list_members kind) v)))
-list_made k.Orders v = place_total (list.Orders v.1.0) v.1.1.0
-list_made k.OrdersByDue v = due_total v.1.0 v.1.1.0
-list_made k.Batches v = place_total list.OpenBatches v.1.0
-list_made k.ClosedBatches v = place_total list.ClosedBatches v.1.0
-list_made k.Lots v = place_total (list.Lots v.1.0) v.1.1.0
-list_made k.Holds v = place_total (list.Holds v.1.0) v.1.1.0
-list_made k.AllHolds v = all_holds_total v.1.0
-list_made k.Recalls v = place_total list.OpenRecalls v.1.0
-list_made k.LiftedRecalls v = place_total list.LiftedRecalls v.1.0
-list_made k.Classes v = place_total list.Classes v.1.0
-list_made k.Definitions v = place_total (list.Definitions v.1.0) v.1.1.0
-list_made k.Recipes v = recipes_total v.1.0 v.1.1.0
-list_made k.Movements v = ledger_total v.1.0 v.1.1.0
-list_made k.Commands v = commands_total v.1.0
-
-list_total : (kind : ListKind) (d : Data) → Good format_error_is_reported (λ x. ⊤) (list_asked kind d)
-list_total kind d = good_object _ (exactly (list_members kind) d >>= (λ fs. or_malformed (list_in kind fs))) (valid_bind is_reported _ (exactly (list_members kind) d) _ (exactly_typed (list_members kind) d _ (list_made kind)))
-
--- ---- all questions
-
-alone_valid : (question : Question) (d : Data) → Good format_error_is_reported (λ x. ⊤) (asked_alone question d)
-alone_valid question d = then_made (object (exactly (m.Ask ∷ []) d)) (λ fs. question) (good_object (λ fs. ⊤) (exactly (m.Ask ∷ []) d) (exactly_typed (m.Ask ∷ []) d (λ fs. ⊤) (λ v. tt)))
-
-node_valid : (d : Data) → Good format_error_is_reported (λ x. ⊤) (node_named d)
-node_valid d =
-    either_valid (is_some (get (codes "lot") d)) _ _ (then_made (id_named m.Lot d) _ (id_total m.Lot d (λ v. tt))) (
-    either_valid (is_some (get (codes "batch") d)) _ _ (then_made (id_named m.Batch d) _ (id_total m.Batch d (λ v. tt))) refl)
-
-recipe_valid : (d : Data) → Good format_error_is_reported (λ x. ⊤) (recipe_asked d)
-recipe_valid d =
-    let members = m.Ask ∷ m.Recipe ∷ m.Version ∷ [] in
-    good_object _ (exactly members d >>= (λ fs. or_malformed (recipe_in fs))) (valid_bind is_reported _ (exactly members d) _ (exactly_typed members d _ (λ v. tt)))
-
-for_valid : (kind : QuestionKind) (d : Data) → Good format_error_is_reported (λ x. ⊤) (question_of kind d)
-for_valid q.Desk d = alone_valid Q.Desk d
-for_valid q.Moment d = alone_valid Q.Moment d
-for_valid (q.List kind) d = list_total kind d
-for_valid q.Lot d = then_made (id_named m.Lot d) _ (id_total m.Lot d (λ v. tt))
-for_valid q.Order d = then_made (id_named m.Order d) _ (id_total m.Order d (λ v. tt))
-for_valid q.Batch d = then_made (id_named m.Batch d) _ (id_total m.Batch d (λ v. tt))
-for_valid q.Recall d = then_made (id_named m.Recall d) _ (id_total m.Recall d (λ v. tt))
-for_valid q.Definition d = then_made (id_named m.Definition d) _ (id_total m.Definition d (λ v. tt))
-for_valid q.Recipe d = recipe_valid d
-for_valid q.BatchLines d = then_made (id_named m.Batch d) _ (id_total m.Batch d (λ v. tt))
-for_valid _ d = then_made (node_named d) _ (node_valid d)
-
-reported_err : (r : Result Question FormatError) → Good format_error_is_reported (λ x. ⊤) r → IfErr r (λ p. format_error_is_reported p ≡ true)
-reported_err (Ok x) h = tt
-reported_err (Err p) h = h
-
--- where an object with the word of a question is none, its problem says what is wrong
-pub question_reported : (kind : QuestionKind) (d : Data) → IfErr (question_of kind d) (λ p. format_error_is_reported p ≡ true)
-question_reported kind d = reported_err (question_of kind d) (for_valid kind d)
-
 -- ---- all that is asked
+
+around_valid : (around : Around) (d : Data) (o : Option NodeKind) → Good format_error_is_reported (λ x. ⊤) (kind_around around o >>= (λ kind. question_in kind d >>= (λ question. Ok (L.Question question))))
+around_valid around d None = refl
+around_valid around d (Some node) = then_made (question_in (q.Around around node) d) L.Question (question_good (q.Around around node) d)
 
 asked_valid : (d : Data) (o : Option AskedKind) → kind_at d ≡ o → Good format_error_is_reported (λ x. ⊤) (asked_by o d)
 asked_valid d None e = good_object {A = Line} (λ x. ⊤) (fields_of (m.Ask ∷ []) d >>= (λ fs. Err shape_error.Malformed)) (valid_bind is_reported (λ x. ⊤) (fields_of (m.Ask ∷ []) d) (λ fs. Err shape_error.Malformed)
     (valid_map is_reported (λ fs. ⊥) (λ fs. Good {A = Line} is_reported (λ x. ⊤) (Err shape_error.Malformed)) (fields_of (m.Ask ∷ []) d) (λ fs z. absurd z) (only_fails m.Ask d (ask_fails (get (codes "ask") d) e))))
 asked_valid d (Some asked.Check) e = then_made (check_of d) _ (valid_map format_error_is_reported _ (λ x. ⊤) (check_of d) (λ x h. tt) (check_valid d))
-asked_valid d (Some (asked.Question kind)) e = then_made (question_of kind d) _ (for_valid kind d)
+asked_valid d (Some (asked.About topic)) e = then_made (question_in (q.About topic) d) L.Question (question_good (q.About topic) d)
+asked_valid d (Some (asked.List list)) e = then_made (question_in (q.List list) d) L.Question (question_good (q.List list) d)
+asked_valid d (Some (asked.Around around)) e = around_valid around d (node_in d)
 
 reported_from : (r : Result Line Fault) (s : Result Line FormatError) → Reports r s → Good format_error_is_reported (λ x. ⊤) s → IsReported r
 reported_from (Ok x) s e h = tt

@@ -2,7 +2,6 @@ pub mod HeldLines
 pub mod Checks
 pub mod CrashStates
 pub mod Lines
-pub mod Questions
 pub mod Session
 pub mod Turns
 pub mod Writes
@@ -10,9 +9,8 @@ pub use HeldLines.{entries_after, held_with, room}
 unfoldable pub use HeldLines.{ended_after, held_after}
 pub use Checks.{AnswersForetell, ChecksAs, check_when_shut, refusal_answered}
 pub use CrashStates.{CrashStatesAfterSome, CrashStatesAmong, CrashStatesAtFault, CrashStatesAtStop, CrashStatesOfRun, RepresentsDurably, RepresentsEither}
-pub use Lines.{IsProblemOf, asked_by, asked_of, checked_by, kind_at, line_of, longest_line, object_says, or_no_json, value_says}
+pub use Lines.{IsProblemOf, asked_by, asked_of, checked_by, kind_around, kind_at, line_of, longest_line, object_says, or_no_json, value_says}
 unfoldable pub use Lines.{line_says, text_checked, value_in}
-pub use Questions.{asked_alone, due_asked, id_named, ledger_asked, list_asked, list_in, node_named, one_id, page_asked, question_of, recipe_asked, recipe_in, recipes_asked, whole_asked}
 pub use Session.{AreAnswered, CrashStatesOfFault, CrashStatesOfStoreFault, Ends, EndsWithin, Entry, RunStopped, StoppedAmong, StopsAt, after, all_lines, bad, check, command, ended_from, ended_lines, entries, entry_text, entry_where, fold, is_refused, is_unknown, nothing, part_from, question, some_refused, texts}
 unfoldable pub use Session.{entry_of}
 pub use Turns.{AnswerWritten, BadWritten, FaultWritten, LastEnds, TurnEnds, end_of}

@@ -6,26 +6,40 @@ use Rattle.serde_json.specs.Data.{Data}
 use Rattle.serde_json.specs.Find.{get, as_object, as_str}
 use Rattle.serde_json.specs.Read.{read}
 use Rattle.plant_message_schema.specs.declared.format_errors.ShapeError.TheVariants as shape_error
-use Rattle.plant_message_schema.specs.{AskedKind, Fault, FormatError, asked_kind, fields_of, ◌>>=◌, object}
+use Rattle.plant_message_schema.specs.{Around, AskedKind, Fault, FormatError, NodeKind, QuestionKind, asked_kind, fields_of, node_in, question_in, ◌>>=◌, object}
 use Rattle.plant_message_schema.specs.declared.format_errors.Fault.TheVariants as fault
 use Rattle.plant_message_schema.specs.declared.format_errors.FormatError.TheVariants as format_error
 use Rattle.plant_message_schema.specs.declared.members.Member.TheVariants as m
-use Rattle.plant_message_schema.specs.declared.words.AskedKind.TheVariants as asked
+use Rattle.plant_message_schema.specs.declared.question_tables.AskedKind.TheVariants as asked
+use Rattle.plant_message_schema.specs.declared.question_tables.QuestionKind.TheVariants as q
 use Rattle.plant_text_commands.specs.{check_of, checked_in, command_of, ToCheck}
 use Rattle.plant_text_commands.specs.declared.checks.ToCheck.TheVariants as to_check
 use Rattle.plant_text.specs.declared.read.Line.{Line}
 use Rattle.plant_text.specs.declared.read.Line.TheVariants as L
-use Rattle.plant_text.specs.Questions.{question_of}
 
 -- what an object asks for by its word
 abbrev pub kind_at : Data → Option AskedKind
 kind_at d = option_and_then asked_kind (option_and_then as_str (get (codes "ask") d))
 
+abbrev pub kind_around : Around → Option NodeKind → Result QuestionKind FormatError
+kind_around around None = Err format_error.NothingTraced
+kind_around around (Some node) = Ok (q.Around around node)
+
+-- the kind of the question that an object is whose word asks for this; a check has none
+abbrev pub question_kind : AskedKind → Data → Result QuestionKind FormatError
+question_kind (asked.About topic) d = Ok (q.About topic)
+question_kind (asked.Around around) d = kind_around around (node_in d)
+question_kind (asked.List list) d = Ok (q.List list)
+question_kind asked.Check d = Err (format_error.Object shape_error.Malformed)
+
+abbrev pub question_asked : AskedKind → Data → Result Line FormatError
+question_asked asked d = question_kind asked d >>= (λ kind. question_in kind d >>= (λ question. Ok (L.Question question)))
+
 -- an object without the word of a question or a check has at least that flaw
 abbrev pub asked_by : Option AskedKind → Data → Result Line FormatError
 asked_by None d = object (fields_of (m.Ask ∷ []) d >>= (λ fs. Err shape_error.Malformed))
 asked_by (Some asked.Check) d = check_of d >>= (λ c. Ok (L.Check c))
-asked_by (Some (asked.Question kind)) d = question_of kind d >>= (λ q. Ok (L.Question q))
+asked_by (Some asked) d = question_asked asked d
 
 -- the question that an object is, or the check that it asks for, or its first problem
 abbrev pub asked_of : Data → Result Line FormatError

@@ -3,7 +3,6 @@
 #![tactic(auto)]
 
 mod checks;
-mod questions;
 mod read;
 mod run;
 mod turns;

@@ -8,12 +8,12 @@ ghost use Rattle.plant_message_schema.specs.{FormatError as Problem, IsReported,
 ghost use Rattle.plant_message_schema.specs.declared.format_errors.FormatError.TheVariants as format_error;
 ghost use Rattle.plant_text.specs.Lines.{longest_line, kind_at, asked_of, object_says, value_says};
 ghost use Rattle.plant_text.specs.Lines.{IsProblemOf, checked_by, line_says, line_of};
-ghost use Rattle.plant_text.specs.Lines.{text_checked, value_in};
+ghost use Rattle.plant_text.specs.Lines.{question_asked, question_kind, text_checked, value_in};
 
-use crate::questions::question_of;
 use plant_base::Envelope;
 use plant_message_schema::{
-    AskedKind, Fault, FormatError, LineFault, Member, ShapeError, asked_kind, fields_of,
+    AskedKind, Fault, FormatError, LineFault, Member, QuestionKind, ShapeError, asked_kind,
+    fields_of, node_in, question_of,
 };
 use plant_messages::Question;
 use plant_text_commands::{ToCheck, check_of, command_of, to_check_of};
@@ -45,6 +45,28 @@ fn kind_at(value: &Value) -> Option<AskedKind>
     asked_kind(value.get("ask")?.as_str()?)
 }
 
+/// The kind of the question that an object is whose word asks for this; a check has none.
+fn question_kind(value: &Value, asked: AskedKind) -> Result<QuestionKind, FormatError>
+    ensures { result ≡ question_kind asked (view value.now) }
+{
+    match asked {
+        AskedKind::About(topic) => Ok(QuestionKind::About(topic)),
+        AskedKind::List(list) => Ok(QuestionKind::List(list)),
+        AskedKind::Around(around) => match node_in(value) {
+            Some(node) => Ok(QuestionKind::Around(around, node)),
+            None => Err(FormatError::NothingTraced),
+        },
+        AskedKind::Check => Err(FormatError::Object(ShapeError::Malformed)),
+    }
+}
+
+fn question_asked(value: &Value, asked: AskedKind) -> Result<Line, FormatError>
+    ensures { result ≡ question_asked asked (view value.now) }
+{
+    let kind = question_kind(value, asked)?;
+    Ok(Line::Question(question_of(value, kind)?))
+}
+
 fn read_asked(alloc: Global, value: &Value) -> Result<Line, Fault>
     ensures { Reports result (asked_of (view value.now)) }
 {
@@ -53,8 +75,8 @@ fn read_asked(alloc: Global, value: &Value) -> Result<Line, Fault>
             Ok(to_check) => Ok(Line::Check(to_check)),
             Err(fault) => Err(fault),
         },
-        Some(AskedKind::Question(kind)) => match question_of(value, kind) {
-            Ok(question) => Ok(Line::Question(question)),
+        Some(asked) => match question_asked(value, asked) {
+            Ok(line) => Ok(line),
             Err(format_error) => Err(Fault::Reported(format_error)),
         },
         None => match fields_of(value, &[Member::Ask]) {

@@ -1,5 +1,5 @@
 -- The holds after a cursor are the further ones of its lot, and those of the lots after it.
-use Rattle.std.proofs.Common.{◌≡◌, ◌∙◌, Bool, true, false, ◌&&◌, ◌||◌, Some, refl, ap, filter, is_eq, is_gt, Ordering, Less, Equal, Greater}
+use Rattle.std.proofs.Common.{◌≡◌, ◌∙◌, ℕ, List, Bool, true, false, ◌&&◌, ◌||◌, Some, refl, ap, filter, is_eq, is_gt, Ordering, Less, Equal, Greater}
 use Rattle.std.proofs.Math.Bool.{or-false}
 use Rattle.std.proofs.lemmas.Cmp.{then_total, on_total, nat_list_cmp_total}
 use Rattle.std.specs.Cmp.{IsTotalOrder}
@@ -9,7 +9,7 @@ use Rattle.std.specs.Set.{sorted_merge}
 use Rattle.plant_base.specs.{State, hold_order, id_cmp, same, Hold}
 use Rattle.plant_view.specs.DecisionInvariant.{DecisionInvariant}
 use Rattle.plant_worklists.specs.{all_holds, holds_after, holds_on, is_after, is_hold_after, is_hold_on}
-use Rattle.plant_worklists.specs.declared.cursors.HoldCursor.{HoldCursor}
+use Rattle.plant_worklists.specs.declared.cursors.Cursor.{Cursor}
 use Rattle.plant_worklists.proofs.MergedLists.{merged_filters}
 
 hold_order_total : IsTotalOrder hold_order
@@ -20,12 +20,12 @@ either Less p = refl
 either Equal p = or-false (is_gt p)
 either Greater p = refl
 
-after_place : (place : HoldCursor) (h : Hold) → (is_hold_on place.lot (Some place.hold) h || is_after (Some place.lot) h.lot) ≡ is_hold_after (Some place) h
+after_place : (place : Cursor (List ℕ) (List ℕ)) (h : Hold) → (is_hold_on place.first (Some place.second) h || is_after (Some place.first) h.lot) ≡ is_hold_after (Some place) h
 after_place place h =
-    ap (λ b. (b && is_after (Some place.hold) h.id) || is_after (Some place.lot) h.lot) (texts_ties h.lot place.lot)
-    ∙ either (id_cmp h.lot place.lot) (id_cmp h.id place.hold)
+    ap (λ b. (b && is_after (Some place.second) h.id) || is_after (Some place.first) h.lot) (texts_ties h.lot place.first)
+    ∙ either (id_cmp h.lot place.first) (id_cmp h.id place.second)
 
-pub all_merged : (s : State) (place : HoldCursor) → DecisionInvariant s → sorted_merge hold_order true (holds_on s place.lot (Some place.hold)) (holds_after s (Some place.lot)) ≡ all_holds s (Some place)
+pub all_merged : (s : State) (place : Cursor (List ℕ) (List ℕ)) → DecisionInvariant s → sorted_merge hold_order true (holds_on s place.first (Some place.second)) (holds_after s (Some place.first)) ≡ all_holds s (Some place)
 all_merged s place sound =
-    merged_filters hold_order hold_order_total (is_hold_on place.lot (Some place.hold)) (λ h. is_after (Some place.lot) h.lot) s.holds sound.bars.holds
+    merged_filters hold_order hold_order_total (is_hold_on place.first (Some place.second)) (λ h. is_after (Some place.first) h.lot) s.holds sound.bars.holds
     ∙ (λ i. filter (λ h. after_place place h i) s.holds)

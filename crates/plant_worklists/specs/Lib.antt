@@ -7,12 +7,9 @@ pub mod Sorting
 pub mod Worklists
 pub use Prefetching.{AreRead, IsValidHoldPrefetch, IsValidLotPrefetch, IsValidSublotPrefetch, Rise, asked_for, counted, end_of, is_answered, is_before, is_between, is_page_due, prefetched, prefetched_holds, prefetched_lots, prefetched_sublots, rows_after, rows_of, unread, wants_page, with_page}
 pub use Pages.{page_of, page_size}
-pub use Cursors.{due_cursor, due_cursor_of, hold_cursor, hold_cursor_of, is_dot, movement_cursor, movement_cursor_of, recipe_cursor, recipe_cursor_of}
+pub use Cursors.{cursor_in, cursor_of, is_dot}
 pub use Sorting.{in_order}
 pub use Worklists.{agree, all_holds, batches_in, classes_after, definitions_in, due_after, due_order, holds_after, holds_on, is_after, is_batch_in, is_definition_in, is_due_in, is_hold_after, is_hold_on, is_in_ledger, is_lot_of, is_movement_after, is_number_after, is_order_in, is_recall_in, ledger_of, lot_made, lots_after, lots_of, movement_after, movements_into, number_after, number_order, orders_by_due, orders_in, other_lot, recalls_in, receipts_by_number, recipe_after, recipes_in, sublots_after, text_after}
-pub use declared.cursors.DueCursor.{DueCursor}
-pub use declared.cursors.HoldCursor.{HoldCursor}
-pub use declared.cursors.MovementCursor.{MovementCursor}
-pub use declared.cursors.RecipeCursor.{RecipeCursor}
-pub use declared.list.Worklist.{Worklist}
+pub use declared.cursors.Cursor.{Cursor}
+pub use declared.list_question.ListQuestion.{ListQuestion}
 pub use declared.page.Page.{Page}

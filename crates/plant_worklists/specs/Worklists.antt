@@ -6,10 +6,7 @@ use Rattle.plant_base.specs.{is_open, State, id_cmp, numbered_cmp, same, job_sta
 use Rattle.plant_base.specs.declared.rows.MovementKind.TheVariants as kind
 use Rattle.plant_view.specs.{batch_row, sublot_row, is_named}
 use Rattle.plant_worklists.specs.Sorting.{in_order}
-use Rattle.plant_worklists.specs.declared.cursors.DueCursor.{DueCursor}
-use Rattle.plant_worklists.specs.declared.cursors.HoldCursor.{HoldCursor}
-use Rattle.plant_worklists.specs.declared.cursors.MovementCursor.{MovementCursor}
-use Rattle.plant_worklists.specs.declared.cursors.RecipeCursor.{RecipeCursor}
+use Rattle.plant_worklists.specs.declared.cursors.Cursor.{Cursor}
 
 -- the text that a list's ids are to come after: where none is given the empty one, which each id comes after
 abbrev pub text_after : Option (List ℕ) → List ℕ
@@ -95,24 +92,24 @@ holds_after s cursor = filter (λ h. is_after cursor h.lot) s.holds
 -- ---- lists whose keys are of two values
 
 -- the cursor that a list of recipes is to come after: where none is given, one that each recipe comes after
-abbrev pub recipe_after : Option RecipeCursor → RecipeCursor
-recipe_after None = record { recipe = []; version = 0 }
+abbrev pub recipe_after : Option (Cursor (List ℕ) ℕ) → Cursor (List ℕ) ℕ
+recipe_after None = record { first = []; second = 0 }
 recipe_after (Some place) = place
 
 -- the version of the recipe comes after this cursor
-abbrev pub is_recipe_after : Option RecipeCursor → Recipe → Bool
-is_recipe_after cursor r = is_gt (numbered_cmp r.header.recipe r.header.version (recipe_after cursor).recipe (recipe_after cursor).version)
+abbrev pub is_recipe_after : Option (Cursor (List ℕ) ℕ) → Recipe → Bool
+is_recipe_after cursor r = is_gt (numbered_cmp r.header.recipe r.header.version (recipe_after cursor).first (recipe_after cursor).second)
 
-abbrev pub is_recipe_in : RecipeState → Option RecipeCursor → Recipe → Bool
+abbrev pub is_recipe_in : RecipeState → Option (Cursor (List ℕ) ℕ) → Recipe → Bool
 is_recipe_in state cursor r = same (recipe_state_name r.state) (recipe_state_name state) && is_recipe_after cursor r
 
 -- the versions of recipes in a state
-abbrev pub recipes_in : State → RecipeState → Option RecipeCursor → List Recipe
+abbrev pub recipes_in : State → RecipeState → Option (Cursor (List ℕ) ℕ) → List Recipe
 recipes_in s state cursor = filter (is_recipe_in state cursor) s.recipes
 
 -- the cursor that a list of orders by their due dates is to come after: where none is given, one that each order comes after
-abbrev pub due_after : Option DueCursor → DueCursor
-due_after None = record { due = []; order = [] }
+abbrev pub due_after : Option (Cursor (List ℕ) (List ℕ)) → Cursor (List ℕ) (List ℕ)
+due_after None = record { first = []; second = [] }
 due_after (Some place) = place
 
 -- orders by their due dates, and those of one day by their ids
@@ -120,14 +117,14 @@ abbrev pub due_order : Job → Job → Ordering
 due_order a b = ordering_then (id_cmp a.order.due b.order.due) (id_cmp a.order.order b.order.order)
 
 -- the order comes after this cursor
-abbrev pub is_due_after : Option DueCursor → Job → Bool
-is_due_after cursor j = is_gt (ordering_then (id_cmp j.order.due (due_after cursor).due) (id_cmp j.order.order (due_after cursor).order))
+abbrev pub is_due_after : Option (Cursor (List ℕ) (List ℕ)) → Job → Bool
+is_due_after cursor j = is_gt (ordering_then (id_cmp j.order.due (due_after cursor).first) (id_cmp j.order.order (due_after cursor).second))
 
-abbrev pub is_due_in : JobState → Option DueCursor → Job → Bool
+abbrev pub is_due_in : JobState → Option (Cursor (List ℕ) (List ℕ)) → Job → Bool
 is_due_in state cursor j = same (job_state_name j.state) (job_state_name state) && is_due_after cursor j
 
 -- the orders in a state by their due dates
-abbrev pub orders_by_due : State → JobState → Option DueCursor → List Job
+abbrev pub orders_by_due : State → JobState → Option (Cursor (List ℕ) (List ℕ)) → List Job
 orders_by_due s state cursor = in_order due_order (filter (is_due_in state cursor) s.jobs)
 
 -- ---- receipts, by their numbers
@@ -150,21 +147,21 @@ receipts_by_number s cursor = in_order number_order (filter (is_number_after cur
 -- ---- ledgers
 
 -- the cursor that a ledger is to come after: where none is given, one that each movement comes after
-abbrev pub movement_after : Option MovementCursor → MovementCursor
-movement_after None = record { seq = 0; line = 0 }
+abbrev pub movement_after : Option (Cursor ℕ ℕ) → Cursor ℕ ℕ
+movement_after None = record { first = 0; second = 0 }
 movement_after (Some place) = place
 
 -- the movement comes after this cursor
-abbrev pub is_movement_after : Option MovementCursor → Movement → Bool
-is_movement_after cursor m = is_gt (ordering_then (nat_cmp m.seq (movement_after cursor).seq) (nat_cmp m.line (movement_after cursor).line))
+abbrev pub is_movement_after : Option (Cursor ℕ ℕ) → Movement → Bool
+is_movement_after cursor m = is_gt (ordering_then (nat_cmp m.seq (movement_after cursor).first) (nat_cmp m.line (movement_after cursor).second))
 
 -- the hold comes after this cursor; where none is given, each hold does
-abbrev pub is_hold_after : Option HoldCursor → Hold → Bool
+abbrev pub is_hold_after : Option (Cursor (List ℕ) (List ℕ)) → Hold → Bool
 is_hold_after None h = is_after None h.lot
-is_hold_after (Some place) h = is_gt (ordering_then (id_cmp h.lot place.lot) (id_cmp h.id place.hold))
+is_hold_after (Some place) h = is_gt (ordering_then (id_cmp h.lot place.first) (id_cmp h.id place.second))
 
 -- the holds of all lots
-abbrev pub all_holds : State → Option HoldCursor → List Hold
+abbrev pub all_holds : State → Option (Cursor (List ℕ) (List ℕ)) → List Hold
 all_holds s cursor = filter (is_hold_after cursor) s.holds
 
 -- the lot that a split or a part of a merge makes
@@ -174,9 +171,9 @@ lot_made (kind.Merged to) = Some to
 lot_made _ = None
 
 -- the movement brings to the lot or takes from it, or moves within it
-abbrev pub is_in_ledger : List ℕ → Option MovementCursor → Movement → Bool
+abbrev pub is_in_ledger : List ℕ → Option (Cursor ℕ ℕ) → Movement → Bool
 is_in_ledger lot cursor m = (same m.lot lot || is_named lot (lot_made m.kind)) && is_movement_after cursor m
 
 -- the ledger of a lot
-abbrev pub ledger_of : State → List ℕ → Option MovementCursor → List Movement
+abbrev pub ledger_of : State → List ℕ → Option (Cursor ℕ ℕ) → List Movement
 ledger_of s lot cursor = filter (is_in_ledger lot cursor) s.movements

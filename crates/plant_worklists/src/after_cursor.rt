@@ -5,8 +5,8 @@ ghost use Rattle.plant_worklists.specs.Worklists.{is_recipe_after, movement_afte
 ghost use Rattle.plant_worklists.specs.Worklists.{is_movement_after, due_after, is_due_after};
 ghost use Rattle.plant_worklists.specs.Worklists.{number_after, is_number_after};
 
-use crate::cursors::{DueCursor, MovementCursor, RecipeCursor};
-use plant_base::{Id, Job, Movement, Receipt, Recipe};
+use crate::cursors::Cursor;
+use plant_base::{Due, Id, Job, Movement, Receipt, Recipe};
 
 /// The text that a list's ids are to come after: where no id is given the empty one, which each id comes after.
 pub fn text_after(cursor: &Option<Id>) -> &str
@@ -26,27 +26,27 @@ pub fn is_after(id: &Id, cursor: &Option<Id>) -> bool
 }
 
 /// The id of the recipe that a list's recipes are to come after, or be: the empty text where no cursor is given.
-pub fn recipe_text_after(cursor: &Option<RecipeCursor>) -> &str
-    ensures { result.now ≡ (recipe_after cursor.now).recipe }
+pub fn recipe_text_after(cursor: &Option<Cursor<Id, u16>>) -> &str
+    ensures { result.now ≡ (recipe_after cursor.now).first }
 {
     match cursor {
-        Some(place) => place.recipe.as_str(),
+        Some(place) => place.first.as_str(),
         None => "",
     }
 }
 
 /// The version of that recipe that its further versions are to come after: 0 where no cursor is given.
-pub fn version_after(cursor: &Option<RecipeCursor>) -> u16
-    ensures { result ≡ (recipe_after cursor.now).version }
+pub fn version_after(cursor: &Option<Cursor<Id, u16>>) -> u16
+    ensures { result ≡ (recipe_after cursor.now).second }
 {
     match cursor {
-        Some(place) => place.version,
+        Some(place) => place.second,
         None => 0,
     }
 }
 
 /// Whether a version of a recipe comes after this cursor.
-pub fn is_recipe_after(row: &Recipe, cursor: &Option<RecipeCursor>) -> bool
+pub fn is_recipe_after(row: &Recipe, cursor: &Option<Cursor<Id, u16>>) -> bool
     ensures { result ≡ is_recipe_after cursor.now row.now }
 {
     let header = &row.header;
@@ -56,46 +56,49 @@ pub fn is_recipe_after(row: &Recipe, cursor: &Option<RecipeCursor>) -> bool
 }
 
 /// The cursor that a ledger's movements are to come after: where none is given, one that each movement comes after.
-pub fn movement_after(cursor: &Option<MovementCursor>) -> MovementCursor
+pub fn movement_after(cursor: &Option<Cursor<u64, u16>>) -> Cursor<u64, u16>
     ensures { result ≡ movement_after cursor.now }
 {
     match cursor {
         Some(place) => *place,
-        None => MovementCursor { seq: 0, line: 0 },
+        None => Cursor {
+            first: 0,
+            second: 0,
+        },
     }
 }
 
 /// Whether a movement comes after this cursor.
-pub fn is_movement_after(row: &Movement, cursor: &Option<MovementCursor>) -> bool
+pub fn is_movement_after(row: &Movement, cursor: &Option<Cursor<u64, u16>>) -> bool
     ensures { result ≡ is_movement_after cursor.now row.now }
 {
     let place = movement_after(cursor);
-    let by_seq = row.seq.cmp(&place.seq);
-    by_seq.then(row.line.cmp(&place.line)).is_gt()
+    let by_seq = row.seq.cmp(&place.first);
+    by_seq.then(row.line.cmp(&place.second)).is_gt()
 }
 
 /// The due date that a list's orders are to come after, or be due on: the empty text where no cursor is given.
-pub fn due_text_after(cursor: &Option<DueCursor>) -> &str
-    ensures { result.now ≡ (due_after cursor.now).due }
+pub fn due_text_after(cursor: &Option<Cursor<Due, Id>>) -> &str
+    ensures { result.now ≡ (due_after cursor.now).first }
 {
     match cursor {
-        Some(place) => place.due.as_str(),
+        Some(place) => place.first.as_str(),
         None => "",
     }
 }
 
 /// The id of the order of that day that its further orders are to come after: the empty text where no cursor is given.
-pub fn order_text_after(cursor: &Option<DueCursor>) -> &str
-    ensures { result.now ≡ (due_after cursor.now).order }
+pub fn order_text_after(cursor: &Option<Cursor<Due, Id>>) -> &str
+    ensures { result.now ≡ (due_after cursor.now).second }
 {
     match cursor {
-        Some(place) => place.order.as_str(),
+        Some(place) => place.second.as_str(),
         None => "",
     }
 }
 
 /// Whether an order comes after this cursor in a list by due dates.
-pub fn is_due_after(row: &Job, cursor: &Option<DueCursor>) -> bool
+pub fn is_due_after(row: &Job, cursor: &Option<Cursor<Due, Id>>) -> bool
     ensures { result ≡ is_due_after cursor.now row.now }
 {
     let by_due = row.order.due.as_str().cmp(due_text_after(cursor));

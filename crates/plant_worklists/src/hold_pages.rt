@@ -7,7 +7,7 @@ ghost use Rattle.std.specs.Set.{sorted_merge};
 ghost use Rattle.plant_worklists.specs.Pages.{page_of};
 ghost use Rattle.plant_worklists.specs.Worklists.{all_holds, holds_after, holds_on};
 
-use crate::cursors::HoldCursor;
+use crate::cursors::Cursor;
 use crate::merging::merge_pages;
 use crate::page::Page;
 use crate::view::Worklists;
@@ -20,7 +20,7 @@ use std::alloc::Global;
 pub fn all_holds<V: Worklists>(
     alloc: Global,
     view: &mut V,
-    cursor: Option<HoldCursor>,
+    cursor: Option<Cursor<Id, Id>>,
 ) -> Result<Page<Hold>, ViewFault<V::Fault>>
     ensures { ReadOnly V.Edges view.old view.new
         (DecisionInvariant (V.state view.old)
@@ -36,14 +36,14 @@ pub fn all_holds<V: Worklists>(
 fn holds_beyond<V: Worklists>(
     alloc: Global,
     view: &mut V,
-    place: HoldCursor,
+    place: Cursor<Id, Id>,
 ) -> Result<Page<Hold>, ViewFault<V::Fault>>
     ensures { ReadOnly V.Edges view.old view.new
         (IfOk result (λ page. page ≡ page_of (sorted_merge hold_order true
-        (holds_on (V.state view.old) place.lot (Some place.hold))
-        (holds_after (V.state view.old) (Some place.lot))))) }
+        (holds_on (V.state view.old) place.first (Some place.second))
+        (holds_after (V.state view.old) (Some place.first))))) }
 {
-    let lot = place.lot;
+    let lot = place.first;
     let near = holds_on(view, place)?;
     let far = holds_after(view, Some(lot))?;
     joined(alloc, &near, &far)
@@ -52,13 +52,13 @@ fn holds_beyond<V: Worklists>(
 // The holds of the cursor's lot that come after it.
 fn holds_on<V: Worklists>(
     view: &mut V,
-    place: HoldCursor,
+    place: Cursor<Id, Id>,
 ) -> Result<Page<Hold>, ViewFault<V::Fault>>
     ensures { ReadOnly V.Edges view.old view.new
         (IfOk result (λ page. page
-        ≡ page_of (holds_on (V.state view.old) place.lot (Some place.hold)))) }
+        ≡ page_of (holds_on (V.state view.old) place.first (Some place.second)))) }
 {
-    view.holds_on(place.lot, Some(place.hold))
+    view.holds_on(place.first, Some(place.second))
         .map_err(ViewFault::View)
 }
 

@@ -6,7 +6,7 @@ mod after_cursor;
 mod cursors;
 mod hold_pages;
 mod key_order;
-mod list;
+mod list_question;
 mod lot_prefetch;
 mod merging;
 mod movements;
@@ -21,10 +21,10 @@ pub use after_cursor::{
     due_text_after, is_after, is_due_after, is_movement_after, is_number_after, is_recipe_after,
     movement_after, number_after, order_text_after, recipe_text_after, text_after, version_after,
 };
-pub use cursors::{DueCursor, HoldCursor, MovementCursor, RecipeCursor};
+pub use cursors::{Cursor, Key};
 pub use hold_pages::all_holds;
 pub use key_order::HasKeyOrder;
-pub use list::Worklist;
+pub use list_question::ListQuestion;
 pub use lot_prefetch::{prefetched_is_held, prefetched_lot, prefetched_sublots};
 pub use merging::merge_pages;
 pub use movements::{movements_into, other_lot};

@@ -1,8 +1,8 @@
-use crate::cursors::{DueCursor, MovementCursor, RecipeCursor};
+use crate::cursors::Cursor;
 use crate::page::Page;
 use plant_base::{
-    BatchRow, Class, Definition, Hold, Id, Job, JobState, Lot, Movement, Recall, Receipt, Recipe,
-    RecipeState, Sublot,
+    BatchRow, Class, Definition, Due, Hold, Id, Job, JobState, Lot, Movement, Recall, Receipt,
+    Recipe, RecipeState, Sublot,
 };
 use plant_view::View;
 
@@ -31,7 +31,7 @@ pub trait Worklists: View {
     fn orders_by_due(
         &mut self,
         state: JobState,
-        cursor: Option<DueCursor>,
+        cursor: Option<Cursor<Due, Id>>,
     ) -> Result<Page<Job>, Self::Fault>
         ensures { ReadOnly Self.Edges self.old self.new
             (IfOk result (λ page. page ≡ page_of (orders_by_due (Self.state self.old) state cursor))) };
@@ -87,7 +87,7 @@ pub trait Worklists: View {
     fn recipes_in(
         &mut self,
         state: RecipeState,
-        cursor: Option<RecipeCursor>,
+        cursor: Option<Cursor<Id, u16>>,
     ) -> Result<Page<Recipe>, Self::Fault>
         ensures { ReadOnly Self.Edges self.old self.new
             (IfOk result (λ page. page ≡ page_of (recipes_in (Self.state self.old) state cursor))) };
@@ -97,7 +97,7 @@ pub trait Worklists: View {
     fn ledger_of(
         &mut self,
         lot: Id,
-        cursor: Option<MovementCursor>,
+        cursor: Option<Cursor<u64, u16>>,
     ) -> Result<Page<Movement>, Self::Fault>
         ensures { ReadOnly Self.Edges self.old self.new
             (IfOk result (λ page. page ≡ page_of (ledger_of (Self.state self.old) lot cursor))) };

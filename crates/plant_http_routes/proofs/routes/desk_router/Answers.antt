@@ -1,27 +1,13 @@
-use Rattle.std.proofs.Common.{refl}
-use Rattle.matchit.proofs.OnLiterals.{matchit_on_literals}
+use Rattle.std.proofs.Common.{◌≡◌, ◌<◌, length, drop, map, subst, arith}
+use Rattle.std.specs.Prelude.{fold}
+use Rattle.std.proofs.lemmas.List.{drop_more}
+use Rattle.plant_http_routes.specs.Routes.{the_routes, with_route}
+use Rattle.plant_http_routes.proofs.RoutesInTurn.{one_more}
 use Rattle.plant_http_routes.proofs.routes.desk_router.Goals as goal
 
-pub returns : goal.returns
-unfolding matchit_on_literals
-returns c =
-    let a1 = c.in_ok-insert.ensures in
-    let a2 = c.in_ok-insert-2.ensures in
-    let a3 = c.in_ok-insert-3.ensures in
-    let a4 = c.in_ok-insert-4.ensures in
-    let a5 = c.in_ok-insert-5.ensures in
-    let a6 = c.in_ok-insert-6.ensures in
-    let a7 = c.in_ok-insert-7.ensures in
-    let a8 = c.in_ok-insert-8.ensures in
-    let a9 = c.in_ok-insert-9.ensures in
-    let a10 = c.in_ok-insert-10.ensures in
-    let a11 = c.in_ok-insert-11.ensures in
-    let a12 = c.in_ok-insert-12.ensures in
-    let a13 = c.in_ok-insert-13.ensures in
-    let a14 = c.in_ok-insert-14.ensures in
-    let whole = c.in_ok-add_whole_lists.ensures in
-    let recipes = c.in_ok-add_recipe_routes.ensures in
-    let placed = c.in_ok-add_cursor_routes.ensures in
-    let lists = c.in_ok-add_lists.ensures in
-    let around = c.in_ok-add_around.ensures in
-    rw (whole, recipes, placed, lists, around, a14.1, a13.1, a12.1, a11.1, a10.1, a9.1, a8.1, a7.1, a6.1, a5.1, a4.1, a3.1, a2.1, a1.1, c.new-router.ensures) refl
+pub loop-path-preserved : goal.loop-path-preserved
+loop-path-preserved c =
+    let rows = c.routes-path-items.result.now in
+    let within : c.loop-path.path-index < length rows = omega arith in
+    let before = subst (λ rest. fold with_route c.loop-path.router (map (λ r. (r.0.now, r.1)) rest) ≡ the_routes) (drop_more rows c.loop-path.path-index _ within) c.loop-path.invariant in
+    rw (one_more _ _ c.loop-path.router c.insert.new.self _ c.in_ok-insert.ensures) before

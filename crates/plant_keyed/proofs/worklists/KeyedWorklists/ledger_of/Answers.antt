@@ -41,7 +41,7 @@ returns g c =
     (c.in_ok-made.ensures.reported 6 1 2 (rw c.first_key-by.ensures ledger_by_second_at) (rw c.first_key-by.ensures ledger_by_second) (rw c.id-2.ensures refl) (rw c.in_ok-seq.ensures.value refl) (rw c.small-line.ensures refl)) in
     let start = movement_after c.args.cursor in
     let both = reported_then old mid new c.args.self.now.has_failed c.page_beyond.new.self.has_failed c.page_beyond-2.new.self.has_failed
-    (λ (db : Database). IsPagedBeyond db movement_table (first_of movement_table.keys) movement_read movement_order 6 1 2 (Text c.args.lot) (number start.seq) (number start.line) c.in_ok-made.made) first.always second in
+    (λ (db : Database). IsPagedBeyond db movement_table (first_of movement_table.keys) movement_read movement_order 6 1 2 (Text c.args.lot) (number start.first) (number start.second) c.in_ok-made.made) first.always second in
     view_reported g.S.Store (c.page_beyond-2.ensures.same_reference ∙ c.page_beyond.ensures.same_reference) (record {
       always = both.always;
       before = both.before;

@@ -1,0 +1,98 @@
+-- What is answered of a list.
+use Rattle.std.specs.Prelude.{ℕ, ◌-◌, true, false, List, Option, Some, None, length, map, nat_lt, option_map, slice_get, if◌then◌else◌, filter_map}
+use Rattle.plant_base.specs.{State, class_at, control_lines_of, definition_at, lot_at, BatchRow, Lot, Receipt, RecipeLine, Refusal}
+use Rattle.plant_base.specs.declared.refusal.Refusal.TheVariants.{UnknownClass, UnknownDefinition, UnknownLot}
+use Rattle.plant_base.specs.declared.rows.RecipeLine.TheVariants.{In, Out, Parameter, Phase}
+use Rattle.plant_view.specs.{is_blocked}
+use Rattle.plant_worklists.specs.{page_of, orders_in, orders_by_due, receipts_by_number, batches_in, lots_of, holds_on, recalls_in, classes_after, definitions_in, recipes_in, ledger_of, all_holds, ListQuestion, Page}
+use Rattle.plant_worklists.specs.declared.list_question.ListQuestion.TheVariants as list
+use Rattle.plant_answers.specs.CommandHeads.{head_of}
+use Rattle.plant_answers.specs.LotAnswers.{lot_answer}
+use Rattle.plant_messages.specs.{Answer, BookedCommand, Listed, LotPage, OpenBatch, StandingLot}
+use Rattle.plant_messages.specs.declared.listed.Listed.TheVariants as listed
+use Rattle.plant_messages.specs.declared.question.Answer.TheVariants as A
+
+-- ---- batches
+
+abbrev pub phase_of : RecipeLine → Option (List ℕ)
+phase_of (In def amount) = None
+phase_of (Out def amount) = None
+phase_of (Parameter name value) = None
+phase_of (Phase unit_procedure operation phase) = Some phase
+
+-- the phases of the control recipe of a batch, in their order
+abbrev pub phases_of : State → List ℕ → List (List ℕ)
+phases_of s batch = filter_map (λ l. phase_of l.line) (control_lines_of s batch)
+
+-- the row of a batch with these phases
+abbrev pub opened : BatchRow → List (List ℕ) → OpenBatch
+opened r phases = record { row = r; phases = length phases; next_phase = slice_get phases (r.next - 1) }
+
+abbrev pub open_batch : State → BatchRow → OpenBatch
+open_batch s r = opened r (phases_of s r.batch.id)
+
+abbrev pub batch_page : State → Page BatchRow → Page OpenBatch
+batch_page s page = record { rows = map (open_batch s) page.rows; has_more = page.has_more }
+
+-- ---- lots
+
+abbrev pub standing_lot : State → Lot → StandingLot
+standing_lot s l = record { known = lot_answer s l; recalled = is_blocked s l.id }
+
+abbrev pub if_stocked : StandingLot → Option StandingLot
+if_stocked a = if nat_lt 0 a.known.stock then Some a else None
+
+-- what is known of a lot, where it has stock
+abbrev pub stocked_lot : State → Lot → Option StandingLot
+stocked_lot s l = if_stocked (standing_lot s l)
+
+abbrev pub lot_page : State → Page Lot → LotPage
+lot_page s page = record { lots = filter_map (stocked_lot s) page.rows; last = option_map (λ l. l.id) (slice_get page.rows (length page.rows - 1)); has_more = page.has_more }
+
+-- ---- commands
+
+abbrev pub booked_command : Receipt → BookedCommand
+booked_command r = record { seq = r.seq; reference = r.reference; head = head_of r.content }
+
+abbrev pub command_page : Page Receipt → Page BookedCommand
+command_page page = record { rows = map booked_command page.rows; has_more = page.has_more }
+
+-- ---- answers
+
+-- the refusal where this isn't there
+abbrev pub unless_there : {A : Type 0} → Option A → Refusal → Option Refusal
+unless_there None refusal = Some refusal
+unless_there (Some x) refusal = None
+
+-- the refusal where what the list is of isn't there
+abbrev pub unknown_of : State → ListQuestion → Option Refusal
+unknown_of s (list.Lots def cursor) = unless_there (definition_at s def) UnknownDefinition
+unknown_of s (list.Holds lot cursor) = unless_there (lot_at s lot) UnknownLot
+unknown_of s (list.Definitions class cursor) = unless_there (class_at s class) UnknownClass
+unknown_of s (list.Movements lot cursor) = unless_there (lot_at s lot) UnknownLot
+unknown_of s _ = None
+
+-- the page: what comes after the cursor, or the beginning where none is given
+abbrev pub listed_of : State → ListQuestion → Listed
+listed_of s (list.Orders state cursor) = listed.Orders (page_of (orders_in s state cursor))
+listed_of s (list.OrdersByDue state cursor) = listed.Orders (page_of (orders_by_due s state cursor))
+listed_of s (list.Batches cursor) = listed.Batches (batch_page s (page_of (batches_in s false cursor)))
+listed_of s (list.ClosedBatches cursor) = listed.Batches (batch_page s (page_of (batches_in s true cursor)))
+listed_of s (list.Lots def cursor) = listed.Lots (lot_page s (page_of (lots_of s def cursor)))
+listed_of s (list.Holds lot cursor) = listed.Holds (page_of (holds_on s lot cursor))
+listed_of s (list.AllHolds cursor) = listed.AllHolds (page_of (all_holds s cursor))
+listed_of s (list.Recalls cursor) = listed.Recalls (page_of (recalls_in s true cursor))
+listed_of s (list.LiftedRecalls cursor) = listed.LiftedRecalls (page_of (recalls_in s false cursor))
+listed_of s (list.Classes cursor) = listed.Classes (page_of (classes_after s cursor))
+listed_of s (list.Definitions class cursor) = listed.Definitions (page_of (definitions_in s class cursor))
+listed_of s (list.Recipes state cursor) = listed.Recipes (page_of (recipes_in s state cursor))
+listed_of s (list.Movements lot cursor) = listed.Ledger (page_of (ledger_of s lot cursor))
+listed_of s (list.Commands cursor) = listed.Commands (command_page (page_of (receipts_by_number s cursor)))
+
+abbrev pub unless_unknown : Option Refusal → Listed → Answer
+unless_unknown (Some refusal) rows = A.Unknown refusal
+unless_unknown None rows = A.List rows
+
+-- the page that is asked for, or the refusal where what the list is of isn't there
+abbrev pub answer_list : State → ListQuestion → Answer
+answer_list s q = unless_unknown (unknown_of s q) (listed_of s q)

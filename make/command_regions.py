@@ -267,15 +267,15 @@ def made_in_specs(command: Command, function: str) -> str:
 
 def in_messages(commands: Sequence[Command], plain: Sequence[Command]) -> list[Region]:
     """The regions of the crates of messages."""
-    words, tables, texts = "plant_message_schema/src/words.rt", "plant_message_schema/src/tables.rt", "plant_text_commands"
+    words, tables, texts = "plant_json_in/src/words.rt", "plant_json_in/src/tables.rt", "plant_json_in"
     groups = [(f"{about}_of", [it for it in plain if it.about == about]) for about in ("goods", "blocks", "plans", "batches")]
     return [
         Region(words, "the kinds of commands", many(commands, "$kind,")),
         Region(words, "the words of commands", many(commands, '"$word" => Some(CommandKind::$kind),')),
-        Region("plant_message_schema/specs/Words.antt", "the words of commands", "command_kind word =\n" + choices(
+        Region("plant_json_in/specs/Words.antt", "the words of commands", "command_kind word =\n" + choices(
             commands, 'bytes_eq word (codes "$word")', "Some c.$kind", "None")),
         Region(tables, "the members of commands", each(commands, own_members)),
-        Region("plant_message_schema/specs/Tables.antt", "the members of commands", each(
+        Region("plant_json_in/specs/Tables.antt", "the members of commands", each(
             commands, lambda it: f"own_of c.{it.kind} = {chain(f'm.{member.variant}' for member in it.members)}")),
         Region(f"{texts}/src/plain.rt", "the types of commands", packed(
             sorted([*(it.type for it in plain), "Command"]), "use plant_base::{", "};")),

@@ -69,7 +69,7 @@ def in_view(desk: Desk) -> list[Region]:
     ]
 
 
-# ---- plant_tables_columns, plant_tables and plant_tables_read
+# ---- plant_tables_columns, plant_tables and plant_tables
 
 
 def in_columns(desk: Desk) -> list[Region]:
@@ -101,14 +101,14 @@ def rows_back(tables: Sequence[Table]) -> str:
 
 
 def in_readings(desk: Desk) -> list[Region]:
-    """The regions of plant_tables_read."""
+    """The regions of plant_tables."""
     tables, rows = desk.tables, desk.tables[1:]
-    again = "plant_tables_read/proofs/RowsReadBack.antt"
+    again = "plant_tables/proofs/RowsReadBack.antt"
     lists = ("stops" if it.name == "hold" else it.list for it in rows)
     return [
-        Region("plant_tables_read/src/desk_rows.rt", "rows that one id finds", many(
+        Region("plant_tables/src/desk_rows.rt", "rows that one id finds", many(
             plain(desk), "/// The $words\npub $list: Vec<$row>,")),
-        Region("plant_tables_read/proofs/RowsRepresentTables.antt", "each table in turn", rows_back(tables)),
+        Region("plant_tables/proofs/RowsRepresentTables.antt", "each table in turn", rows_back(tables)),
         Region(again, "the orders", uses(STATE, orders(rows))),
         Region(again, "the values of rows", "\n".join([uses(BASE, values(rows, True)), uses(OWN, [*values(rows, False), "HasValidValues"])])),
         Region(again, "the laws of rows", uses(LAWS, row_laws(tables))),
@@ -144,12 +144,12 @@ fn $one(&mut self, id: Id) -> Result<Option<$row>, Fault> {
 
 
 def in_lists(desk: Desk) -> list[Region]:
-    """The regions of plant_sorted and plant_desk."""
+    """The regions of plant_questions and plant_desk."""
     masters, lists = plain(desk), "plant_desk/src/lists.rt"
     types, found = used("plant_base", row_types(masters)), [filled("${one}_of", it) for it in masters]
     put = [f"{it.state_row.lower()}_order" if it.bare else it.order for it in keyed(desk.tables) if it.in_state]
     return [
-        Region("plant_sorted/src/keys.rt", "the types of rows", used("plant_base", state_types(desk, grows=False))),
+        Region("plant_questions/src/keys.rt", "the types of rows", used("plant_base", state_types(desk, grows=False))),
         Region(lists, "the types of rows", used("plant_base", state_types(desk, ["Id", "Items", "Moment"]))),
         Region(lists, "rows that one id finds", many(masters, "/// By id.\npub $list: Vec<$row>,")),
         Region("plant_desk/specs/Lists.antt", "the orders", uses(STATE, ["State", "put", *put])),

@@ -10,8 +10,8 @@ from regions import Region, chain, packed
 if TYPE_CHECKING:
     from questions import Around, Listed, Member, Topic
 
-SCHEMA = "plant_message_schema"
-ROUTES = "plant_http_routes"
+SCHEMA = "plant_json_in"
+ROUTES = "plant_http_requests"
 NODES = (("lot", "Lot"), ("batch", "Batch"))
 
 
@@ -252,9 +252,8 @@ ghost use Rattle.{SCHEMA}.specs.QuestionValues.{{whole_list}};
 use crate::fields::Field;
 use crate::question_tables::{{Around, ListKind, NodeKind, QuestionKind, Topic}};
 use plant_base::{{Due, Id}};
-use plant_messages::Question;
+use plant_questions::{{Cursor, ListQuestion, Question}};
 use plant_trace::{{Direction, Node}};
-use plant_worklists::{{Cursor, ListQuestion}};
 
 {cursor_readers()}
 fn about_by(topic: Topic, fields: &[Field]) -> Option<Question>
@@ -360,13 +359,13 @@ def made_in_specs(described: Described) -> str:
     declared = f"Rattle.{SCHEMA}.specs.declared.question_tables"
     return f'''-- The question of a kind and of the values of its members.
 use Rattle.std.specs.Prelude.{{ℕ, List, [], ◌∷◌, Option, Some, None, option_map}}
-use Rattle.plant_messages.specs.{{Question}}
-use Rattle.plant_messages.specs.declared.question.Question.TheVariants as Q
+use Rattle.plant_questions.specs.{{Question}}
+use Rattle.plant_questions.specs.declared.question.Question.TheVariants as Q
 use Rattle.plant_trace.specs.{{Node}}
 use Rattle.plant_trace.specs.declared.direction.Direction.TheVariants.{{Forward, Back}}
 use Rattle.plant_trace.specs.declared.node.Node.TheVariants.{{Lot, Batch}}
-use Rattle.plant_worklists.specs.{{Cursor, ListQuestion}}
-use Rattle.plant_worklists.specs.declared.list_question.ListQuestion.TheVariants as L
+use Rattle.plant_questions.specs.{{Cursor, ListQuestion}}
+use Rattle.plant_questions.specs.declared.list_question.ListQuestion.TheVariants as L
 use Rattle.{SCHEMA}.specs.declared.fields.Field.{{Field}}
 use Rattle.{SCHEMA}.specs.declared.fields.Field.TheVariants as field
 use {declared}.Topic.{{Topic}}
@@ -515,7 +514,7 @@ ghost use Rattle.std.specs.Prelude.{{◌≡◌, map}};
 ghost use Rattle.{ROUTES}.specs.RouteTable.{{route_table}};
 
 use crate::routes::{{Post, Route}};
-use plant_message_schema::{{Around, ListKind, NodeKind, QuestionKind, Topic}};
+use plant_json_in::{{Around, ListKind, NodeKind, QuestionKind, Topic}};
 
 /// Each path with its route. Parameters are in braces.
 pub(crate) fn routes() -> &'static [(&'static str, Route)]

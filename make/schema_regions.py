@@ -194,15 +194,15 @@ def in_plant_tables(desk: Desk) -> list[Region]:
 
 
 def in_readings(desk: Desk) -> list[Region]:
-    """The regions of plant_tables_read, where a schema has a table or lacks it."""
+    """The regions of plant_tables, where a schema has a table or lacks it."""
     tables, count, older = later(desk.tables), len(desk.tables), schemas(desk)[-1]
     places = [filled(name, it) for name in ("${name}_place", "no_${name}_place") for it in tables]
     return [
-        Region("plant_tables_read/proofs/RowsReadBack.antt", "where a schema has a table", uses("plant_tables.proofs.StatementsOnDesk", places)),
-        Region("plant_tables_read/proofs/RowsRepresentTables.antt", "how many tables there are", f"""\
+        Region("plant_tables/proofs/RowsReadBack.antt", "where a schema has a table", uses("plant_tables.proofs.StatementsOnDesk", places)),
+        Region("plant_tables/proofs/RowsRepresentTables.antt", "how many tables there are", f"""\
 few_table_defs : (schema : ℕ) → length (table_defs_of schema) ≤ {count}
 few_table_defs = by_schema (λ s. length (table_defs_of s) ≤ {count}) {'(omega arith) ' * older}(λ s newest. rw newest (omega arith))"""),
-        Region("plant_tables_read/proofs/readings/readings_of/Answers.antt", "how many tables there are", f"""\
+        Region("plant_tables/proofs/readings/readings_of/Answers.antt", "how many tables there are", f"""\
 let many : length c.args.readings.now ≡ {count} = sym (length-map c.args.readings.now (λ reading. reading.table_def)) ∙ ap (λ (fs : List TableDef). length fs) c.requires.table_defs in"""),
     ]
 

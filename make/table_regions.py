@@ -360,17 +360,17 @@ def in_columns(desk: Desk) -> list[Region]:
     ]
 
 
-# ---- readings: plant_tables_read
+# ---- readings: plant_tables
 
 
 def in_readings(desk: Desk) -> list[Region]:
-    """The regions of plant_tables_read."""
+    """The regions of plant_tables."""
     tables, rows = desk.tables, desk.tables[1:]
-    read, count = "plant_tables_read/src/readings.rt", len(tables)
+    read, count = "plant_tables/src/readings.rt", len(tables)
     selects = "\n\n".join(constant(f"SELECT_{it.name.upper()}", select_text(it)) for it in tables)
     return [
         Region(read, "the declarations", packed(
-            sorted(it.name.upper() for it in tables) + ["tables_in"], "use plant_tables::table_defs::{", "};")),
+            sorted(it.name.upper() for it in tables) + ["tables_in"], "use crate::table_defs::{", "};")),
         Region(read, "the texts", selects),
         Region(read, "all readings", f"""\
 /// The reading of each of the desk's tables, in the order of their definitions.
@@ -382,13 +382,13 @@ pub(crate) fn desk_readings() -> [Reading; {count}]
 {many(tables, '        reading!($NAME, SELECT_$NAME),')}
     ]
 }}"""),
-        Region("plant_tables_read/proofs/TextsSelectAll.antt", "the texts", f"""\
-use Rattle.plant_tables_read.specs.declared.readings.TheConstants.{{{', '.join(f'SELECT_{it.name.upper()}' for it in tables)}}}
+        Region("plant_tables/proofs/TextsSelectAll.antt", "the texts", f"""\
+use Rattle.plant_tables.specs.declared.readings.TheConstants.{{{', '.join(f'SELECT_{it.name.upper()}' for it in tables)}}}
 
 -- the texts, in the order of the tables
 abbrev pub select_texts : List (List ℕ)
 select_texts = {chain(f'SELECT_{it.name.upper()}.now' for it in tables)}"""),
-        Region("plant_tables_read/proofs/TextsSelectAll.antt", "that each reads its table",
+        Region("plant_tables/proofs/TextsSelectAll.antt", "that each reads its table",
                f"all_selected = each_selects select_texts desk_table_defs {nested(['refl'] * count, 'tt')}"),
         *in_collecting(tables, rows),
         *in_read_proofs(tables),
@@ -397,7 +397,7 @@ select_texts = {chain(f'SELECT_{it.name.upper()}.now' for it in tables)}"""),
 
 def in_collecting(tables: Sequence[Table], rows: Sequence[Table]) -> list[Region]:
     """The regions of the rows of all tables."""
-    path = "plant_tables_read/specs/Collecting.antt"
+    path = "plant_tables/specs/Collecting.antt"
     own = [it for it in tables if is_stored_as_read(it)]
     fields = many(tables, "  $list = $list;")
 
@@ -417,18 +417,18 @@ def in_collecting(tables: Sequence[Table], rows: Sequence[Table]) -> list[Region
         Region(path, "rows as lists", many(rows, "$list = r.$list.items;")),
         Region(path, "tables of rows", made("r.$list", "filter_map ${one}_from r.$list")),
         Region(path, "rows of tables", made("t.$list", "map ${stored}_of t.$list")),
-        Region("plant_tables_read/src/desk_rows.rt", "the types of rows", packed(
+        Region("plant_tables/src/desk_rows.rt", "the types of rows", packed(
             sorted(it.row for it in own), "use plant_base::{", "};")),
-        Region("plant_tables_read/src/desk_rows.rt", "rows of the newest tables", many(
+        Region("plant_tables/src/desk_rows.rt", "rows of the newest tables", many(
             [it for it in rows if it.schema >= 4], "$list: read!(decode_all(alloc, loaded.rows($place))?),")),
-        Region("plant_tables_read/proofs/MovementsFirst.antt", "the other tables", many(
+        Region("plant_tables/proofs/MovementsFirst.antt", "the other tables", many(
             [it for it in tables if it.name != "movement"], "same $place (λ e. absurd cc),")),
     ]
 
 
 def in_read_proofs(tables: Sequence[Table]) -> list[Region]:
     """The regions of the proofs that rows are read as they were written."""
-    represent, again = "plant_tables_read/proofs/RowsRepresentTables.antt", "plant_tables_read/proofs/RowsReadBack.antt"
+    represent, again = "plant_tables/proofs/RowsRepresentTables.antt", "plant_tables/proofs/RowsReadBack.antt"
     rows, columns = tables[1:], "plant_tables_columns.specs.TableColumns"
     loaded = ["only_meta", *(filled("${stored}_from", it) for it in rows)]
     both = [name for it in tables for name in ([] if is_stored_as_read(it) else [f"row_of_{it.stored}"]) + [f"row_of_{it.one}"]]
@@ -558,12 +558,12 @@ def variant(column: Column) -> str:
 def in_check(desk: Desk) -> list[Region]:
     """The regions of plant_check and desk_check."""
     rows = desk.tables[1:]
-    rules, fault = "plant_check/src/column_rules.rt", "plant_faults/src/fault.rt"
+    rules, fault = "plant_check/src/column_rules.rt", "plant_requirements/src/fault.rt"
     all_tables = f"all_tables = {chain('table.' + filled('$Name', it) for it in rows)}"
     return [
         Region(fault, "the tables", many(rows, "$Name,")),
         Region(fault, "their names", many(rows, "Table::$Name => \"$name\",")),
-        Region("plant_faults/specs/Naming.antt", "the names of tables", many(rows, "table_name table.$Name = codes \"$name\"")),
+        Region("plant_requirements/specs/Naming.antt", "the names of tables", many(rows, "table_name table.$Name = codes \"$name\"")),
         Region(rules, "the rules of each table", "\n".join(map(rules_in_code, rows))),
         Region("plant_check/specs/ColumnRules.antt", "the rules of each table", "\n".join(
             filled(f"rules_of table.$Name = {chain(f'(column.{variant(column)}, {rule(column, False)})' for column in it.columns)}", it)
@@ -605,7 +605,7 @@ def in_other_files(desk: Desk) -> list[Region]:
         Region("plant_view/specs/Tables.antt", "the rows of each table", "\n".join([
             "pub meta : Meta", many(desk.tables[1:], "pub $list : List $row")])),
         Region("plant_view/specs/Tables.antt", "changes of each table", changes),
-        Region("plant_sorted/src/keys.rt", "keys of the newest tables", many(late, """\
+        Region("plant_questions/src/keys.rt", "keys of the newest tables", many(late, """\
 impl HasKey for $row {
     ghost use Rattle.plant_base.specs.PlantState.{$order};
 

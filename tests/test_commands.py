@@ -39,7 +39,7 @@ class Changes(CommandsTestCase):
     """What the tool finds and writes."""
 
     def test_changed_region_is_found_and_written_anew(self) -> None:
-        self.check_found_and_written_anew("crates/plant_message_schema/src/words.rt", '"add_class" => ', '"make_class" => ')
+        self.check_found_and_written_anew("crates/plant_json_in/src/words.rt", '"add_class" => ', '"make_class" => ')
 
     def test_another_command_changes_regions_alone(self) -> None:
         before = self.texts()
@@ -61,7 +61,7 @@ class Changes(CommandsTestCase):
             ("crates/plant_base/proofs/ContentReadBack.antt", "body_back (body.Weigh c) v n = λ i. body.Weigh (record { lot = c.lot;"
              " sub = short_back c.sub n.0 i; amount = amount_back c.amount v.1 i; version = short_back c.version n.1 i;"
              " phase = byte_back c.phase n.2 i; word = word_back c.word i; unit = c.unit; place = c.place })"),
-            ("crates/plant_text_commands/specs/Plain.antt", "goods_of c.Weigh (field.Id lot ∷ field.Number sub ∷ field.Amount amount"
+            ("crates/plant_json_in/specs/Plain.antt", "goods_of c.Weigh (field.Id lot ∷ field.Number sub ∷ field.Amount amount"
              " ∷ field.Number version ∷ field.Small phase ∷ field.Word word ∷ field.Unit unit ∷ field.Text place ∷ [])"
              " = Some (body.Weigh (record { lot = lot; sub = sub; amount = amount; version = version; phase = phase; word = word; unit = unit; place = place }))"),
             ("crates/line_check/specs/Words.antt", f"place_of_command c.Weigh = {len(self.tool.COMMANDS)}"),

@@ -61,7 +61,7 @@ class Changes(QuestionsTestCase):
     """What the tool finds and writes."""
 
     def test_changed_file_is_found_and_written_anew(self) -> None:
-        self.check_found_and_written_anew("crates/plant_message_schema/src/question_tables.rt", '"lot" => ', '"lots_of" => ')
+        self.check_found_and_written_anew("crates/plant_json_in/src/question_tables.rt", '"lot" => ', '"lots_of" => ')
 
     def test_question_that_the_documents_lack_is_told(self) -> None:
         self.add_shelves()
@@ -76,14 +76,14 @@ class Changes(QuestionsTestCase):
         self.add_shelves()
         self.written()
         self.check_lines([
-            ("crates/plant_message_schema/src/question_tables.rt", "    Shelves,"),
-            ("crates/plant_message_schema/src/question_tables.rt", '        "shelves" => Some(AskedKind::List(ListKind::Shelves)),'),
-            ("crates/plant_message_schema/src/question_tables.rt", "        QuestionKind::List(ListKind::Shelves) => &[Lot, AfterHold],"),
-            ("crates/plant_message_schema/specs/QuestionValues.antt",
+            ("crates/plant_json_in/src/question_tables.rt", "    Shelves,"),
+            ("crates/plant_json_in/src/question_tables.rt", '        "shelves" => Some(AskedKind::List(ListKind::Shelves)),'),
+            ("crates/plant_json_in/src/question_tables.rt", "        QuestionKind::List(ListKind::Shelves) => &[Lot, AfterHold],"),
+            ("crates/plant_json_in/specs/QuestionValues.antt",
              "list_of list.Shelves (field.Id lot) cursor = option_map (L.Shelves lot) (hold_cursor cursor)"),
-            ("crates/plant_message_schema/proofs/QuestionsAreMade.antt",
+            ("crates/plant_json_in/proofs/QuestionsAreMade.antt",
              "list_made k.Shelves v = of_one k.Shelves (field.Id v.0) rule.HoldCursor tt (λ x. tt) v.1.0"),
-            ("crates/plant_http_routes/src/route_table.rt", '            "/v1/lists/shelves/{lot}",'),
+            ("crates/plant_http_requests/src/route_table.rt", '            "/v1/lists/shelves/{lot}",'),
             ("crates/line_check/specs/QuestionWords.antt", f"place_of_asked (asked.List list.Shelves) = {len(self.tool.QUESTIONS) + 1}"),
         ])
 

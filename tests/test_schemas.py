@@ -317,7 +317,7 @@ class Http(DeskTestCase):
                 self.check(case, status, wanted)
 
     def test_paths_have_the_methods_that_are_described_and_no_others(self) -> None:
-        source = (TOP / "crates/plant_http_routes/src/route_table.rt").read_text()
+        source = (TOP / "crates/plant_http_requests/src/route_table.rt").read_text()
         routes = set(re.findall(r'"(/v1/[^"]*)"', source))
         self.check("paths", set(OPENAPI["paths"]), {*routes, "/"})
         with self.serve("--page") as server:

@@ -71,7 +71,7 @@ class Changes(TablesTestCase):
             ("crates/plant_tables/src/table_defs.rt", '    "CREATE TABLE depot (id TEXT NOT NULL, name TEXT NOT NULL, UNIQUE (id)) STRICT";'),
             ("crates/plant_tables/src/table_defs.rt", f"pub fn desk_table_defs() -> [TableDef<'static>; {count + 1}]"),
             ("crates/plant_tables/specs/DeskTables.antt", f"rows_changed (change.Depot r) = changed_at {count} depot_table (row_of_depot r)"),
-            ("crates/plant_tables_read/src/readings.rt", "        reading!(DEPOT, SELECT_DEPOT),"),
+            ("crates/plant_tables/src/readings.rt", "        reading!(DEPOT, SELECT_DEPOT),"),
             ("crates/plant_keyed/src/texts.rt", 'pub(crate) const DEPOT_BY_ID: &str = "SELECT id, name FROM depot WHERE id = ?1 ORDER BY id";'),
         ])
 

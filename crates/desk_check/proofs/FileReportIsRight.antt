@@ -5,13 +5,13 @@ use Rattle.sqlite.specs.State as store
 use Rattle.sqlite.specs.State.{IsUnchanged}
 use Rattle.sql_tables.specs.{Keeps, Fault, AreFree, IsFree}
 use Rattle.plant_base.specs.{newest_schema}
-use Rattle.plant_tables_read.specs.{IsVersion, FoundTables, Loaded}
-use Rattle.plant_tables_read.proofs.OneVersion.{one_version}
+use Rattle.plant_tables.specs.{IsVersion, FoundTables, Loaded}
+use Rattle.plant_tables.proofs.OneVersion.{one_version}
 use Rattle.plant_check_rules.specs.{first_broken, IsDamaged, Rule}
 use Rattle.plant_check.specs.{first_rule}
 use Rattle.plant_check.proofs.FirstFoundIsFirstBroken.{first_found}
 use Rattle.plant_tables.specs.{desk_table_defs}
-use Rattle.plant_tables_read.specs.declared.finding.FoundTables.TheVariants as tables
+use Rattle.plant_tables.specs.declared.finding.FoundTables.TheVariants as tables
 use Rattle.plant_check_rules.specs.declared.rule.Rule.TheVariants as rule
 use Rattle.desk_check.specs.{HoldsRows, IsHeldBy, IsHeldIn, IsReadAt, IsFileReportOf, IsReportOf, first_reported}
 use Rattle.desk_check.specs.declared.barred.DeskIndex.{DeskIndex}

@@ -5,7 +5,7 @@ use Rattle.serde_json.specs.View.{items_of}
 use Rattle.serde_json.specs.Written.{has_float, items_have_float}
 use Rattle.plant_check_rules.specs.{Rule}
 use Rattle.plant_check.specs.{Column, Finding, Key, RowFault, Tested}
-use Rattle.plant_faults.specs.declared.fault.Key.TheVariants as key
+use Rattle.plant_requirements.specs.declared.fault.Key.TheVariants as key
 use Rattle.plant_check.specs.declared.finding.Findings.{Findings}
 use Rattle.plant_check.specs.declared.finding.Findings.TheVariants as findings
 use Rattle.desk_check.specs.{key_data, column_data, row_data, broken_data, found_data, each_data, findings_data, desk_data, file_report_data, index_data, taken_data, sentence_data, open_error_data, outcome_data, found_in}

@@ -5,7 +5,7 @@ use Rattle.sqlite_schema.specs.declared.schema.Schema.{Schema}
 use Rattle.sqlite_schema.specs.declared.schema.View.{View}
 use Rattle.plant_base.specs.{is_text}
 use Rattle.plant_check.specs.{table_name, Table}
-use Rattle.plant_faults.specs.declared.fault.Table.TheVariants as table
+use Rattle.plant_requirements.specs.declared.fault.Table.TheVariants as table
 use Rattle.desk_check.specs.declared.bound.Binder.{Binder}
 use Rattle.desk_check.specs.declared.file_report.FileReport.{FileReport}
 use Rattle.desk_check.specs.declared.file_report.FileReport.TheVariants as file_report

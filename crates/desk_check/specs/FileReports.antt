@@ -6,8 +6,8 @@ use Rattle.plant_base.specs.{newest_schema, Meta}
 use Rattle.sql_tables.specs.{AreFree, IsFree}
 use Rattle.plant_tables.specs.{desk_table_defs}
 use Rattle.plant_tables_columns.specs.{only_meta}
-use Rattle.plant_tables_read.specs.{AreLoaded, contents_loaded, IsVersion, HasTablesOf, FoundTables, Loaded}
-use Rattle.plant_tables_read.specs.declared.finding.FoundTables.TheVariants as tables
+use Rattle.plant_tables.specs.{AreLoaded, contents_loaded, IsVersion, HasTablesOf, FoundTables, Loaded}
+use Rattle.plant_tables.specs.declared.finding.FoundTables.TheVariants as tables
 use Rattle.plant_check_rules.specs.{IsDamaged, Rule}
 use Rattle.plant_check_rules.specs.declared.rule.Rule.TheVariants as rule
 use Rattle.plant_check.specs.{AreFindingsOf, first_rule}

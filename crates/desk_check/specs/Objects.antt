@@ -5,7 +5,7 @@ use Rattle.serde_json.specs.View.{items_of}
 use Rattle.plant_check_rules.specs.{rule_number, Rule}
 use Rattle.plant_check_rules.specs.declared.rule.Rule.TheVariants as rule
 use Rattle.plant_check.specs.{rule_text, column_name, table_name, found_text, wanted_text, Column, Finding, Key, RowFault, Tested}
-use Rattle.plant_faults.specs.declared.fault.Key.TheVariants as key
+use Rattle.plant_requirements.specs.declared.fault.Key.TheVariants as key
 use Rattle.plant_check.specs.declared.finding.Findings.{Findings}
 use Rattle.plant_check.specs.declared.finding.Findings.TheVariants as findings
 use Rattle.desk_check.specs.Barred.{index_name}

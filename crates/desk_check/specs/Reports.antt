@@ -3,7 +3,7 @@ use Rattle.std.specs.Prelude.{ℕ, List, [], ◌∷◌, ◌++◌, codes, decimal
 use Rattle.plant_text.specs.{with_lf}
 use Rattle.plant_check_rules.specs.{rule_number, Rule}
 use Rattle.plant_check_rules.specs.declared.rule.Rule.TheVariants as rule
-use Rattle.plant_tables_read.specs.{rows_listed}
+use Rattle.plant_tables.specs.{rows_listed}
 use Rattle.plant_check.specs.{rule_text, finding_of, fault_text, Finding, RowFault, Tested, table_name}
 use Rattle.plant_check.specs.declared.finding.Findings.{Findings}
 use Rattle.plant_check.specs.declared.finding.Findings.TheVariants as findings

@@ -12,7 +12,7 @@ use crate::barred::{DeskIndex, barred_index};
 use crate::bound::Binder;
 use plant_base::{Meta, NEWEST_SCHEMA};
 use plant_check::{Findings, test_loaded};
-use plant_tables_read::{FoundTables, Loaded, found, only_meta};
+use plant_tables::{FoundTables, Loaded, found, only_meta};
 use sql_tables::Fault;
 use sqlite::{Alter, Connection};
 use std::alloc::{AllocError, Global};

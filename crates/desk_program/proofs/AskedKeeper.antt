@@ -3,10 +3,10 @@ use Rattle.std.proofs.Common.{◌≡◌, ℕ, Result, Ok, Err, subst, sym, IfOk}
 use Rattle.plant_base.specs.{State}
 use Rattle.plant_answers.specs.{answer}
 use Rattle.plant_desk.specs.{States, Asks}
-use Rattle.plant_messages.specs.{Answer, DeskFault, Question}
-use Rattle.plant_messages.specs.declared.question.Answer.TheVariants as A
-use Rattle.plant_messages.specs.declared.question.Question.TheVariants as Q
-use Rattle.plant_messages.specs.declared.reply.DeskFault.TheVariants.{Store, Memory, Shut}
+use Rattle.plant_questions.specs.{Answer, DeskFault, Question}
+use Rattle.plant_questions.specs.declared.question.Answer.TheVariants as A
+use Rattle.plant_questions.specs.declared.question.Question.TheVariants as Q
+use Rattle.plant_questions.specs.declared.reply.DeskFault.TheVariants.{Store, Memory, Shut}
 use Rattle.desk_program.specs.{summary_of}
 use Rattle.desk_program.specs.declared.fault.Fault.{Fault}
 use Rattle.desk_program.specs.declared.summary.DeskSummary.{DeskSummary}

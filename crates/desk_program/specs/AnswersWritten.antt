@@ -4,10 +4,10 @@ use Rattle.std.specs.Io.KnownBytes.{Appends}
 use Rattle.sqlite.specs.State as store
 use Rattle.plant_base.specs.{newest_schema}
 use Rattle.plant_trace.specs.{node_text, Node}
-use Rattle.plant_record.specs.{record_text}
+use Rattle.plant_text_answers.specs.{record_text}
 use Rattle.plant_answers.specs.{answer}
-use Rattle.plant_messages.specs.{Answer, DeskFault, Question}
-use Rattle.plant_messages.specs.declared.question.Answer.TheVariants as A
+use Rattle.plant_questions.specs.{Answer, DeskFault, Question}
+use Rattle.plant_questions.specs.declared.question.Answer.TheVariants as A
 use Rattle.plant_desk_store.specs.{IsDurablyAt}
 use Rattle.plant_text_answers.specs.{text_of_answer}
 use Rattle.plant_text.specs.{is_unknown, with_lf, AppendsPrefix}

@@ -1,8 +1,8 @@
 -- The faults that the program ends with: where they come from, and the exit status of each.
 use Rattle.std.specs.Prelude.{◌≡◌, ℕ, List, Bool, Option, Result, Ok, Err, ⊤}
-use Rattle.plant_messages.specs.{Answer, DeskFault}
-use Rattle.plant_messages.specs.declared.question.Answer.TheVariants as A
-use Rattle.plant_messages.specs.declared.reply.DeskFault.TheVariants as desk
+use Rattle.plant_questions.specs.{Answer, DeskFault}
+use Rattle.plant_questions.specs.declared.question.Answer.TheVariants as A
+use Rattle.plant_questions.specs.declared.reply.DeskFault.TheVariants as desk
 use Rattle.plant_desk_store.specs.{AdoptFault}
 use Rattle.plant_desk_store.specs.declared.adopting.AdoptFault.TheVariants as adopt
 use Rattle.plant_text.specs.{RunEnd, TurnError}

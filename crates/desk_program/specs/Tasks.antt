@@ -4,8 +4,8 @@ use Rattle.sqlite.specs.State as store
 use Rattle.plant_orders.specs.{ImportMetadata}
 use Rattle.plant_trace.specs.{Direction}
 use Rattle.plant_trace.specs.declared.node.Node.TheVariants as node
-use Rattle.plant_messages.specs.{Question}
-use Rattle.plant_messages.specs.declared.question.Question.TheVariants as question
+use Rattle.plant_questions.specs.{Question}
+use Rattle.plant_questions.specs.declared.question.Question.TheVariants as question
 use Rattle.desk_cli.specs.{Task}
 use Rattle.desk_cli.specs.declared.meaning.Task.TheVariants as task
 use Rattle.desk_program.specs.AnswersWritten.{AskGives}

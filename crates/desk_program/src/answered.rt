@@ -19,7 +19,7 @@ use crate::fault::Fault;
 use plant_base::{DisplayItem, Joined};
 use plant_desk::Keeper;
 use plant_desk_store::Desk;
-use plant_messages::{Answer, DeskFault, Question};
+use plant_questions::{Answer, DeskFault, Question};
 use plant_text::{answer_text, is_unknown, record, write_text};
 use plant_trace::Node;
 use sqlite::{Alter, Connection};

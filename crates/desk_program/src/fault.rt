@@ -5,7 +5,7 @@ ghost use Rattle.desk_program.specs.Faults as spec;
 
 use plant_check_rules::Rule;
 use plant_desk_store::AdoptFault;
-use plant_messages::DeskFault;
+use plant_questions::DeskFault;
 use plant_text::{RunEnd, TurnError};
 use sqlite::{Error, ErrorCode};
 

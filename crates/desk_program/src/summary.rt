@@ -7,7 +7,7 @@ ghost use Rattle.desk_program.specs.Faults as spec;
 
 use crate::fault::Fault;
 use plant_desk::Keeper;
-use plant_messages::{Answer, DeskFault, Question};
+use plant_questions::{Answer, DeskFault, Question};
 
 /// The schema of a keeper's tables, and how many commands it has accepted.
 #[derive(Clone, Copy)]

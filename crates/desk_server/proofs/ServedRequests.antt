@@ -6,8 +6,8 @@ use Rattle.sqlite_trees.specs.declared.store.Store.{Ghosts}
 use Rattle.plant_desk_store.specs.{Represents, HasCrashStates, Desk}
 use Rattle.plant_base.specs.{State}
 use Rattle.plant_desk.specs.{States}
-use Rattle.plant_messages.specs.{DeskFault}
-use Rattle.plant_messages.specs.declared.reply.DeskFault.TheVariants.{Store, Memory, Shut}
+use Rattle.plant_questions.specs.{DeskFault}
+use Rattle.plant_questions.specs.declared.reply.DeskFault.TheVariants.{Store, Memory, Shut}
 use Rattle.plant_text.specs.{RepresentsDurably, RepresentsEither, Entry, nothing, bad, command, question, check, after, fold, CrashStatesOfFault, CrashStatesOfStoreFault}
 use Rattle.plant_text.proofs.RunCrashStates.{CrashStateIsOwn}
 use Rattle.plant_http_requests.specs.{Job, Profile}

@@ -1,6 +1,6 @@
 -- A node that is none of a picture.
 use Rattle.std.proofs.Common.{◌≡◌, ℕ, List, Some, false, refl}
-use Rattle.genealogy_graph.specs.{Picture}
+use Rattle.genealogy_svg.specs.{Picture}
 use Rattle.plant_trace.specs.declared.node.Node.TheVariants.{Lot, Batch}
 use Rattle.genealogy_picture.specs.{IsAbsent, has_batch, has_lot}
 use Rattle.genealogy_picture.specs.declared.ending.DrawError.TheVariants as stop

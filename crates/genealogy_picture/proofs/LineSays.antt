@@ -4,7 +4,7 @@ use Rattle.std.specs.Str.{is_utf8}
 use Rattle.std.proofs.lemmas.Str.{IsUtf8-from_is_utf8, is_utf8-from_IsUtf8}
 use Rattle.serde_json.specs.Data.{Data}
 use Rattle.serde_json.specs.Read.{read}
-use Rattle.genealogy_graph.specs.declared.reported.Reported.{Reported}
+use Rattle.genealogy_svg.specs.declared.reported.Reported.{Reported}
 use Rattle.genealogy_picture.specs.{answer_into, is_blank, line_into, text_into}
 use Rattle.genealogy_picture.specs.declared.answers.LineError.TheVariants as line_error
 

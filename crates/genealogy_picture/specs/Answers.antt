@@ -4,8 +4,8 @@ use Rattle.std.specs.Str.{is_utf8}
 use Rattle.serde_json.specs.Data.{Data, Items, no_items, item}
 use Rattle.serde_json.specs.Find.{get, as_array}
 use Rattle.serde_json.specs.Read.{read}
-use Rattle.genealogy_graph.specs.declared.reported.Reported.{Reported}
-use Rattle.genealogy_graph.specs.{ReportedEdge}
+use Rattle.genealogy_svg.specs.declared.reported.Reported.{Reported}
+use Rattle.genealogy_svg.specs.{ReportedEdge}
 use Rattle.genealogy_picture.specs.declared.answers.LineError.{LineError}
 use Rattle.genealogy_picture.specs.declared.answers.LineError.TheVariants as line_error
 use Rattle.genealogy_picture.specs.declared.answers.LineFault.{LineFault}

@@ -6,9 +6,9 @@ use Rattle.std.specs.declared.io.Error.{Error}
 use Rattle.std.specs.declared.io.ErrorKind.{ErrorKind}
 use Rattle.std.specs.declared.io.ErrorKind.TheVariants as io
 use Rattle.std.specs.IoError.{error_kind}
-use Rattle.genealogy_graph.specs.{GraphError, Picture, UnitedFault, dot_text, picture_of}
-use Rattle.genealogy_graph.specs.declared.reported.UnitedFault.TheVariants as united
-use Rattle.genealogy_graph.specs.declared.reported.GraphError.TheVariants as graph_error
+use Rattle.genealogy_svg.specs.{GraphError, Picture, UnitedFault, dot_text, picture_of}
+use Rattle.genealogy_svg.specs.declared.reported.UnitedFault.TheVariants as united
+use Rattle.genealogy_svg.specs.declared.reported.GraphError.TheVariants as graph_error
 use Rattle.genealogy_svg.specs.{Drawing, LayoutFault, IsEndOf, IsLaidOut, nodes_of, HasCircle, svg_text}
 use Rattle.genealogy_svg.specs.declared.drawing.LayoutFault.TheVariants as layout
 use Rattle.plant_trace.specs.{Node}

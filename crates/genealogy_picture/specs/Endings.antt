@@ -1,6 +1,6 @@
 -- How the program ends.
 use Rattle.std.specs.Prelude.{ℕ, List, ◌++◌, codes, decimal, Result, Ok, Err}
-use Rattle.genealogy_graph.specs.{graph_error_text}
+use Rattle.genealogy_svg.specs.{graph_error_text}
 use Rattle.genealogy_picture.specs.declared.ending.Refusal.{Refusal}
 use Rattle.genealogy_picture.specs.declared.ending.Refusal.TheVariants as refusal
 use Rattle.genealogy_picture.specs.declared.ending.DrawError.{DrawError}

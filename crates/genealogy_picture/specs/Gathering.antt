@@ -1,7 +1,7 @@
 -- What is reported, one after the other.
 use Rattle.std.specs.Prelude.{ℕ, List, [], ◌∷◌, ◌++◌}
-use Rattle.genealogy_graph.specs.{PictureLot, ReportedEdge}
-use Rattle.genealogy_graph.specs.declared.reported.Reported.{Reported}
+use Rattle.genealogy_svg.specs.{PictureLot, ReportedEdge}
+use Rattle.genealogy_svg.specs.declared.reported.Reported.{Reported}
 use Rattle.genealogy_picture.specs.declared.members.ReportedNode.{ReportedNode}
 use Rattle.genealogy_picture.specs.declared.members.ReportedNode.TheVariants as node
 

@@ -3,7 +3,7 @@ use Rattle.std.specs.Prelude.{ℕ, suc, ◌==◌, List, Bool, false, if◌then�
 use Rattle.serde_json.specs.Data.{Data, Members, no_members, member}
 use Rattle.serde_json.specs.Find.{get, as_bool, as_number, as_u64, as_str, as_object}
 use Rattle.plant_base.specs.{is_id, is_unit, only}
-use Rattle.genealogy_graph.specs.{PictureLot, ReportedEdge}
+use Rattle.genealogy_svg.specs.{PictureLot, ReportedEdge}
 use Rattle.plant_trace.specs.{Node}
 use Rattle.plant_trace.specs.declared.node.Node.TheVariants as node
 use Rattle.genealogy_picture.specs.declared.members.ReportedNode.{ReportedNode}

@@ -1,6 +1,6 @@
 -- What all lines of an input report.
 use Rattle.std.specs.Prelude.{◌≡◌, ℕ, ◌+◌, ◌==◌, List, [], ◌∷◌, ◌++◌, if◌then◌else◌, Result, Ok, Err, ⊤}
-use Rattle.genealogy_graph.specs.declared.reported.Reported.{Reported}
+use Rattle.genealogy_svg.specs.declared.reported.Reported.{Reported}
 use Rattle.genealogy_picture.specs.declared.answers.LineFault.{LineFault}
 use Rattle.genealogy_picture.specs.declared.answers.LineFault.TheVariants as line
 use Rattle.genealogy_picture.specs.declared.answers.LineError.{LineError}

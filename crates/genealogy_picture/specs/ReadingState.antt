@@ -1,6 +1,6 @@
 -- How far an input is read.
 use Rattle.std.specs.Prelude.{ℕ, List}
-use Rattle.genealogy_graph.specs.declared.reported.Reported.{Reported}
+use Rattle.genealogy_svg.specs.declared.reported.Reported.{Reported}
 
 pub record ReadingState : Type 0 where
   -- what its lines reported

@@ -16,8 +16,9 @@ ghost use Rattle.plant_trace.specs.declared.node.Node.TheVariants.{Lot, Batch};
 use crate::ending::{DrawError, Refusal};
 use crate::reading::reported_of;
 use crate::words::{Asked, Format};
-use genealogy_graph::{GraphError, Picture, UnitedFault, dot, united};
-use genealogy_svg::{Drawing, LayoutFault, layout, svg};
+use genealogy_svg::{
+    Drawing, GraphError, LayoutFault, Picture, UnitedFault, dot, layout, svg, united,
+};
 use plant_trace::Node;
 use std::alloc::Global;
 use std::io;

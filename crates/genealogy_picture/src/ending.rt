@@ -3,7 +3,7 @@ ghost use Rattle.std.specs.Prelude.{◌≡◌, Some};
 ghost use Rattle.genealogy_picture.specs.Endings.{refusal_text, status_of, draw_error_text};
 
 use crate::answers::LineError;
-use genealogy_graph::GraphError;
+use genealogy_svg::GraphError;
 use std::alloc::AllocError;
 use std::fmt;
 

@@ -4,7 +4,7 @@ ghost use Rattle.genealogy_picture.specs.Gathering.{nothing, with_lot, with_batc
 ghost use Rattle.genealogy_picture.specs.Gathering.{with_edge};
 
 use crate::members::ReportedNode;
-use genealogy_graph::{PictureLot, Reported, ReportedEdge};
+use genealogy_svg::{PictureLot, Reported, ReportedEdge};
 use plant_base::{Id, Items};
 use plant_trace::Node;
 use std::alloc::{AllocError, Global};
@@ -19,7 +19,7 @@ pub(crate) struct Gathered {
 }
 
 impl Model for Gathered {
-    ghost use Rattle.genealogy_graph.specs.declared.reported.Reported.{Reported};
+    ghost use Rattle.genealogy_svg.specs.declared.reported.Reported.{Reported};
 
     ghost Value = { Reported };
 

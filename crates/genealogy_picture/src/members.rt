@@ -6,7 +6,7 @@ ghost use Rattle.genealogy_picture.specs.Members.{has_members, id_at, unit_at, n
 ghost use Rattle.genealogy_picture.specs.Members.{lot_in, lot_of, batch_of, node_of, end_in};
 ghost use Rattle.genealogy_picture.specs.Members.{end_of, end_at, edge_in, edge_of};
 
-use genealogy_graph::{PictureLot, ReportedEdge};
+use genealogy_svg::{PictureLot, ReportedEdge};
 use plant_base::{Id, Unit};
 use plant_trace::Node;
 use serde_json::Value;

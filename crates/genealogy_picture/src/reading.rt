@@ -6,7 +6,7 @@ ghost use Rattle.genealogy_picture.specs.Reading.{reported_of, ReportsAs};
 use crate::answers::{LineError, LineFault, line_into};
 use crate::ending::{DrawError, Refusal};
 use crate::gathered::Gathered;
-use genealogy_graph::Reported;
+use genealogy_svg::Reported;
 use std::alloc::Global;
 use std::marker::Model;
 

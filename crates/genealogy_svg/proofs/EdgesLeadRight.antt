@@ -4,7 +4,7 @@ use Rattle.std.specs.BTreeMap.{get}
 use Rattle.std.proofs.lemmas.Bool.{false≢true}
 use Rattle.std.proofs.lemmas.List.Elements.{All-nil, All-push, All-tail, All-head, All-map, Contains-get_or}
 use Rattle.grouped_rows.specs.{is_keyed}
-use Rattle.genealogy_graph.specs.{Picture, PictureEdge}
+use Rattle.genealogy_svg.specs.{Picture, PictureEdge}
 use Rattle.plant_trace.specs.{node_cmp, node_ties, rank_of, Node}
 use Rattle.plant_trace.proofs.LeadsIsReach.{none_in, first_in, rest_in, first_or_rest}
 use Rattle.plant_trace.proofs.NodeOrder.{node_eq_itself}
@@ -14,7 +14,7 @@ use Rattle.genealogy_svg.specs.declared.drawing.DrawnEdge.{DrawnEdge}
 use Rattle.genealogy_svg.specs.declared.drawing.DrawnLot.{DrawnLot}
 use Rattle.genealogy_svg.specs.declared.drawing.LayoutFault.{LayoutFault}
 use Rattle.genealogy_svg.specs.declared.drawing.BoxPosition.{BoxPosition}
-use Rattle.genealogy_svg.specs.{◌>>=◌, placed, edges_in, IsLaidOut, LeadsRight, edges_to, IsLayered, IsSmall, without_row}
+use Rattle.genealogy_svg.specs.{◌>>=◌, placed, drawn_edges_in, IsLaidOut, LeadsRight, edges_to, IsLayered, IsSmall, without_row}
 use Rattle.genealogy_svg.proofs.RowsInTurn.{All-from_map, is_small_or_not}
 
 -- ---- the height is above each layer
@@ -71,8 +71,8 @@ module _ (p : Picture) (d : Drawing) (laid : IsLaidOut p d) where
 
   step : (done : List DrawnEdge) (x : PictureEdge) (es : List PictureEdge) (drawn : List DrawnEdge) (a b : Option BoxPosition) → get node_cmp laid.positions x.from ≡ a
       → get node_cmp laid.positions x.to ≡ b → Contains p.edges x → All LeadsRight done
-      → ((now : List DrawnEdge) → All LeadsRight now → edges_in laid.positions now es ≡ Ok drawn → All LeadsRight drawn)
-      → (placed x.from a >>= (λ from. placed x.to b >>= (λ to. edges_in laid.positions (done ++ record { from = from; to = to; amount = x.amount; unit = x.unit; row = None } ∷ []) es))) ≡ Ok drawn
+      → ((now : List DrawnEdge) → All LeadsRight now → drawn_edges_in laid.positions now es ≡ Ok drawn → All LeadsRight drawn)
+      → (placed x.from a >>= (λ from. placed x.to b >>= (λ to. drawn_edges_in laid.positions (done ++ record { from = from; to = to; amount = x.amount; unit = x.unit; row = None } ∷ []) es))) ≡ Ok drawn
       → All LeadsRight drawn
   step done x es drawn None b f g h all later e = absurd cc
   step done x es drawn (Some a) None f g h all later e = absurd cc
@@ -80,7 +80,7 @@ module _ (p : Picture) (d : Drawing) (laid : IsLaidOut p d) where
       let edge : DrawnEdge = record { from = a; to = b; amount = x.amount; unit = x.unit; row = None } in
       later (done ++ edge ∷ []) (All-push LeadsRight done edge all (right x a b h f g)) e
 
-  each : (done : List DrawnEdge) (es : List PictureEdge) (drawn : List DrawnEdge) → All LeadsRight done → All (Contains p.edges) es → edges_in laid.positions done es ≡ Ok drawn → All LeadsRight drawn
+  each : (done : List DrawnEdge) (es : List PictureEdge) (drawn : List DrawnEdge) → All LeadsRight done → All (Contains p.edges) es → drawn_edges_in laid.positions done es ≡ Ok drawn → All LeadsRight drawn
   each done [] drawn all within e = subst (All LeadsRight) (ap (value_of done) e) all
   each done (x ∷ es) drawn all within e =
       step done x es drawn (get node_cmp laid.positions x.from) (get node_cmp laid.positions x.to) refl refl (All-head (Contains p.edges) x es within) all

@@ -2,7 +2,7 @@
 use Rattle.std.proofs.Common.{◌≡◌, ℕ, List, Ok, subst, sym, Contains, IsSome, All, BTreeMap}
 use Rattle.std.proofs.lemmas.Bool.{false≢true}
 use Rattle.std.proofs.lemmas.List.Elements.{All-contains}
-use Rattle.genealogy_graph.specs.{Picture, PictureEdge}
+use Rattle.genealogy_svg.specs.{Picture, PictureEdge}
 use Rattle.plant_trace.specs.{Node}
 use Rattle.genealogy_svg.specs.declared.drawing.Drawing.{Drawing}
 use Rattle.genealogy_svg.specs.declared.drawing.BoxPosition.{BoxPosition}

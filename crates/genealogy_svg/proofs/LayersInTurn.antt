@@ -3,7 +3,7 @@ use Rattle.std.proofs.Common.{◌≡◌, ◌∙◌, ℕ, ◌+◌, Bool, true, fa
 use Rattle.std.specs.BTreeMap.{get, Updates}
 use Rattle.std.proofs.lemmas.List.Elements.{All-head, All-tail, All-weaker}
 use Rattle.std.proofs.lemmas.Map.Views.{tells_apart}
-use Rattle.genealogy_graph.specs.{PictureEdge}
+use Rattle.genealogy_svg.specs.{PictureEdge}
 use Rattle.plant_trace.specs.{node_cmp, rank_of, Node}
 use Rattle.plant_trace.proofs.NodeOrder.{node_exact}
 use Rattle.genealogy_svg.specs.{edges_to, height, AreSettled, IsLayered}

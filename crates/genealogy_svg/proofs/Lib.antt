@@ -1,3 +1,4 @@
+pub mod EndsFound
 pub mod LaidOut
 pub mod PathsAlongEdges
 pub mod PositionsInTurn

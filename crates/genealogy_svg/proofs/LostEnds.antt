@@ -2,7 +2,7 @@
 use Rattle.std.proofs.Common.{◌≡◌, ℕ, List, [], ◌∷◌, ◌++◌, Option, Some, None, Result, Ok, Err, map, refl, ap, subst, inl, inr, ◌⊎◌, ⊎_elim, arith, Contains, suc, BTreeMap}
 use Rattle.std.specs.BTreeMap.{get}
 use Rattle.std.proofs.lemmas.List.Elements.{Contains-append_left, Contains-append_right}
-use Rattle.genealogy_graph.specs.{Picture, PictureEdge, PictureLot}
+use Rattle.genealogy_svg.specs.{Picture, PictureEdge, PictureLot}
 use Rattle.plant_trace.specs.{node_cmp, Node}
 use Rattle.plant_trace.specs.declared.node.Node.TheVariants.{Lot, Batch}
 use Rattle.plant_trace.proofs.LeadsIsReach.{first_in, rest_in}
@@ -12,7 +12,7 @@ use Rattle.genealogy_svg.specs.declared.drawing.DrawnEdge.{DrawnEdge}
 use Rattle.genealogy_svg.specs.declared.drawing.DrawnLot.{DrawnLot}
 use Rattle.genealogy_svg.specs.declared.drawing.LayoutFault.{LayoutFault}
 use Rattle.genealogy_svg.specs.declared.drawing.LayoutFault.TheVariants as fault
-use Rattle.genealogy_svg.specs.{◌>>=◌, batches_in, drawing_in, edges_in, lots_in, nodes_of, placed, position_at, IsEndOf, IsErrorOf, IsLostEnd, IsOutside}
+use Rattle.genealogy_svg.specs.{◌>>=◌, batches_in, drawing_in, drawn_edges_in, lots_in, nodes_of, placed, position_at, IsEndOf, IsErrorOf, IsLostEnd, IsOutside}
 
 -- ---- faults
 
@@ -47,15 +47,15 @@ module _ (positions : BTreeMap Node BoxPosition) (node : Node) where
   end_rest : (e : PictureEdge) (more : List PictureEdge) → IsEndOf more node → IsEndOf (e ∷ more) node
   end_rest e more h = (suc h.0, h.1, omega (arith, h.2), h.3, h.4)
 
-  edges_lost : (done : List DrawnEdge) (edges : List PictureEdge) → edges_in positions done edges ≡ Err (fault.Lost node) → IsEndOf edges node
+  edges_lost : (done : List DrawnEdge) (edges : List PictureEdge) → drawn_edges_in positions done edges ≡ Err (fault.Lost node) → IsEndOf edges node
   edges_lost done [] h = absurd cc
   edges_lost done (e ∷ more) h = ⊎_elim
       (λ a. end_first e more (inl (lost_is e.from node (get node_cmp positions e.from) a)))
       (λ from. ⊎_elim
       (λ b. end_first e more (inr (lost_is e.to node (get node_cmp positions e.to) b)))
       (λ to. end_rest e more (edges_lost (done ++ record { from = from.0; to = to.0; amount = e.amount; unit = e.unit; row = None } ∷ []) more to.1))
-      (bind_error (position_at positions e.to) (λ to. edges_in positions (done ++ record { from = from.0; to = to; amount = e.amount; unit = e.unit; row = None } ∷ []) more) (fault.Lost node) from.1))
-      (bind_error (position_at positions e.from) (λ from. position_at positions e.to >>= (λ to. edges_in positions (done ++ record { from = from; to = to; amount = e.amount; unit = e.unit; row = None } ∷ []) more)) (fault.Lost node) h)
+      (bind_error (position_at positions e.to) (λ to. drawn_edges_in positions (done ++ record { from = from.0; to = to; amount = e.amount; unit = e.unit; row = None } ∷ []) more) (fault.Lost node) from.1))
+      (bind_error (position_at positions e.from) (λ from. position_at positions e.to >>= (λ to. drawn_edges_in positions (done ++ record { from = from; to = to; amount = e.amount; unit = e.unit; row = None } ∷ []) more)) (fault.Lost node) h)
 
   -- a lost node is one of the picture's or an end of an edge
   drawing_lost : (p : Picture) → drawing_in positions p ≡ Err (fault.Lost node) → Contains (nodes_of p) node ⊎ IsEndOf p.edges node
@@ -64,9 +64,9 @@ module _ (positions : BTreeMap Node BoxPosition) (node : Node) where
       (λ lots. ⊎_elim
       (λ b. inl (Contains-append_right (map (λ lot. Lot lot.id) p.lots) (map Batch p.batches) node (batches_lost [] p.batches b)))
       (λ batches. ⊎_elim (λ c. inr (edges_lost [] p.edges c)) (λ edges. absurd (let whole = edges.1 in cc))
-      (bind_error (edges_in positions [] p.edges) (λ edges. Ok (record { lots = lots.0; batches = batches.0; edges = edges })) (fault.Lost node) batches.1))
-      (bind_error (batches_in positions [] p.batches) (λ batches. edges_in positions [] p.edges >>= (λ edges. Ok (record { lots = lots.0; batches = batches; edges = edges }))) (fault.Lost node) lots.1))
-      (bind_error (lots_in positions [] p.lots) (λ lots. batches_in positions [] p.batches >>= (λ batches. edges_in positions [] p.edges >>= (λ edges. Ok (record { lots = lots; batches = batches; edges = edges })))) (fault.Lost node) h)
+      (bind_error (drawn_edges_in positions [] p.edges) (λ edges. Ok (record { lots = lots.0; batches = batches.0; edges = edges })) (fault.Lost node) batches.1))
+      (bind_error (batches_in positions [] p.batches) (λ batches. drawn_edges_in positions [] p.edges >>= (λ edges. Ok (record { lots = lots.0; batches = batches; edges = edges }))) (fault.Lost node) lots.1))
+      (bind_error (lots_in positions [] p.lots) (λ lots. batches_in positions [] p.batches >>= (λ batches. drawn_edges_in positions [] p.edges >>= (λ edges. Ok (record { lots = lots; batches = batches; edges = edges })))) (fault.Lost node) h)
 
 pub lost_end : (positions : BTreeMap Node BoxPosition) (p : Picture) (f : LayoutFault) → IsErrorOf (drawing_in positions p) f → IsOutside (nodes_of p) f → IsLostEnd p.edges f
 lost_end positions p fault.Circle e apart = tt

@@ -1,6 +1,6 @@
 -- Ways along edges.
 use Rattle.std.proofs.Common.{◌≡◌, ℕ, zero, suc, ◌<◌, ◌+◌, List, subst, refl, arith}
-use Rattle.genealogy_graph.specs.{PictureEdge}
+use Rattle.genealogy_svg.specs.{PictureEdge}
 use Rattle.plant_trace.specs.{step, more, Node}
 use Rattle.plant_trace.specs.Reach.{Reach}
 use Rattle.genealogy_svg.specs.{Leads}

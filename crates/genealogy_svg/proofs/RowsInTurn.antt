@@ -6,7 +6,7 @@ use Rattle.std.proofs.lemmas.Bool.{false≢true, cases_lt}
 use Rattle.std.proofs.lemmas.List.{map-append}
 use Rattle.std.proofs.lemmas.List.Elements.{All-nil, All-cons, All-head, All-tail, All-push, All-weaker}
 use Rattle.std.proofs.lemmas.List.Quantifiers.{all_pairs_push}
-use Rattle.genealogy_graph.specs.{Picture}
+use Rattle.genealogy_svg.specs.{Picture}
 use Rattle.genealogy_svg.specs.declared.drawing.BoxPosition.{BoxPosition}
 use Rattle.genealogy_svg.specs.declared.drawing.DrawnEdge.{DrawnEdge}
 use Rattle.genealogy_svg.specs.{position_cmp, AreApart, HasRow, HaveRows, IsSmall, in_row, without_row}

@@ -3,7 +3,7 @@ use Rattle.std.specs.Prelude.{◌≡◌, ℕ, ◌+◌, max, Bool, true, List, So
 use Rattle.std.specs.BTreeMap.{BTreeMap, get}
 use Rattle.std.specs.List.{list_any}
 use Rattle.grouped_rows.specs.{rows_of}
-use Rattle.genealogy_graph.specs.{PictureEdge}
+use Rattle.genealogy_svg.specs.declared.model.PictureEdge.{PictureEdge}
 use Rattle.genealogy_svg.specs.declared.drawing.LayoutFault.{LayoutFault}
 use Rattle.genealogy_svg.specs.declared.drawing.LayoutFault.TheVariants as fault
 use Rattle.plant_trace.specs.{node_cmp, node_eq, rank_of, Node}

@@ -1,7 +1,10 @@
 -- The layout of a picture: its nodes and edges at their positions.
+use Rattle.genealogy_svg.specs.United.{◌>>=◌}
 use Rattle.std.specs.Prelude.{◌≡◌, ◌<◌, ◌⊎◌, ℕ, List, [], ◌∷◌, ◌++◌, map, Any, Contains, Option, Some, None, Result, Ok, Err, ⊤}
 use Rattle.std.specs.BTreeMap.{BTreeMap, get}
-use Rattle.genealogy_graph.specs.{Picture, PictureEdge, PictureLot}
+use Rattle.genealogy_svg.specs.declared.model.Picture.{Picture}
+use Rattle.genealogy_svg.specs.declared.model.PictureEdge.{PictureEdge}
+use Rattle.genealogy_svg.specs.declared.model.PictureLot.{PictureLot}
 use Rattle.genealogy_svg.specs.Layers.{AreSettled, IsLayered}
 use Rattle.genealogy_svg.specs.Positions.{ArePositioned}
 use Rattle.genealogy_svg.specs.Rows.{HasAmounts}
@@ -14,12 +17,6 @@ use Rattle.genealogy_svg.specs.declared.drawing.LayoutFault.TheVariants as fault
 use Rattle.genealogy_svg.specs.declared.drawing.BoxPosition.{BoxPosition}
 use Rattle.plant_trace.specs.{node_cmp, Node}
 use Rattle.plant_trace.specs.declared.node.Node.TheVariants.{Lot, Batch}
-
--- the one, and then the other, where nothing is wrong
-infixl 10 ◌>>=◌
-abbrev pub ◌>>=◌ : {A B : Type 0} → Result A LayoutFault → (A → Result B LayoutFault) → Result B LayoutFault
-Ok a >>= f = f a
-Err e >>= f = Err e
 
 -- the nodes of a picture, lots before batches
 abbrev pub nodes_of : Picture → List Node
@@ -71,19 +68,19 @@ abbrev pub batches_in : BTreeMap Node BoxPosition → List DrawnBatch → List (
 batches_in positions done [] = Ok done
 batches_in positions done (batch ∷ more) = position_at positions (Batch batch) >>= (λ position. batches_in positions (done ++ record { batch = batch; position = position } ∷ []) more)
 
-abbrev pub edges_in : BTreeMap Node BoxPosition → List DrawnEdge → List PictureEdge → Result (List DrawnEdge) LayoutFault
-edges_in positions done [] = Ok done
-edges_in positions done (e ∷ more) =
+abbrev pub drawn_edges_in : BTreeMap Node BoxPosition → List DrawnEdge → List PictureEdge → Result (List DrawnEdge) LayoutFault
+drawn_edges_in positions done [] = Ok done
+drawn_edges_in positions done (e ∷ more) =
     position_at positions e.from >>= (λ from.
     position_at positions e.to >>= (λ to.
-    edges_in positions (done ++ record { from = from; to = to; amount = e.amount; unit = e.unit; row = None } ∷ []) more))
+    drawn_edges_in positions (done ++ record { from = from; to = to; amount = e.amount; unit = e.unit; row = None } ∷ []) more))
 
 -- the picture, with its nodes at these positions, and without its amounts
 abbrev pub drawing_in : BTreeMap Node BoxPosition → Picture → Result Drawing LayoutFault
 drawing_in positions p =
     lots_in positions [] p.lots >>= (λ lots.
     batches_in positions [] p.batches >>= (λ batches.
-    edges_in positions [] p.edges >>= (λ edges.
+    drawn_edges_in positions [] p.edges >>= (λ edges.
     Ok (record { lots = lots; batches = batches; edges = edges }))))
 
 -- the edge ends in a column to the right of that in which it begins

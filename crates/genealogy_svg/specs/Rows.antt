@@ -1,6 +1,6 @@
 -- Rows: each amount has a row of its own in the gap in front of the column where its edge ends, so that none is written over another.
 use Rattle.std.specs.Prelude.{◌≡◌, ℕ, ◌+◌, ◌≤◌, List, length, map, AllPairs, Some, None, All}
-use Rattle.genealogy_graph.specs.{Picture}
+use Rattle.genealogy_svg.specs.declared.model.Picture.{Picture}
 use Rattle.genealogy_svg.specs.declared.drawing.Drawing.{Drawing}
 use Rattle.genealogy_svg.specs.declared.drawing.DrawnEdge.{DrawnEdge}
 

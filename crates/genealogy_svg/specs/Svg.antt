@@ -2,7 +2,8 @@
 -- mark), so nothing in them has to be escaped.
 use Rattle.std.specs.Prelude.{ℕ, ◌+◌, ◌-◌, ◌*◌, max, ◌==◌, Bool, true, false, List, [], ◌++◌, length, Option, Some, None, is_none, if◌then◌else◌, codes, decimal, flat_map, fold}
 use Rattle.std.specs.List.{list_any}
-use Rattle.genealogy_graph.specs.{mark_colour, mark_name, stock_text, PictureLot}
+use Rattle.genealogy_svg.specs.Dot.{mark_colour, mark_name, stock_text}
+use Rattle.genealogy_svg.specs.declared.model.PictureLot.{PictureLot}
 use Rattle.genealogy_svg.specs.declared.drawing.Drawing.{Drawing}
 use Rattle.genealogy_svg.specs.declared.drawing.DrawnBatch.{DrawnBatch}
 use Rattle.genealogy_svg.specs.declared.drawing.DrawnEdge.{DrawnEdge}

@@ -3,11 +3,12 @@ ghost use Rattle.std.specs.Prelude.{◌≡◌, ◌≤◌, Some};
 ghost use Rattle.genealogy_svg.specs.Svg.{batch_colour, border, box_text, is_asked, outline};
 ghost use Rattle.genealogy_svg.specs.Svg.{unless_empty, lot_mark, mark_end, lot_title, mark_text};
 ghost use Rattle.genealogy_svg.specs.Svg.{lot_texts, lot_box, batch_title, batch_texts, batch_box};
-ghost use Rattle.genealogy_graph.specs.{stock_text};
+ghost use Rattle.genealogy_svg.specs.Dot.{stock_text};
 
 use crate::drawing::{BoxPosition, DrawnBatch, DrawnLot};
+use crate::graphviz::{StockText, mark_colour, mark_name};
+use crate::model::PictureLot;
 use crate::points::{Point, left_of, middle_of, top_of};
-use genealogy_graph::{PictureLot, StockText, mark_colour, mark_name};
 use plant_base::{DisplayItem, Id};
 use plant_trace::Node;
 use std::fmt;

@@ -1,7 +1,7 @@
 //! What a drawing shows, and where.
 ghost use Rattle.std.specs.Prelude.{◌≡◌};
 
-use genealogy_graph::PictureLot;
+use crate::model::PictureLot;
 use plant_base::{Id, Items, Unit};
 use plant_trace::Node;
 use std::alloc::AllocError;

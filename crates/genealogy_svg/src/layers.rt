@@ -5,7 +5,7 @@ ghost use Rattle.std.specs.List.{All};
 ghost use Rattle.plant_trace.specs.{node_cmp, rank_of, Node};
 ghost use Rattle.genealogy_svg.specs.Layers.{edges_to, height, leads, AreSettled, IsLayered};
 
-use genealogy_graph::PictureEdge;
+use crate::model::PictureEdge;
 use grouped_rows::{Grouped, Grouping};
 use plant_trace::Node;
 use std::alloc::AllocError;

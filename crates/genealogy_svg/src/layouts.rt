@@ -1,6 +1,7 @@
 //! The layout of a picture.
 ghost use Rattle.std.specs.Prelude.{◌≡◌, [], IfErr, IfOk, IsErrOf, Ok};
-ghost use Rattle.genealogy_svg.specs.Layouts.{position_at, nodes_of, lots_in, batches_in, edges_in};
+ghost use Rattle.genealogy_svg.specs.Layouts.{position_at, nodes_of, lots_in, batches_in};
+ghost use Rattle.genealogy_svg.specs.Layouts.{drawn_edges_in};
 ghost use Rattle.genealogy_svg.specs.Layouts.{drawing_in, IsLaidOut, LeadsRight, IsUnpositioned};
 ghost use Rattle.genealogy_svg.specs.Layouts.{IsOutside, IsErrorOf, IsLostEnd};
 ghost use Rattle.genealogy_svg.specs.Rows.{HasAmounts};
@@ -9,11 +10,11 @@ ghost use Rattle.genealogy_svg.specs.Layers.{HasCircle};
 
 use crate::drawing::{BoxPosition, Drawing, DrawnBatch, DrawnEdge, DrawnLot, LayoutFault};
 use crate::layers::ByEnd;
+use crate::model::{Picture, PictureEdge, PictureLot};
 use crate::positions::{BoxPositions, positions_of};
 use crate::rows::{shows_amounts, with_rows};
 use crate::search::layers_of;
 use crate::wishes::wishes_of;
-use genealogy_graph::{Picture, PictureEdge, PictureLot};
 use grouped_rows::Grouped;
 use plant_base::{Id, Items};
 use plant_trace::Node;
@@ -97,9 +98,9 @@ fn edges_in(
     positions: &BoxPositions,
     edges: &[PictureEdge],
 ) -> Result<Vec<DrawnEdge>, LayoutFault>
-    ensures drawn { IfOk result (λ drawn. edges_in positions.now [] edges.now ≡ Ok drawn.items) }
+    ensures drawn { IfOk result (λ drawn. drawn_edges_in positions.now [] edges.now ≡ Ok drawn.items) }
     ensures unpositioned { IfErr result (IsUnpositioned positions.now) }
-    ensures lost { IfErr result (IsErrorOf (edges_in positions.now [] edges.now)) }
+    ensures lost { IfErr result (IsErrorOf (drawn_edges_in positions.now [] edges.now)) }
 {
     let mut drawn = Vec::new(alloc);
     for edge in edges {

@@ -3,8 +3,8 @@ ghost use Rattle.std.specs.Prelude.{◌≡◌, ◌↔◌, IfOk, IsTrue};
 ghost use Rattle.genealogy_svg.specs.Rows.{HaveRows, IsSmall, in_row};
 
 use crate::drawing::{BoxPosition, DrawnEdge};
+use crate::model::Picture;
 use crate::positions::{free_from, take};
-use genealogy_graph::Picture;
 use std::alloc::{AllocError, Global};
 use std::collections::BTreeSet;
 

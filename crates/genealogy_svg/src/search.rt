@@ -6,7 +6,7 @@ ghost use Rattle.genealogy_svg.specs.Layers.{AreSettled, HasCircle, HasNode, IsL
 
 use crate::drawing::LayoutFault;
 use crate::layers::{ByEnd, Layers, edges_to, is_layered, leads, settle};
-use genealogy_graph::PictureEdge;
+use crate::model::PictureEdge;
 use grouped_rows::Grouped;
 use plant_trace::Node;
 use std::alloc::{AllocError, Global};

@@ -1,6 +1,6 @@
 //! Which slot of its layer each node is wished in: by the middle of what leads to it, then by its name.
 use crate::layers::{ByEnd, Layers, edges_to};
-use genealogy_graph::PictureEdge;
+use crate::model::PictureEdge;
 use grouped_rows::{Grouped, Grouping};
 use plant_trace::Node;
 use std::alloc::{AllocError, Global};

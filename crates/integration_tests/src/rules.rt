@@ -2,7 +2,7 @@
 use crate::stores::{in_memory, run_ten};
 use plant_base::NEWEST_SCHEMA;
 use plant_check::{Rule, check};
-use plant_tables_read::Loaded;
+use plant_tables::Loaded;
 use sqlite::{Connection, MemStore};
 use std::alloc::AllocGlobal;
 use std::process::Abort;

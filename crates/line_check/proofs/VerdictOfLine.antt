@@ -1,12 +1,12 @@
 -- The verdict on a line, by what it says.
 use Rattle.std.proofs.Common.{◌≡◌, ℕ, ◌<◌, List, length, nat_eq, true, false, Result, Err, refl, arith}
 use Rattle.std.proofs.lemmas.Bool.Decides.{nat_tests}
-use Rattle.plant_message_schema.specs.{FormatError}
-use Rattle.plant_message_schema.specs.declared.format_errors.FormatError.TheVariants as format_error
+use Rattle.plant_json_in.specs.{FormatError}
+use Rattle.plant_json_in.specs.declared.format_errors.FormatError.TheVariants as format_error
 use Rattle.plant_text.specs.{Line, longest_line, line_says}
 use Rattle.plant_text.proofs.LineSays.{says_long}
 use Rattle.line_check.specs.declared.judge.Verdict.TheVariants as verdict
-use Rattle.plant_command_errors.specs.declared.reason.Reason.TheVariants as reason
+use Rattle.plant_text_checks.specs.declared.reason.Reason.TheVariants as reason
 use Rattle.line_check.specs.{verdict_where, verdict_of}
 
 pub verdict_empty : (line : List ℕ) → length line ≡ 0 → verdict_of line ≡ verdict.Nothing

@@ -3,7 +3,7 @@ use Rattle.std.specs.Prelude.{◌≡◌, ℕ, ◌+◌, ◌==◌, List, [], ◌�
 use Rattle.std.specs.Str.Lines.{lines}
 use Rattle.std.specs.Io.KnownBytes.{Appends}
 use Rattle.plant_text.specs.{ended_after, with_lf, AppendsPrefix}
-use Rattle.plant_command_errors.specs.{reason_text, Reason}
+use Rattle.plant_text_checks.specs.{reason_text, Reason}
 use Rattle.desk_cli.specs.{CheckFault}
 use Rattle.desk_cli.specs.declared.check_fault.CheckFault.TheVariants as fault
 use Rattle.line_check.specs.declared.judge.Verdict.{Verdict}

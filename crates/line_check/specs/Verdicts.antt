@@ -1,11 +1,11 @@
 -- The verdict on a line.
 use Rattle.std.specs.Prelude.{ℕ, ◌==◌, List, Bool, true, length, if◌then◌else◌, Option, Some, None, Result, Ok, Err}
 use Rattle.plant_base.specs.{Command}
-use Rattle.plant_message_schema.specs.{FormatError, format_error_is_reported}
+use Rattle.plant_json_in.specs.{FormatError, format_error_is_reported}
 use Rattle.plant_text.specs.{line_says, Line}
 use Rattle.plant_text.specs.declared.read.Line.TheVariants as L
-use Rattle.plant_command_errors.specs.{command_error_of, CommandError}
-use Rattle.plant_command_errors.specs.declared.reason.Reason.TheVariants as reason
+use Rattle.plant_text_checks.specs.{command_error_of, CommandError}
+use Rattle.plant_text_checks.specs.declared.reason.Reason.TheVariants as reason
 use Rattle.line_check.specs.declared.judge.Verdict.{Verdict}
 use Rattle.line_check.specs.declared.judge.Verdict.TheVariants as verdict
 

@@ -1,7 +1,7 @@
 -- Where the words of commands are in the list of them.
 use Rattle.std.specs.Prelude.{ℕ, List, Option, option_and_then, slice_get}
-use Rattle.plant_message_schema.specs.{command_kind, CommandKind}
-use Rattle.plant_message_schema.specs.declared.words.CommandKind.TheVariants as c
+use Rattle.plant_json_in.specs.{command_kind, CommandKind}
+use Rattle.plant_json_in.specs.declared.words.CommandKind.TheVariants as c
 
 -- the command of the word at a place
 abbrev pub command_at : ℕ → List (List ℕ) → Option CommandKind

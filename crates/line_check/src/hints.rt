@@ -3,9 +3,9 @@
 use crate::question_words::question_words;
 use crate::words::command_words;
 use jiff::Timestamp;
-use plant_command_errors::Reason;
-use plant_message_schema::{FormatError, Member, ShapeError, command_kind, own_of, shared_members};
+use plant_json_in::{FormatError, Member, ShapeError, command_kind, own_of, shared_members};
 use plant_text::write_line;
+use plant_text_checks::Reason;
 use serde_json::Value;
 use std::alloc::{AllocError, Global};
 use std::io::Write;

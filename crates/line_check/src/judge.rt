@@ -3,8 +3,8 @@ ghost use Rattle.std.specs.Prelude.{◌≡◌, true, IfOk};
 ghost use Rattle.line_check.specs.Verdicts.{command_verdict, verdict_of, has_reason};
 
 use plant_base::Command;
-use plant_command_errors::{Reason, command_error_of};
 use plant_text::{Fault, Line, read_line_or_error};
+use plant_text_checks::{Reason, command_error_of};
 use std::alloc::Global;
 
 /// What a line is.

@@ -13,8 +13,8 @@ ghost use Rattle.line_check.specs.Report.{verdicts_after, AreWrittenAndCounted, 
 use crate::hints::{MOST_HINTED, write_hint};
 use crate::judge::{MemoryError, Verdict, judge};
 use desk_cli::CheckFault;
-use plant_command_errors::Reason;
 use plant_text::{WriteError, write_line};
+use plant_text_checks::Reason;
 use std::alloc::Global;
 use std::fmt;
 use std::io::{Read, Write};

@@ -1,7 +1,7 @@
 //! The JSON Schema of a value by its rule. What a value is is said in the words of the reports on lines.
 
 use plant_base::{GREATEST_AMOUNT, GREATEST_MOMENT};
-use plant_message_schema::Rule;
+use plant_json_in::Rule;
 use serde_json::{Value, json};
 use std::alloc::{AllocError, Global};
 

@@ -5,7 +5,7 @@ use crate::question_words::question_words;
 use crate::rules::{DEFINED, name_of, rule_value};
 use crate::words::command_words;
 use plant_base::{GREATEST_ORDERS, GREATEST_PARTS};
-use plant_message_schema::{
+use plant_json_in::{
     AskedKind, Member, NodeKind, QuestionKind, Row, Rule, asked_kind, check_members, command_kind,
     own_of, question_members, row_own, shared_members,
 };

@@ -1,6 +1,6 @@
 //! The words of commands, all of them.
 ghost use Rattle.std.specs.Prelude.{◌≡◌, Some, map};
-ghost use Rattle.plant_message_schema.specs.{CommandKind};
+ghost use Rattle.plant_json_in.specs.{CommandKind};
 ghost use Rattle.line_check.specs.Words.{command_at, place_of_command};
 
 /// The words of commands. Each command has its word here.

@@ -4,9 +4,9 @@ use Rattle.plant_base.specs.{same}
 use Rattle.plant_orders.specs.{faults_of, numbered_orders_of, csv_text, CsvFault, CsvKind, NumberedOrder}
 use Rattle.plant_orders.specs.declared.fault.CsvKind.TheVariants as kind
 use Rattle.plant_rules_production.specs.{is_same_order}
-use Rattle.plant_message_schema.specs.{shape_error_text}
-use Rattle.plant_message_schema.specs.declared.members.Member.TheVariants as member
-use Rattle.plant_message_schema.specs.declared.format_errors.ShapeError.TheVariants as shape_error
+use Rattle.plant_json_in.specs.{shape_error_text}
+use Rattle.plant_json_in.specs.declared.members.Member.TheVariants as member
+use Rattle.plant_json_in.specs.declared.format_errors.ShapeError.TheVariants as shape_error
 use Rattle.order_check.specs.declared.reason.Reason.{Reason}
 use Rattle.order_check.specs.declared.reason.Reason.TheVariants as reason
 use Rattle.order_check.specs.declared.conflicts.Conflict.{Conflict}

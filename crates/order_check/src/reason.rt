@@ -2,7 +2,7 @@
 ghost use Rattle.std.specs.Prelude.{◌≡◌, Some};
 ghost use Rattle.order_check.specs.Verdicts.{reason_of, reason_text};
 
-use plant_message_schema::{Member, ShapeError};
+use plant_json_in::{Member, ShapeError};
 use plant_orders::CsvKind;
 use std::fmt;
 

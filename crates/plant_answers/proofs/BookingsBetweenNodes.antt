@@ -18,9 +18,9 @@ use Rattle.plant_trace.proofs.LeadsIsReach.{none_in}
 use Rattle.plant_trace.proofs.NodeOrder.{node_eq_exact}
 use Rattle.plant_view.specs.{batch_by, edge_row_by, edge_row_of, edge_rows, ends_by, put_all, is_named, movements_of}
 use Rattle.plant_view.proofs.Membership.{all_in, filter_in, filter_from, flat_in, flat_from, map_in, map_from, one_list, put_all_from, sorted_put_all}
-use Rattle.plant_worklists.specs.{movements_into, other_lot}
+use Rattle.plant_questions.specs.{movements_into, other_lot}
 use Rattle.plant_answers.specs.{Fits, booked_at, booked_if, bookings_around, counted, movements_at, summed, reported_at, reported_by, total_along, amount_of, booked_along, booked_edge, edges_between, is_among, is_between, is_made}
-use Rattle.plant_messages.specs.{BookedEdge}
+use Rattle.plant_questions.specs.{BookedEdge}
 use Rattle.plant_answers.proofs.SumsByEdge.{edge_exact, booked_pair, totalled}
 use Rattle.plant_answers.proofs.NarrowedMovements.{reported_of}
 use Rattle.plant_answers.proofs.PickedRows.{picked_in, picked_from}

@@ -11,7 +11,7 @@ use Rattle.plant_trace.proofs.NodeOrder.{node_eq_exact, node_eq_itself}
 use Rattle.plant_view.specs.{edge_row_of, edge_rows, ends_of}
 use Rattle.plant_view.proofs.Membership.{all_in, filter_in, filter_from, map_in, map_from, map_sorted, put_all_from, sorted_put_all}
 use Rattle.plant_answers.specs.{nodes_around, booked_edge, edges_between, is_among, is_between, IsBooked, booked_order}
-use Rattle.plant_messages.specs.{BookedEdge}
+use Rattle.plant_questions.specs.{BookedEdge}
 use Rattle.plant_answers.proofs.GoodsAreReached.{around_lists}
 use Rattle.plant_answers.proofs.PickedRows.{picked_in, picked_from}
 use Rattle.std.proofs.lemmas.Bool.{and_parts, and_from}

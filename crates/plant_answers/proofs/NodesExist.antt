@@ -16,8 +16,8 @@ use Rattle.plant_view.specs.{edge_by, edge_of, edges_of, refuse, IsThere}
 use Rattle.plant_view.specs.DecisionInvariant.{DecisionInvariant}
 use Rattle.plant_view.proofs.Membership.{all_at, all_from}
 use Rattle.plant_answers.specs.{nodes_around, lot_node, named, node_answer, node_if, IsAround, missing}
-use Rattle.plant_messages.specs.{NodeAnswer}
-use Rattle.plant_messages.specs.declared.genealogy.NodeAnswer.TheVariants as known
+use Rattle.plant_questions.specs.{NodeAnswer}
+use Rattle.plant_questions.specs.declared.genealogy.NodeAnswer.TheVariants as known
 use Rattle.plant_answers.proofs.GoodsAreReached.{around_lists}
 use Rattle.plant_answers.proofs.PickedRows.{picked_from}
 

@@ -16,7 +16,7 @@ use Rattle.plant_trace.proofs.LeadsIsReach.{none_in}
 use Rattle.plant_view.specs.{put_all}
 use Rattle.plant_view.proofs.Membership.{all_in, map_in, map_from, one_list, put_all_from, sorted_put_all}
 use Rattle.plant_answers.specs.{Fits, counted, is_booked, sum_at, sum_with, summed, total_along}
-use Rattle.plant_messages.specs.{BookedEdge}
+use Rattle.plant_questions.specs.{BookedEdge}
 use Rattle.std.proofs.Math.Bool.{or-true, or-false}
 
 -- ---- edges

@@ -13,9 +13,9 @@ use Rattle.plant_answers.specs.Answers.{answer}
 use Rattle.plant_answers.specs.Genealogy.{amount_of, named}
 use Rattle.plant_answers.specs.Traces.{missing}
 use Rattle.plant_answers.specs.ListAnswers.{standing_lot}
-use Rattle.plant_messages.specs.{BookedEdge, Genealogy, RecallAnswer, StandingLot}
-use Rattle.plant_messages.specs.declared.question.Question.TheVariants as Q
-use Rattle.plant_messages.specs.declared.question.Answer.TheVariants as A
+use Rattle.plant_questions.specs.{BookedEdge, Genealogy, RecallAnswer, StandingLot}
+use Rattle.plant_questions.specs.declared.question.Question.TheVariants as Q
+use Rattle.plant_questions.specs.declared.question.Answer.TheVariants as A
 
 -- The trace of a node that is there lists just what the least relation reaches: each such node once, ascending, and no other.
 abbrev pub TracesListReached : Type 0

@@ -11,9 +11,9 @@ use Rattle.plant_answers.specs.RecallAnswers.{answer_recall}
 use Rattle.plant_answers.specs.RecipeAnswers.{answer_definition, answer_recipe}
 use Rattle.plant_answers.specs.Traces.{missing, answer_trace}
 use Rattle.plant_answers.specs.ListAnswers.{answer_list}
-use Rattle.plant_messages.specs.{Answer, OrderAnswer, Question}
-use Rattle.plant_messages.specs.declared.question.Question.TheVariants as Q
-use Rattle.plant_messages.specs.declared.question.Answer.TheVariants as A
+use Rattle.plant_questions.specs.{Answer, OrderAnswer, Question}
+use Rattle.plant_questions.specs.declared.question.Question.TheVariants as Q
+use Rattle.plant_questions.specs.declared.question.Answer.TheVariants as A
 
 abbrev pub order_answer : State → List ℕ → Job → OrderAnswer
 order_answer s order j = record { job = j; batch = option_map (λ b. b.id) (batch_of s order) }

@@ -4,8 +4,8 @@ use Rattle.plant_base.specs.{State, control_lines_of, Batch, RecipeLine}
 use Rattle.plant_base.specs.declared.refusal.Refusal.TheVariants.{UnknownBatch}
 use Rattle.plant_base.specs.declared.rows.RecipeLine.TheVariants.{In, Out, Parameter, Phase}
 use Rattle.plant_answers.specs.BatchViews.{consumption, measured_line, production}
-use Rattle.plant_messages.specs.{booked_of, Answer, BatchLines, BookedLine, Booking, MeasuredLine}
-use Rattle.plant_messages.specs.declared.question.Answer.TheVariants as A
+use Rattle.plant_questions.specs.{booked_of, Answer, BatchLines, BookedLine, Booking, MeasuredLine}
+use Rattle.plant_questions.specs.declared.question.Answer.TheVariants as A
 
 -- a number, as far as 64 bits hold it
 abbrev pub in_64_bits : ℕ → ℕ

@@ -5,9 +5,9 @@ use Rattle.plant_base.specs.declared.refusal.Refusal.TheVariants.{UnknownRecipe,
 use Rattle.plant_base.specs.declared.rows.MovementKind.TheVariants.{Consumed, Produced}
 use Rattle.plant_base.specs.declared.rows.RecipeLine.TheVariants.{In, Out, Parameter, Phase}
 use Rattle.plant_view.specs.{progress_at, is_scrap}
-use Rattle.plant_messages.specs.{Answer, BatchView, Booking, MeasuredLine}
+use Rattle.plant_questions.specs.{Answer, BatchView, Booking, MeasuredLine}
 use Rattle.plant_answers.specs.declared.bookings.Side.TheVariants as side
-use Rattle.plant_messages.specs.declared.question.Answer.TheVariants as A
+use Rattle.plant_questions.specs.declared.question.Answer.TheVariants as A
 use Rattle.plant_answers.specs.declared.bookings.Side.{Side}
 
 -- ---- lines

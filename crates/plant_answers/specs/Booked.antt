@@ -7,9 +7,9 @@ use Rattle.plant_base.specs.declared.rows.EdgeKind.TheVariants as edge
 use Rattle.plant_trace.specs.{node_cmp, node_eq, Node}
 use Rattle.plant_trace.specs.declared.node.Node.TheVariants as node
 use Rattle.plant_view.specs.{edge_row_of, put_all, movements_of}
-use Rattle.plant_worklists.specs.{movements_into}
+use Rattle.plant_questions.specs.{movements_into}
 use Rattle.plant_answers.specs.Genealogy.{is_between, is_among}
-use Rattle.plant_messages.specs.{BookedEdge}
+use Rattle.plant_questions.specs.{BookedEdge}
 
 -- the node whose movements book an edge: the batch at one of its ends, or else the lot that it leads to
 abbrev pub reported_by : EdgeKind → List ℕ → List ℕ → Node

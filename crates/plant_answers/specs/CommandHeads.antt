@@ -2,7 +2,7 @@
 use Rattle.std.specs.Prelude.{ℕ, Bool, false, if◌then◌else◌, List, [], ◌∷◌, codes, bytes_eq, Option, Some, None, ◌==◌, option_and_then}
 use Rattle.std.specs.List.{before_first, after_first, list_any}
 use Rattle.plant_base.specs.{digits_of, is_moment, is_text, only}
-use Rattle.plant_messages.specs.{CommandHead}
+use Rattle.plant_questions.specs.{CommandHead}
 
 abbrev pub is_lf : ℕ → Bool
 is_lf byte = byte == 10

@@ -7,9 +7,9 @@ use Rattle.plant_trace.specs.declared.node.Node.TheVariants as node
 use Rattle.plant_view.specs.{edge_row_of, edge_rows, ends_of, is_blocked, is_held}
 use Rattle.plant_answers.specs.Surroundings.{nodes_around}
 use Rattle.plant_answers.specs.LotAnswers.{lot_answer}
-use Rattle.plant_messages.specs.{Answer, BookedEdge, Genealogy, LotNode, NodeAnswer}
-use Rattle.plant_messages.specs.declared.genealogy.NodeAnswer.TheVariants as known
-use Rattle.plant_messages.specs.declared.question.Answer.TheVariants as A
+use Rattle.plant_questions.specs.{Answer, BookedEdge, Genealogy, LotNode, NodeAnswer}
+use Rattle.plant_questions.specs.declared.genealogy.NodeAnswer.TheVariants as known
+use Rattle.plant_questions.specs.declared.question.Answer.TheVariants as A
 
 -- ---- nodes
 

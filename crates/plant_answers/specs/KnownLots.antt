@@ -3,7 +3,7 @@ use Rattle.std.specs.Prelude.{◌≡◌, ℕ, true, false, if◌then◌else◌, 
 use Rattle.plant_base.specs.{State, definition_at, lot_at, same, Definition, Lot}
 use Rattle.plant_trace.specs.{Node}
 use Rattle.plant_trace.specs.declared.node.Node.TheVariants as node
-use Rattle.plant_worklists.specs.{IsValidHoldPrefetch, IsValidLotPrefetch, IsValidSublotPrefetch, prefetched_holds, prefetched_lots, prefetched_sublots, unread}
+use Rattle.plant_questions.specs.{IsValidHoldPrefetch, IsValidLotPrefetch, IsValidSublotPrefetch, prefetched_holds, prefetched_lots, prefetched_sublots, unread}
 use Rattle.plant_answers.specs.declared.known_lots.KnownLots.{KnownLots}
 
 pub record AreKnown (s : State) (known : KnownLots) : Type 0 where

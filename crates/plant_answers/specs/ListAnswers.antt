@@ -4,13 +4,13 @@ use Rattle.plant_base.specs.{State, class_at, control_lines_of, definition_at, l
 use Rattle.plant_base.specs.declared.refusal.Refusal.TheVariants.{UnknownClass, UnknownDefinition, UnknownLot}
 use Rattle.plant_base.specs.declared.rows.RecipeLine.TheVariants.{In, Out, Parameter, Phase}
 use Rattle.plant_view.specs.{is_blocked}
-use Rattle.plant_worklists.specs.{page_of, orders_in, orders_by_due, receipts_by_number, batches_in, lots_of, holds_on, recalls_in, classes_after, definitions_in, recipes_in, ledger_of, all_holds, ListQuestion, Page}
-use Rattle.plant_worklists.specs.declared.list_question.ListQuestion.TheVariants as list
+use Rattle.plant_questions.specs.{page_of, orders_in, orders_by_due, receipts_by_number, batches_in, lots_of, holds_on, recalls_in, classes_after, definitions_in, recipes_in, ledger_of, all_holds, ListQuestion, Page}
+use Rattle.plant_questions.specs.declared.list_question.ListQuestion.TheVariants as list
 use Rattle.plant_answers.specs.CommandHeads.{head_of}
 use Rattle.plant_answers.specs.LotAnswers.{lot_answer}
-use Rattle.plant_messages.specs.{Answer, BookedCommand, Listed, LotPage, OpenBatch, StandingLot}
-use Rattle.plant_messages.specs.declared.listed.Listed.TheVariants as listed
-use Rattle.plant_messages.specs.declared.question.Answer.TheVariants as A
+use Rattle.plant_questions.specs.{Answer, BookedCommand, Listed, LotPage, OpenBatch, StandingLot}
+use Rattle.plant_questions.specs.declared.listed.Listed.TheVariants as listed
+use Rattle.plant_questions.specs.declared.question.Answer.TheVariants as A
 
 -- ---- batches
 

@@ -3,8 +3,8 @@ use Rattle.std.specs.Prelude.{Option, Some, None, sum_by}
 use Rattle.plant_base.specs.{State, Lot}
 use Rattle.plant_base.specs.declared.refusal.Refusal.TheVariants.{UnknownLot}
 use Rattle.plant_view.specs.{is_held, sublots_of}
-use Rattle.plant_messages.specs.{Answer, LotAnswer}
-use Rattle.plant_messages.specs.declared.question.Answer.TheVariants as A
+use Rattle.plant_questions.specs.{Answer, LotAnswer}
+use Rattle.plant_questions.specs.declared.question.Answer.TheVariants as A
 
 abbrev pub lot_answer : State → Lot → LotAnswer
 lot_answer s l = record {

@@ -4,8 +4,8 @@ use Rattle.plant_base.specs.{is_open, State, Recall}
 use Rattle.plant_base.specs.declared.refusal.Refusal.TheVariants.{UnknownRecall}
 use Rattle.plant_trace.specs.{node_cmp, Node}
 use Rattle.plant_view.specs.{edges_of, nodes_from, put_all}
-use Rattle.plant_messages.specs.{Answer, RecallAnswer}
-use Rattle.plant_messages.specs.declared.question.Answer.TheVariants as A
+use Rattle.plant_questions.specs.{Answer, RecallAnswer}
+use Rattle.plant_questions.specs.declared.question.Answer.TheVariants as A
 
 -- what a recall of the lot reaches, ascending, each once
 unfoldable pub reached_list : List (Node × Node) → List ℕ → List Node

@@ -3,8 +3,8 @@ use Rattle.std.specs.Prelude.{Option, Some, None, map}
 use Rattle.plant_base.specs.{State, master_lines_of, Definition, MasterLine, Recipe}
 use Rattle.plant_base.specs.declared.refusal.Refusal.TheVariants.{UnknownDefinition, UnknownRecipe}
 use Rattle.plant_answers.specs.BatchViews.{material_of, unit_among}
-use Rattle.plant_messages.specs.{Answer, RecipeAnswer, RecipeLineAnswer}
-use Rattle.plant_messages.specs.declared.question.Answer.TheVariants as A
+use Rattle.plant_questions.specs.{Answer, RecipeAnswer, RecipeLineAnswer}
+use Rattle.plant_questions.specs.declared.question.Answer.TheVariants as A
 
 abbrev pub answer_definition : Option Definition → Answer
 answer_definition None = A.Unknown UnknownDefinition

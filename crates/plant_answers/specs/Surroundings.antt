@@ -6,8 +6,8 @@ use Rattle.plant_trace.specs.declared.direction.Direction.TheVariants.{Forward}
 use Rattle.plant_trace.specs.declared.node.Node.TheVariants as node
 use Rattle.plant_answers.specs.Traces.{trace_of}
 use Rattle.plant_answers.specs.ListAnswers.{stocked_lot}
-use Rattle.plant_messages.specs.{Answer, StandingLot}
-use Rattle.plant_messages.specs.declared.question.Answer.TheVariants as A
+use Rattle.plant_questions.specs.{Answer, StandingLot}
+use Rattle.plant_questions.specs.declared.question.Answer.TheVariants as A
 
 -- the start and its trace: lots before batches, each ascending
 abbrev pub nodes_around : State → Direction → Node → List Node

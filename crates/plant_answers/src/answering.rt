@@ -4,7 +4,7 @@ ghost use Rattle.plant_base.specs.{State, newest_schema, job_at, batch_of};
 ghost use Rattle.plant_trace.specs.ReadOnly.{ReadOnly};
 ghost use Rattle.plant_view.specs.DecisionInvariant.{DecisionInvariant};
 ghost use Rattle.plant_answers.specs.Answers.{answer, answer_order};
-ghost use Rattle.plant_messages.specs.declared.question.Answer.TheVariants as A;
+ghost use Rattle.plant_questions.specs.declared.question.Answer.TheVariants as A;
 
 use crate::batch_answers::batch_answer;
 use crate::batch_lines::batch_lines_answer;
@@ -16,9 +16,8 @@ use crate::recipe_answers::{definition_answer, recipe_answer};
 use crate::standing::stands_answer;
 use crate::traces::trace_answer;
 use plant_base::{Batch, Id, Job, NEWEST_SCHEMA, Refusal};
-use plant_messages::{Answer, OrderAnswer, Question};
+use plant_questions::{Answer, OrderAnswer, Question, Worklists};
 use plant_view::{View, ViewFault, lookup};
-use plant_worklists::Worklists;
 use std::alloc::Global;
 
 /// Answers a question over a view, as a desk of the newest schema. Nothing is written.

@@ -6,7 +6,7 @@ ghost use Rattle.plant_trace.specs.ReadOnly.{ReadOnly};
 ghost use Rattle.plant_answers.specs.Surroundings.{nodes_around};
 
 use crate::traces::trace;
-use plant_sorted::put_row;
+use plant_questions::put_row;
 use plant_trace::{Direction, Node};
 use plant_view::{View, ViewFault};
 use std::alloc::Global;

@@ -13,7 +13,7 @@ use crate::bookings::{BatchBookings, bookings_of};
 use plant_base::{
     BatchEvent, BatchRow, ControlLine, Header, Id, Items, Job, RecipeLine, Refusal, Unit,
 };
-use plant_messages::{Answer, BatchView, MeasuredLine};
+use plant_questions::{Answer, BatchView, MeasuredLine};
 use plant_recipe::Progress;
 use plant_view::{View, ViewFault, lookup};
 use std::alloc::Global;

@@ -3,7 +3,7 @@ ghost use Rattle.std.specs.Prelude.{◌≡◌, IfOk, map, ℕ, List};
 ghost use Rattle.plant_base.specs.{State, batch_at, control_lines_of};
 ghost use Rattle.plant_trace.specs.ReadOnly.{ReadOnly};
 ghost use Rattle.plant_view.specs.DecisionInvariant.{DecisionInvariant};
-ghost use Rattle.plant_messages.specs.{booked_of};
+ghost use Rattle.plant_questions.specs.{booked_of};
 ghost use Rattle.plant_answers.specs.Answering.{AreBookingsOf};
 ghost use Rattle.plant_answers.specs.BatchViews.{measured_line};
 ghost use Rattle.plant_answers.specs.BatchLines.{answer_batch_lines, batch_lines, booked_in};
@@ -12,7 +12,7 @@ ghost use Rattle.plant_answers.specs.BatchLines.{booked_line, booked_lines, in_6
 use crate::batch_answers::measured_lines;
 use crate::bookings::{BatchBookings, bookings_of};
 use plant_base::{Id, Items, RecipeLine, Refusal};
-use plant_messages::{Answer, BatchLines, BookedLine, Booking, MeasuredLine, booked_of};
+use plant_questions::{Answer, BatchLines, BookedLine, Booking, MeasuredLine, booked_of};
 use plant_view::{View, ViewFault, lookup};
 use std::alloc::{AllocError, Global};
 

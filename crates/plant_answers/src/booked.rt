@@ -13,10 +13,9 @@ ghost use Rattle.plant_answers.specs.Genealogy.{edges_between};
 
 use crate::bookings::push_found;
 use plant_base::{EdgeKind, EdgeRow, Movement};
-use plant_messages::BookedEdge;
+use plant_questions::{BookedEdge, Worklists, movements_into};
 use plant_trace::Node;
 use plant_view::{ViewFault, edge_row, ends, lookup};
-use plant_worklists::{Worklists, movements_into};
 use std::alloc::{AllocError, Global};
 use std::collections::{BTreeMap, BTreeSet};
 

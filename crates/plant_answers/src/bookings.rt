@@ -8,7 +8,7 @@ ghost use Rattle.plant_answers.specs.BatchViews.{booking, definition_of, booking
 ghost use Rattle.plant_answers.specs.BatchViews.{production, booked_on};
 
 use plant_base::{Definition, Id, Lot, Movement, MovementKind};
-use plant_messages::Booking;
+use plant_questions::Booking;
 use plant_view::{View, ViewFault, lookup};
 use std::alloc::{AllocError, Global};
 

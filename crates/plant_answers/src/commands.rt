@@ -2,15 +2,14 @@
 ghost use Rattle.std.specs.Prelude.{◌≡◌, IfOk, map};
 ghost use Rattle.plant_base.specs.{is_text, only};
 ghost use Rattle.plant_trace.specs.ReadOnly.{ReadOnly};
-ghost use Rattle.plant_worklists.specs.{page_of, receipts_by_number};
+ghost use Rattle.plant_questions.specs.{page_of, receipts_by_number};
 ghost use Rattle.plant_answers.specs.CommandHeads.{behind, has_command, head_of, is_padded};
 ghost use Rattle.plant_answers.specs.CommandHeads.{line_in, moment_in, word_in};
 ghost use Rattle.plant_answers.specs.ListAnswers.{booked_command, command_page};
 
 use plant_base::{Items, Moment, Receipt, Text, read_digits};
-use plant_messages::{BookedCommand, CommandHead};
+use plant_questions::{BookedCommand, CommandHead, Page, Worklists};
 use plant_view::ViewFault;
-use plant_worklists::{Page, Worklists};
 use std::alloc::{AllocError, Global};
 
 /// A page of the commands that had references, by their numbers.

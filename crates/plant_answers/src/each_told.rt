@@ -7,8 +7,8 @@ ghost use Rattle.plant_answers.specs.KnownLots.{AreKnown};
 
 use crate::bookings::push_found;
 use crate::known_lots::KnownLots;
+use plant_questions::Worklists;
 use plant_view::ViewFault;
-use plant_worklists::Worklists;
 use std::alloc::Global;
 
 /// A lot or node of which a row may be reported.

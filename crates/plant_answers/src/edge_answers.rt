@@ -10,8 +10,8 @@ ghost use Rattle.plant_answers.specs.KnownLots.{AreKnown, after_definition, afte
 ghost use Rattle.plant_answers.specs.KnownLots.{after_node_if};
 ghost use Rattle.plant_answers.specs.LotAnswers.{lot_answer};
 ghost use Rattle.plant_answers.specs.Traces.{missing};
-ghost use Rattle.plant_messages.specs.declared.genealogy.NodeAnswer.TheVariants as node;
-ghost use Rattle.plant_messages.specs.declared.question.Answer.TheVariants as A;
+ghost use Rattle.plant_questions.specs.declared.genealogy.NodeAnswer.TheVariants as node;
+ghost use Rattle.plant_questions.specs.declared.question.Answer.TheVariants as A;
 
 use crate::around::nodes_around;
 use crate::booked::edges_between;
@@ -19,10 +19,9 @@ use crate::each_told::{RowOf, each_row};
 use crate::known_lots::{KnownLots, known_definition, known_lot, known_row};
 use crate::traces::missing;
 use plant_base::{Definition, Items, Lot};
-use plant_messages::{Answer, Genealogy, LotAnswer, LotNode, NodeAnswer};
+use plant_questions::{Answer, Genealogy, LotAnswer, LotNode, NodeAnswer, Worklists};
 use plant_trace::{Direction, Node};
 use plant_view::{ViewFault, lookup};
-use plant_worklists::Worklists;
 use std::alloc::Global;
 
 /// The genealogy around a lot or batch, back or forward.

@@ -9,11 +9,10 @@ ghost use Rattle.plant_answers.specs.LotAnswers.{lot_answer};
 
 use crate::lot_answers::answer_of_lot;
 use plant_base::{Definition, Hold, Id, Lot, Sublot};
-use plant_messages::LotAnswer;
-use plant_view::{ViewFault, lookup};
-use plant_worklists::{
-    ReadAhead, Worklists, prefetched_is_held, prefetched_lot, prefetched_sublots,
+use plant_questions::{
+    LotAnswer, ReadAhead, Worklists, prefetched_is_held, prefetched_lot, prefetched_sublots,
 };
+use plant_view::{ViewFault, lookup};
 use std::alloc::Global;
 
 /// What was read ahead of the lots that are asked for, and the definition that was looked up last. Holds are few: whether there

@@ -8,9 +8,8 @@ use crate::commands::command_page;
 use crate::open_batches::batch_page;
 use crate::stocked_lots::lot_page;
 use plant_base::Refusal;
-use plant_messages::{Answer, Listed};
+use plant_questions::{Answer, ListQuestion, Listed, Worklists, all_holds};
 use plant_view::{View, ViewFault, lookup};
-use plant_worklists::{ListQuestion, Worklists, all_holds};
 use std::alloc::Global;
 
 /// The page that is asked for, or the refusal where what the list is of isn't there.

@@ -7,7 +7,7 @@ ghost use Rattle.plant_view.specs.DecisionInvariant.{DecisionInvariant};
 ghost use Rattle.plant_answers.specs.LotAnswers.{answer_lot, lot_answer};
 
 use plant_base::{Id, Items, Lot, Refusal, Sublot};
-use plant_messages::{Answer, LotAnswer};
+use plant_questions::{Answer, LotAnswer};
 use plant_view::{View, ViewFault, lookup};
 
 /// What is known of a lot.

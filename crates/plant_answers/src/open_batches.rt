@@ -2,13 +2,12 @@
 ghost use Rattle.std.specs.Prelude.{◌≡◌, IfOk, map};
 ghost use Rattle.std.specs.List.{filter_map};
 ghost use Rattle.plant_trace.specs.ReadOnly.{ReadOnly};
-ghost use Rattle.plant_worklists.specs.{page_of, batches_in};
+ghost use Rattle.plant_questions.specs.{page_of, batches_in};
 ghost use Rattle.plant_answers.specs.ListAnswers.{batch_page, open_batch, opened, phase_of};
 
 use plant_base::{BatchRow, ControlLine, Id, Items, RecipeLine};
-use plant_messages::OpenBatch;
+use plant_questions::{OpenBatch, Page, Worklists};
 use plant_view::{View, ViewFault, lookup};
-use plant_worklists::{Page, Worklists};
 use std::alloc::{AllocError, Global};
 
 /// A page of the batches that are closed, or of those that aren't, each with the phase that is next.

@@ -6,7 +6,7 @@ ghost use Rattle.plant_view.specs.{edges_of};
 ghost use Rattle.plant_answers.specs.RecallAnswers.{answer_recall, nodes_of, reached_list};
 
 use plant_base::{Id, Items, Recall, Refusal};
-use plant_messages::{Answer, RecallAnswer};
+use plant_questions::{Answer, RecallAnswer};
 use plant_trace::{Node, reached};
 use plant_view::{View, ViewFault, lookup};
 use std::alloc::Global;

@@ -7,7 +7,7 @@ ghost use Rattle.plant_answers.specs.RecipeAnswers.{recipe_answer, recipe_line};
 
 use crate::batch_answers::{material_of, unit_among};
 use plant_base::{Definition, Id, Items, MasterLine, Recipe, Refusal};
-use plant_messages::{Answer, RecipeAnswer, RecipeLineAnswer};
+use plant_questions::{Answer, RecipeAnswer, RecipeLineAnswer};
 use plant_view::{View, ViewFault, lookup};
 use std::alloc::Global;
 

@@ -12,10 +12,9 @@ use crate::each_told::{RowOf, each_row};
 use crate::known_lots::{KnownLots, known_row};
 use crate::traces::missing;
 use plant_base::{Items, Lot};
-use plant_messages::{Answer, StandingLot};
+use plant_questions::{Answer, StandingLot, Worklists};
 use plant_trace::{Direction, Node};
 use plant_view::ViewFault;
-use plant_worklists::Worklists;
 use std::alloc::Global;
 
 /// The lots that have stock, of a lot or batch and all that it leads to.

@@ -3,16 +3,15 @@ ghost use Rattle.std.specs.Prelude.{◌≡◌, ◌-◌, IfOk, length, option_map
 ghost use Rattle.plant_trace.specs.ReadOnly.{ReadOnly};
 ghost use Rattle.plant_view.specs.DecisionInvariant.{DecisionInvariant};
 ghost use Rattle.plant_view.specs.{is_blocked};
-ghost use Rattle.plant_worklists.specs.{page_of, lots_of};
+ghost use Rattle.plant_questions.specs.{page_of, lots_of};
 ghost use Rattle.plant_answers.specs.KnownLots.{after_stocked};
 ghost use Rattle.plant_answers.specs.ListAnswers.{lot_page, if_stocked, stocked_lot};
 
 use crate::each_told::{RowOf, each_row};
 use crate::known_lots::{KnownLots, known_lot};
 use plant_base::{Id, Items, Lot};
-use plant_messages::{LotAnswer, LotPage, StandingLot};
+use plant_questions::{LotAnswer, LotPage, StandingLot, Worklists};
 use plant_view::{View, ViewFault, lookup};
-use plant_worklists::Worklists;
 use std::alloc::Global;
 
 /// A page of the lots of a definition: those of the page that have stock.

@@ -5,7 +5,7 @@ ghost use Rattle.plant_view.specs.{refuse};
 ghost use Rattle.plant_answers.specs.Traces.{trace_of, missing, answer_trace};
 
 use plant_base::{Items, Refusal};
-use plant_messages::Answer;
+use plant_questions::Answer;
 use plant_trace::{Direction, Node, closure};
 use plant_view::{View, ViewFault, lookup};
 use std::alloc::Global;

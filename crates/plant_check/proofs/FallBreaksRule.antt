@@ -2,7 +2,7 @@
 use Rattle.std.proofs.Common.{◌≡◌, ℕ, Bool, true, false, List, [], ◌∷◌, ◌++◌, map, Option, Some, None, IfSome, refl, sym, arith, subst, append_assoc, ◌&&◌}
 use Rattle.std.proofs.lemmas.Bool.Decides.{nat_tests}
 use Rattle.std.specs.List.{list_all}
-use Rattle.plant_check_stock.specs.{is_no_later, never_fall}
+use Rattle.plant_requirements.specs.{is_no_later, never_fall}
 use Rattle.plant_check.specs.{fault_unless, or_fault, RowFault, fall_fault_in}
 
 abbrev Mark : Type 0

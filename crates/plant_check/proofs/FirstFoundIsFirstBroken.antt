@@ -1,6 +1,6 @@
 -- The first rule that is found is the first that is broken.
 use Rattle.std.proofs.Common.{◌≡◌, ◌∙◌, Bool, true, false, cond, List, [], ◌∷◌, Some, refl, ap, sym, not, filter, find, if◌then◌else◌}
-use Rattle.plant_tables_read.specs.{rows_from, rows_listed}
+use Rattle.plant_tables.specs.{rows_from, rows_listed}
 use Rattle.plant_check_rules.specs.{obeys, tested_rules, broken_rows, first_broken, first_broken_of, Rule}
 use Rattle.plant_check_rules.specs.declared.rule.Rule.TheVariants as rule
 use Rattle.plant_check.specs.{head, IsFirstFound}

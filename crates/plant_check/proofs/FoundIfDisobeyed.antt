@@ -8,9 +8,9 @@ use Rattle.plant_recipe.specs.declared.progress.Progress.{Progress}
 use Rattle.plant_stock.specs.{goes_to, comes_from}
 use Rattle.plant_view.specs.{batch_by, is_defined, is_known, rows_among, lines_among, phases_among, events_among}
 use Rattle.plant_tables_columns.specs.{movement_from, BookedRow}
-use Rattle.plant_tables_read.specs.{Rows}
-use Rattle.plant_check_plans.specs.{is_row_among, is_run, kept_progress, has_right_run, are_numbered, is_recipe_among, is_whole_recipe}
-use Rattle.plant_check_stock.specs.{are_by, are_lines, are_numbers, has_right_number, is_apart, is_entered_before, is_given, is_next_line, is_there, is_batch_there, is_of_right_definition, is_of_right_merge, names_known, is_right_movement}
+use Rattle.plant_tables.specs.{Rows}
+use Rattle.plant_requirements.specs.{is_row_among, is_run, kept_progress, has_right_run, are_numbered, is_recipe_among, is_whole_recipe}
+use Rattle.plant_requirements.specs.{are_by, are_lines, are_numbers, has_right_number, is_apart, is_entered_before, is_given, is_next_line, is_there, is_batch_there, is_of_right_definition, is_of_right_merge, names_known, is_right_movement}
 use Rattle.plant_check_rules.specs.{movements_in, obeys, has_right_stock, are_from_zero, sublots_among, is_lot_among, is_born, is_right_lot, is_right_sublot, Rule}
 use Rattle.plant_check_rules.specs.declared.rule.Rule.TheVariants as rule
 use Rattle.plant_check.specs.{run_found, run_fault, row_fault, is_broken_by_row, IsFoundByRow, IsFoundWhereBroken, Finding, RowFault, lot_fault, sublot_fault, naming_fault, movement_fault, line_fault, recipe_fault, stock_fault, line_fault_in, number_fault, number_fault_in, late_fault_in}

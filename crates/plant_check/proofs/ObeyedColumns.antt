@@ -14,8 +14,8 @@ use Rattle.plant_tables_columns.proofs.LineLaws.{line_lawful}
 use Rattle.plant_tables_columns.proofs.OptionalValues.{bound, mapped, where_true}
 use Rattle.plant_tables_columns.proofs.TableLaws.{event_lawful}
 use Rattle.plant_check.specs.{rules_of, obeys, allows_text, bad_value, first_bad_value, AreUnreadIfBad, Column, ValueRule}
-use Rattle.plant_faults.specs.declared.fault.Table.TheVariants as table
-use Rattle.plant_faults.specs.declared.value_rule.ValueRule.TheVariants as rule
+use Rattle.plant_requirements.specs.declared.fault.Table.TheVariants as table
+use Rattle.plant_requirements.specs.declared.value_rule.ValueRule.TheVariants as rule
 use Rattle.plant_check.specs.declared.values.BadValue.{BadValue}
 use Rattle.plant_check.proofs.ObeyedValues.{IsObeyed, id_obeyed, text_obeyed, unit_obeyed, due_obeyed, content_obeyed, id_or_null_obeyed, text_or_null_obeyed, number_obeyed, line_number_obeyed, amount_is_quantity, up_to, sublot_or_null_obeyed, moment_or_null_obeyed, flag_obeyed, recipe_state_obeyed, job_state_obeyed, batch_state_obeyed, recall_state_obeyed, movement_kind_obeyed, edge_kind_obeyed, mark_kind_obeyed, id_is_text}
 

@@ -19,7 +19,7 @@ use Rattle.plant_tables_columns.proofs.OptionalValues.{bound}
 use Rattle.plant_tables_columns.proofs.TableLaws.{recipe_state_kind, job_state_kind, edge_kind_kind, mark_kind_kind}
 use Rattle.plant_tables_columns.proofs.WordsAndNumbers.{named_kind, numbered_kind, batch_state_own, recall_state_own, movement_kind_own}
 use Rattle.plant_check.specs.{allows_null, obeys, ValueRule}
-use Rattle.plant_faults.specs.declared.value_rule.ValueRule.TheVariants as rule
+use Rattle.plant_requirements.specs.declared.value_rule.ValueRule.TheVariants as rule
 
 -- a value of the kind that is read obeys the rule
 pub record IsObeyed {A : Type 0} (kind : Kind A) (r : ValueRule) : Type 0 where

@@ -2,11 +2,11 @@
 use Rattle.std.specs.Prelude.{List, [], ◌∷◌}
 use Rattle.plant_base.specs.{greatest_amount, greatest_moment, greatest_phase, greatest_priority, greatest_seq, greatest_sublot, greatest_version}
 use Rattle.plant_recipe.specs.{greatest_attempt}
-use Rattle.plant_faults.specs.declared.value_rule.ValueRule.{ValueRule}
-use Rattle.plant_faults.specs.{Column, Table}
-use Rattle.plant_faults.specs.declared.fault.Column.TheVariants as column
-use Rattle.plant_faults.specs.declared.fault.Table.TheVariants as table
-use Rattle.plant_faults.specs.declared.value_rule.ValueRule.TheVariants as rule
+use Rattle.plant_requirements.specs.declared.value_rule.ValueRule.{ValueRule}
+use Rattle.plant_requirements.specs.{Column, Table}
+use Rattle.plant_requirements.specs.declared.fault.Column.TheVariants as column
+use Rattle.plant_requirements.specs.declared.fault.Table.TheVariants as table
+use Rattle.plant_requirements.specs.declared.value_rule.ValueRule.TheVariants as rule
 
 abbrev pub version : ValueRule
 version = rule.Number 1 greatest_version

@@ -4,11 +4,11 @@ use Rattle.std.specs.List.{list_any}
 use Rattle.std.specs.Ordering.{is_eq}
 use Rattle.plant_base.specs.{edge_order, EdgeRow, Movement}
 use Rattle.plant_view.specs.{edge_row_of, edges_in}
-use Rattle.plant_faults.specs.{edge_key}
-use Rattle.plant_faults.specs.{as_a_whole, fault_unless, or_fault, first_reported, RowFault}
-use Rattle.plant_faults.specs.declared.fault.Table.TheVariants as table
-use Rattle.plant_faults.specs.declared.fault.Found.TheVariants as found
-use Rattle.plant_faults.specs.declared.fault.Wanted.TheVariants as wanted
+use Rattle.plant_requirements.specs.{edge_key}
+use Rattle.plant_requirements.specs.{as_a_whole, fault_unless, or_fault, first_reported, RowFault}
+use Rattle.plant_requirements.specs.declared.fault.Table.TheVariants as table
+use Rattle.plant_requirements.specs.declared.fault.Found.TheVariants as found
+use Rattle.plant_requirements.specs.declared.fault.Wanted.TheVariants as wanted
 
 abbrev pub is_edge_among : List EdgeRow → EdgeRow → Bool
 is_edge_among edges e = list_any (λ d. is_eq (edge_order d e)) edges

@@ -5,13 +5,13 @@ use Rattle.plant_recipe.specs.contracts.progress.ProgressPartialEq.TheImpl.{ghos
 use Rattle.plant_recipe.specs.declared.progress.Progress.{Progress}
 use Rattle.plant_recipe.specs.{run_of}
 use Rattle.plant_view.specs.{phases_among, events_among}
-use Rattle.plant_check_plans.specs.{is_row_among, kept_progress}
-use Rattle.plant_faults.specs.{id_key, number_key}
-use Rattle.plant_faults.specs.{Column, Found, RowFault, Wanted, in_column, names_none, fault_unless, or_fault, first_reported}
-use Rattle.plant_faults.specs.declared.fault.Table.TheVariants as table
-use Rattle.plant_faults.specs.declared.fault.Column.TheVariants as column
-use Rattle.plant_faults.specs.declared.fault.Found.TheVariants as found
-use Rattle.plant_faults.specs.declared.fault.Wanted.TheVariants as wanted
+use Rattle.plant_requirements.specs.{is_row_among, kept_progress}
+use Rattle.plant_requirements.specs.{id_key, number_key}
+use Rattle.plant_requirements.specs.{Column, Found, RowFault, Wanted, in_column, names_none, fault_unless, or_fault, first_reported}
+use Rattle.plant_requirements.specs.declared.fault.Table.TheVariants as table
+use Rattle.plant_requirements.specs.declared.fault.Column.TheVariants as column
+use Rattle.plant_requirements.specs.declared.fault.Found.TheVariants as found
+use Rattle.plant_requirements.specs.declared.fault.Wanted.TheVariants as wanted
 
 -- the fault of the batch: this is in a column, where that is wanted
 abbrev pub batch_as : BatchRow → Column → Found → Wanted → RowFault

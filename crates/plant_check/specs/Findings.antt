@@ -2,12 +2,12 @@
 use Rattle.std.specs.Prelude.{◌≡◌, ℕ, Bool, true, false, not, if◌then◌else◌, List, [], ◌∷◌, codes, filter, Option, Some, None, is_none, is_some}
 use Rattle.plant_base.specs.{Movement, Recall}
 use Rattle.plant_tables_columns.specs.{only_meta}
-use Rattle.plant_tables_read.specs.{contents_loaded, DeskRows, Loaded, Rows, rows_from, rows_listed}
-use Rattle.plant_check_plans.specs.{batch_fault_in, class_fault_in, order_fault_in}
-use Rattle.plant_check_stock.specs.{receipt_fault_in, row_mark_of, row_mark_of_event}
+use Rattle.plant_tables.specs.{contents_loaded, DeskRows, Loaded, Rows, rows_from, rows_listed}
+use Rattle.plant_requirements.specs.{batch_fault_in, class_fault_in, order_fault_in}
+use Rattle.plant_requirements.specs.{receipt_fault_in, row_mark_of, row_mark_of_event}
 use Rattle.plant_check_rules.specs.{movements_in, recalls_read, obeys, tested_rules, first_broken, Rule}
 use Rattle.plant_check_rules.specs.declared.rule.Rule.TheVariants as rule
-use Rattle.plant_faults.specs.{or_fault, RowFault}
+use Rattle.plant_requirements.specs.{or_fault, RowFault}
 use Rattle.plant_check.specs.Edges.{edge_fault_in}
 use Rattle.plant_check.specs.Events.{event_fault_in}
 use Rattle.plant_check.specs.Lots.{lot_fault_in}

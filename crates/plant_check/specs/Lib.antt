@@ -12,7 +12,7 @@ pub mod ColumnRules
 pub mod Stored
 pub mod Values
 pub mod Findings
-pub use Rattle.plant_faults.specs.{column_name, table_name, fault_text, found_text, wanted_text, Column, Found, Key, RowFault, Table, Wanted, ValueRule, fault_unless, first_reported, or_fault}
+pub use Rattle.plant_requirements.specs.{column_name, table_name, fault_text, found_text, wanted_text, Column, Found, Key, RowFault, Table, Wanted, ValueRule, fault_unless, first_reported, or_fault}
 pub use Recipes.{line_fault, recipe_fault}
 pub use Stocks.{stock_fault}
 pub use Lots.{lot_fault, sublot_fault}

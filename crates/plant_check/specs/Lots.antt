@@ -4,11 +4,11 @@ use Rattle.plant_base.specs.{Definition, Hold, Lot, Sublot}
 use Rattle.plant_view.specs.{is_defined}
 use Rattle.plant_tables_columns.specs.{BookedRow}
 use Rattle.plant_check_rules.specs.{are_from_zero, sublots_among, is_lot_among, is_born}
-use Rattle.plant_faults.specs.{id_key, sublot_key, hold_key}
-use Rattle.plant_faults.specs.{names_none, as_a_whole, fault_unless, or_fault, first_reported, RowFault}
-use Rattle.plant_faults.specs.declared.fault.Table.TheVariants as table
-use Rattle.plant_faults.specs.declared.fault.Column.TheVariants as column
-use Rattle.plant_faults.specs.declared.fault.Wanted.TheVariants as wanted
+use Rattle.plant_requirements.specs.{id_key, sublot_key, hold_key}
+use Rattle.plant_requirements.specs.{names_none, as_a_whole, fault_unless, or_fault, first_reported, RowFault}
+use Rattle.plant_requirements.specs.declared.fault.Table.TheVariants as table
+use Rattle.plant_requirements.specs.declared.fault.Column.TheVariants as column
+use Rattle.plant_requirements.specs.declared.fault.Wanted.TheVariants as wanted
 
 -- the lot, where its definition isn't there, or its sublots aren't numbered from 0 on
 abbrev pub lot_fault : List Definition → List Sublot → Lot → Option RowFault

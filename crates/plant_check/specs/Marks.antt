@@ -4,11 +4,11 @@ use Rattle.std.specs.List.{list_any}
 use Rattle.std.specs.Ordering.{is_eq}
 use Rattle.plant_base.specs.{mark_order, Mark, Movement, Recall}
 use Rattle.plant_view.specs.{edges_among, marks}
-use Rattle.plant_faults.specs.{mark_key}
-use Rattle.plant_faults.specs.{fault_unless, or_fault, first_reported, Found, RowFault, Wanted}
-use Rattle.plant_faults.specs.declared.fault.Table.TheVariants as table
-use Rattle.plant_faults.specs.declared.fault.Found.TheVariants as found
-use Rattle.plant_faults.specs.declared.fault.Wanted.TheVariants as wanted
+use Rattle.plant_requirements.specs.{mark_key}
+use Rattle.plant_requirements.specs.{fault_unless, or_fault, first_reported, Found, RowFault, Wanted}
+use Rattle.plant_requirements.specs.declared.fault.Table.TheVariants as table
+use Rattle.plant_requirements.specs.declared.fault.Found.TheVariants as found
+use Rattle.plant_requirements.specs.declared.fault.Wanted.TheVariants as wanted
 
 abbrev pub is_mark_among : List Mark → Mark → Bool
 is_mark_among among m = list_any (λ d. is_eq (mark_order d m)) among

@@ -4,13 +4,13 @@ use Rattle.plant_base.specs.{BatchRow, ControlLine, Lot, Movement, Sublot}
 use Rattle.plant_stock.specs.{goes_to, comes_from}
 use Rattle.plant_view.specs.{batch_by}
 use Rattle.plant_tables_columns.specs.{movement_from, BookedRow}
-use Rattle.plant_check_stock.specs.{is_there, is_batch_there, is_of_right_definition, is_of_right_merge}
-use Rattle.plant_faults.specs.{booked_key}
-use Rattle.plant_faults.specs.{Column, Found, RowFault, Wanted, in_column, fault_unless, or_fault, first_reported}
-use Rattle.plant_faults.specs.declared.fault.Table.TheVariants as table
-use Rattle.plant_faults.specs.declared.fault.Column.TheVariants as column
-use Rattle.plant_faults.specs.declared.fault.Found.TheVariants as found
-use Rattle.plant_faults.specs.declared.fault.Wanted.TheVariants as wanted
+use Rattle.plant_requirements.specs.{is_there, is_batch_there, is_of_right_definition, is_of_right_merge}
+use Rattle.plant_requirements.specs.{booked_key}
+use Rattle.plant_requirements.specs.{Column, Found, RowFault, Wanted, in_column, fault_unless, or_fault, first_reported}
+use Rattle.plant_requirements.specs.declared.fault.Table.TheVariants as table
+use Rattle.plant_requirements.specs.declared.fault.Column.TheVariants as column
+use Rattle.plant_requirements.specs.declared.fault.Found.TheVariants as found
+use Rattle.plant_requirements.specs.declared.fault.Wanted.TheVariants as wanted
 
 -- the row, where its columns aren't those of its kind
 abbrev pub kind_fault : BookedRow → Option RowFault

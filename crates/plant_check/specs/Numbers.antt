@@ -2,14 +2,14 @@
 use Rattle.std.specs.Prelude.{ℕ, nat_le, List, [], ◌∷◌, Option, Some, None}
 use Rattle.plant_base.specs.{BatchEvent, BatchRow, Hold, Movement}
 use Rattle.plant_stock.specs.{comes_from}
-use Rattle.plant_check_stock.specs.{is_given, is_next_line, is_apart, is_entered_before, is_no_later}
-use Rattle.plant_faults.specs.{booked_key, id_key, number_key, hold_key}
+use Rattle.plant_requirements.specs.{is_given, is_next_line, is_apart, is_entered_before, is_no_later}
+use Rattle.plant_requirements.specs.{booked_key, id_key, number_key, hold_key}
 use Rattle.plant_check.specs.Movements.{movement_as}
-use Rattle.plant_faults.specs.{Column, Found, Key, RowFault, Table, Wanted, in_column, fault_unless, or_fault, first_reported}
-use Rattle.plant_faults.specs.declared.fault.Table.TheVariants as table
-use Rattle.plant_faults.specs.declared.fault.Column.TheVariants as column
-use Rattle.plant_faults.specs.declared.fault.Found.TheVariants as found
-use Rattle.plant_faults.specs.declared.fault.Wanted.TheVariants as wanted
+use Rattle.plant_requirements.specs.{Column, Found, Key, RowFault, Table, Wanted, in_column, fault_unless, or_fault, first_reported}
+use Rattle.plant_requirements.specs.declared.fault.Table.TheVariants as table
+use Rattle.plant_requirements.specs.declared.fault.Column.TheVariants as column
+use Rattle.plant_requirements.specs.declared.fault.Found.TheVariants as found
+use Rattle.plant_requirements.specs.declared.fault.Wanted.TheVariants as wanted
 
 -- ---- numbers
 

@@ -2,13 +2,13 @@
 use Rattle.std.specs.Prelude.{ℕ, List, Option, is_some}
 use Rattle.plant_base.specs.{Lot, Recall}
 use Rattle.plant_tables_columns.specs.{recall_from, StatedRecall}
-use Rattle.plant_check_stock.specs.{lot_among, is_timely}
-use Rattle.plant_faults.specs.{id_key}
-use Rattle.plant_faults.specs.{Column, Found, RowFault, Wanted, in_column, fault_unless, or_fault, first_reported}
-use Rattle.plant_faults.specs.declared.fault.Table.TheVariants as table
-use Rattle.plant_faults.specs.declared.fault.Column.TheVariants as column
-use Rattle.plant_faults.specs.declared.fault.Found.TheVariants as found
-use Rattle.plant_faults.specs.declared.fault.Wanted.TheVariants as wanted
+use Rattle.plant_requirements.specs.{lot_among, is_timely}
+use Rattle.plant_requirements.specs.{id_key}
+use Rattle.plant_requirements.specs.{Column, Found, RowFault, Wanted, in_column, fault_unless, or_fault, first_reported}
+use Rattle.plant_requirements.specs.declared.fault.Table.TheVariants as table
+use Rattle.plant_requirements.specs.declared.fault.Column.TheVariants as column
+use Rattle.plant_requirements.specs.declared.fault.Found.TheVariants as found
+use Rattle.plant_requirements.specs.declared.fault.Wanted.TheVariants as wanted
 
 -- the fault of the recall: this is in a column, where that is wanted
 abbrev pub recall_as : List ℕ → Column → Found → Wanted → RowFault

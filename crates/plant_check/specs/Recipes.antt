@@ -4,13 +4,13 @@ use Rattle.plant_base.specs.{Definition, Header, MasterLine, Recipe, RecipeLine}
 use Rattle.plant_base.specs.declared.rows.RecipeLine.TheVariants as line
 use Rattle.plant_recipe.specs.{is_well_formed}
 use Rattle.plant_view.specs.{is_defined, is_known, rows_among, lines_among}
-use Rattle.plant_check_plans.specs.{are_numbered, is_recipe_among}
-use Rattle.plant_faults.specs.{recipe_key, recipe_line_key}
-use Rattle.plant_faults.specs.{Found, RowFault, in_column, names_none, as_a_whole, fault_unless, or_fault, first_reported}
-use Rattle.plant_faults.specs.declared.fault.Table.TheVariants as table
-use Rattle.plant_faults.specs.declared.fault.Column.TheVariants as column
-use Rattle.plant_faults.specs.declared.fault.Found.TheVariants as found
-use Rattle.plant_faults.specs.declared.fault.Wanted.TheVariants as wanted
+use Rattle.plant_requirements.specs.{are_numbered, is_recipe_among}
+use Rattle.plant_requirements.specs.{recipe_key, recipe_line_key}
+use Rattle.plant_requirements.specs.{Found, RowFault, in_column, names_none, as_a_whole, fault_unless, or_fault, first_reported}
+use Rattle.plant_requirements.specs.declared.fault.Table.TheVariants as table
+use Rattle.plant_requirements.specs.declared.fault.Column.TheVariants as column
+use Rattle.plant_requirements.specs.declared.fault.Found.TheVariants as found
+use Rattle.plant_requirements.specs.declared.fault.Wanted.TheVariants as wanted
 
 -- the definition that a line names, where it names one
 abbrev pub definition_found : RecipeLine → Found

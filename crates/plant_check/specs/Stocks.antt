@@ -3,12 +3,12 @@ use Rattle.std.specs.Prelude.{ℕ, ◌+◌, ◌==◌, List, Option}
 use Rattle.plant_base.specs.{Sublot}
 use Rattle.plant_tables_columns.specs.{BookedRow}
 use Rattle.plant_check_rules.specs.{entries, exits, total_booked}
-use Rattle.plant_faults.specs.{in_column, fault_unless, first_reported, RowFault}
-use Rattle.plant_faults.specs.{sublot_key}
-use Rattle.plant_faults.specs.declared.fault.Table.TheVariants as table
-use Rattle.plant_faults.specs.declared.fault.Column.TheVariants as column
-use Rattle.plant_faults.specs.declared.fault.Found.TheVariants as found
-use Rattle.plant_faults.specs.declared.fault.Wanted.TheVariants as wanted
+use Rattle.plant_requirements.specs.{in_column, fault_unless, first_reported, RowFault}
+use Rattle.plant_requirements.specs.{sublot_key}
+use Rattle.plant_requirements.specs.declared.fault.Table.TheVariants as table
+use Rattle.plant_requirements.specs.declared.fault.Column.TheVariants as column
+use Rattle.plant_requirements.specs.declared.fault.Found.TheVariants as found
+use Rattle.plant_requirements.specs.declared.fault.Wanted.TheVariants as wanted
 
 -- the sublot, where its stock isn't what entered less what left
 abbrev pub stock_found : ℕ → ℕ → Sublot → Option RowFault

@@ -5,10 +5,10 @@ use Rattle.sqlite.specs.declared.types.Value.TheVariants as value
 use Rattle.sqlite.specs.Order.{Row, column}
 use Rattle.plant_base.specs.{◌>>=◌, is_text}
 use Rattle.plant_tables_columns.specs.{greatest_number, id_from, number_from}
-use Rattle.plant_faults.specs.{Found, Key, Table}
-use Rattle.plant_faults.specs.declared.fault.Found.TheVariants as found
-use Rattle.plant_faults.specs.declared.fault.Key.TheVariants as key
-use Rattle.plant_faults.specs.declared.fault.Table.TheVariants as table
+use Rattle.plant_requirements.specs.{Found, Key, Table}
+use Rattle.plant_requirements.specs.declared.fault.Found.TheVariants as found
+use Rattle.plant_requirements.specs.declared.fault.Key.TheVariants as key
+use Rattle.plant_requirements.specs.declared.fault.Table.TheVariants as table
 
 -- a text of the desk as it is, and of any other its kind
 abbrev pub found_text : List ℕ → Found

@@ -5,8 +5,8 @@ use Rattle.sqlite.specs.declared.types.Value.{Value}
 use Rattle.sqlite.specs.declared.types.Value.TheVariants as value
 use Rattle.plant_base.specs.{is_due, same, is_id, is_text, is_unit, recipe_state_name, job_state_name, batch_state_name, word_name}
 use Rattle.plant_tables_columns.specs.{all_recipe_states, all_job_states, all_batch_states, all_recall_states, all_words, recall_state_name, is_in, is_no_text}
-use Rattle.plant_faults.specs.declared.value_rule.ValueRule.{ValueRule}
-use Rattle.plant_faults.specs.declared.value_rule.ValueRule.TheVariants as rule
+use Rattle.plant_requirements.specs.declared.value_rule.ValueRule.{ValueRule}
+use Rattle.plant_requirements.specs.declared.value_rule.ValueRule.TheVariants as rule
 
 abbrev pub allows_null : ValueRule → Bool
 allows_null rule.IdOrNull = true

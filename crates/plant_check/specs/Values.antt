@@ -2,15 +2,15 @@
 use Rattle.std.specs.Prelude.{◌≡◌, ℕ, ◌+◌, Bool, false, List, [], ◌∷◌, Option, Some, None, is_some, if◌then◌else◌}
 use Rattle.sqlite.specs.Order.{Row, column}
 use Rattle.plant_tables_columns.specs.{class_from, definition_from, recipe_from, master_line_from, job_from, batch_from, control_line_from, batch_event_from, lot_from, sublot_from, booked_from, hold_from, edge_from, receipt_from, stated_from, mark_from}
-use Rattle.plant_tables_read.specs.{contents_loaded, Loaded}
-use Rattle.plant_faults.specs.{as_a_whole, in_column, or_fault, Column, Key, RowFault, Table}
+use Rattle.plant_tables.specs.{contents_loaded, Loaded}
+use Rattle.plant_requirements.specs.{as_a_whole, in_column, or_fault, Column, Key, RowFault, Table}
 use Rattle.plant_check.specs.ColumnRules.{rules_of}
 use Rattle.plant_check.specs.Stored.{found_in, key_or_place}
 use Rattle.plant_check.specs.ValueRules.{obeys}
 use Rattle.plant_check.specs.declared.values.BadValue.{BadValue}
-use Rattle.plant_faults.specs.declared.value_rule.ValueRule.{ValueRule}
-use Rattle.plant_faults.specs.declared.fault.Table.TheVariants as table
-use Rattle.plant_faults.specs.declared.fault.Wanted.TheVariants as wanted
+use Rattle.plant_requirements.specs.declared.value_rule.ValueRule.{ValueRule}
+use Rattle.plant_requirements.specs.declared.fault.Table.TheVariants as table
+use Rattle.plant_requirements.specs.declared.fault.Wanted.TheVariants as wanted
 
 -- the value of the column of this index, which breaks the rule of the column
 abbrev pub bad_value : Column × ValueRule → Row → ℕ → BadValue

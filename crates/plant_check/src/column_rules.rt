@@ -6,8 +6,8 @@ use plant_base::{
     GREATEST_AMOUNT, GREATEST_MOMENT, GREATEST_PHASE, GREATEST_PRIORITY, GREATEST_SEQ,
     GREATEST_SUBLOT, GREATEST_VERSION,
 };
-use plant_faults::{Column, Table, ValueRule};
 use plant_recipe::GREATEST_ATTEMPT;
+use plant_requirements::{Column, Table, ValueRule};
 
 const VERSION: ValueRule = ValueRule::Number(1, GREATEST_VERSION as u64);
 

@@ -3,16 +3,16 @@ ghost use Rattle.std.specs.Prelude.{◌≡◌, IfOk, Option};
 ghost use Rattle.plant_check_rules.specs.{movements_in};
 ghost use Rattle.plant_check.specs.Edges.{edge_fault_in, is_edge_among, missing_edge};
 ghost use Rattle.plant_check.specs.Edges.{missing_edge_fault, stray_edge_fault};
-ghost use Rattle.plant_faults.specs.{first_reported};
+ghost use Rattle.plant_requirements.specs.{first_reported};
 
 use grouped_rows::{Grouped, Grouping};
 use plant_base::{EdgeRow, Movement};
 use plant_check_rules::edges::edges_in;
 use plant_check_rules::history::movements_in;
-use plant_faults::first::{RowRule, as_a_whole, fault_unless, first_fault, or_fault};
-use plant_faults::keys::edge_key;
-use plant_faults::{Found, RowFault, Table, Wanted};
-use plant_tables_read::DeskRows;
+use plant_requirements::first::{RowRule, as_a_whole, fault_unless, first_fault, or_fault};
+use plant_requirements::keys::edge_key;
+use plant_requirements::{Found, RowFault, Table, Wanted};
+use plant_tables::DeskRows;
 use plant_view::edge_row;
 use std::alloc::{AllocError, Global};
 

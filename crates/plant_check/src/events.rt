@@ -3,17 +3,17 @@ ghost use Rattle.std.specs.Prelude.{◌≡◌, IfOk, Result};
 ghost use Rattle.plant_check.specs.Events.{batch_as, closed_number, differ, event_fault};
 ghost use Rattle.plant_check.specs.Events.{event_fault_in, number_as, progress_fault};
 ghost use Rattle.plant_check.specs.Events.{run_fault, run_found};
-ghost use Rattle.plant_faults.specs.{first_reported};
+ghost use Rattle.plant_requirements.specs.{first_reported};
 
 use grouped_rows::Grouped;
 use plant_base::{BatchEvent, BatchRow, Refusal};
-use plant_check_plans::events::{events_in, kept_progress, phases_of};
-use plant_check_plans::keys::{Batches, ControlLines, Events, events_of, has_batch};
-use plant_faults::first::{RowRule, first_fault, in_column, names_none};
-use plant_faults::keys::{id_key, number_key};
-use plant_faults::{Column, Found, RowFault, Table, Wanted};
 use plant_recipe::Progress;
-use plant_tables_read::DeskRows;
+use plant_requirements::events::{events_in, kept_progress, phases_of};
+use plant_requirements::first::{RowRule, first_fault, in_column, names_none};
+use plant_requirements::keys::{id_key, number_key};
+use plant_requirements::plan_keys::{Batches, ControlLines, Events, events_of, has_batch};
+use plant_requirements::{Column, Found, RowFault, Table, Wanted};
+use plant_tables::DeskRows;
 use std::alloc::{AllocError, Global};
 
 /// The fault of the batch: this is in a column, where that is wanted.

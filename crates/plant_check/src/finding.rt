@@ -1,6 +1,6 @@
 //! The broken rules, each with the first row that breaks it.
 ghost use Rattle.std.specs.Prelude.{◌≡◌, IfOk, true, not, filter, find};
-ghost use Rattle.plant_tables_read.specs.{rows_listed};
+ghost use Rattle.plant_tables.specs.{rows_listed};
 ghost use Rattle.plant_check_rules.specs.{first_broken, first_broken_of, obeys, tested_rules};
 ghost use Rattle.plant_check.specs.Values.{AreUnreadIfBad};
 ghost use Rattle.plant_check.specs.Findings as spec;
@@ -16,14 +16,14 @@ use crate::recalls::recall_fault;
 use crate::recipes::recipe_fault;
 use crate::stocks::stock_fault;
 use crate::values::value_fault_in;
-use plant_check_plans::batches::batch_fault_in;
-use plant_check_plans::catalogue::class_fault_in;
-use plant_check_plans::orders::order_fault_in;
 use plant_check_rules::Rule;
 use plant_check_rules::checking::{are_edges_of, are_right_recalls};
-use plant_check_stock::receipts::receipt_fault_in;
-use plant_faults::RowFault;
-use plant_tables_read::{DeskRows, Loaded, has_meta, rows_of};
+use plant_requirements::RowFault;
+use plant_requirements::batches::batch_fault_in;
+use plant_requirements::catalogue::class_fault_in;
+use plant_requirements::orders::order_fault_in;
+use plant_requirements::receipts::receipt_fault_in;
+use plant_tables::{DeskRows, Loaded, has_meta, rows_of};
 use std::alloc::{AllocError, Global};
 
 /// A rule that is broken.
@@ -88,7 +88,7 @@ fn tested_rules() -> [Rule; 12]
 }
 
 /// The first row that breaks the rule, where one is known.
-#[tactic(auto, unfolding(plant_tables_read::specs::Collecting::rows_listed))]
+#[tactic(auto, unfolding(plant_tables::specs::Collecting::rows_listed))]
 fn row_fault(alloc: Global, rule: Rule, rows: &DeskRows) -> Result<Option<RowFault>, AllocError>
     ensures { IfOk result (λ reported. reported ≡ spec.row_fault rule (rows_listed rows.now)) }
 {
@@ -139,7 +139,7 @@ fn passes_by_row(alloc: Global, rule: Rule, rows: &DeskRows) -> Result<bool, All
 
 /// Whether the rows obey the rule. Where a row breaks it in any case, they obey it where none is found; the others are tested apart.
 /// The only error is that memory was refused.
-#[tactic(auto, unfolding(plant_tables_read::specs::Collecting::rows_listed))]
+#[tactic(auto, unfolding(plant_tables::specs::Collecting::rows_listed))]
 fn obeys(alloc: Global, rule: Rule, rows: &DeskRows) -> Result<bool, AllocError>
     ensures { IfOk result (λ b. b ≡ obeys rule (rows_listed rows.now)) }
 {

@@ -20,4 +20,4 @@ pub use finding::{
     Finding, Findings, Tested, check, check_rows, findings_law, rule_text, test_loaded, test_rows,
 };
 pub use plant_check_rules::Rule;
-pub use plant_faults::{Column, Found, Key, RowFault, Table, ValueRule, Wanted};
+pub use plant_requirements::{Column, Found, Key, RowFault, Table, ValueRule, Wanted};

@@ -1,18 +1,18 @@
 //! Lots, sublots and holds that break a rule.
 ghost use Rattle.std.specs.Prelude.{◌≡◌, IfOk};
 ghost use Rattle.plant_check.specs.Lots.{hold_fault, lot_fault, lot_fault_in, sublot_fault};
-ghost use Rattle.plant_faults.specs.{first_reported};
+ghost use Rattle.plant_requirements.specs.{first_reported};
 
 use grouped_rows::Grouped;
 use plant_base::{Hold, Lot, Sublot};
-use plant_check_plans::keys::{Definitions, has_definition};
 use plant_check_rules::ends::BySublotEntered;
 use plant_check_rules::lots::{SublotsOfLots, are_from_zero, has_lot, is_born, sublots_of};
-use plant_check_stock::keys::Lots;
-use plant_faults::first::{RowRule, as_a_whole, first_fault, names_none, or_fault};
-use plant_faults::keys::{hold_key, id_key, sublot_key};
-use plant_faults::{Column, RowFault, Table, Wanted};
-use plant_tables_read::DeskRows;
+use plant_requirements::first::{RowRule, as_a_whole, first_fault, names_none, or_fault};
+use plant_requirements::keys::{hold_key, id_key, sublot_key};
+use plant_requirements::plan_keys::{Definitions, has_definition};
+use plant_requirements::stock_keys::Lots;
+use plant_requirements::{Column, RowFault, Table, Wanted};
+use plant_tables::DeskRows;
 use std::alloc::{AllocError, Global};
 
 /// That a lot's definition is there, and its sublots are numbered from 0 on.

@@ -1,16 +1,15 @@
 //! Marks of what no open recall reaches, and marks that are missing.
 ghost use Rattle.std.specs.Prelude.{◌≡◌, IfOk};
 ghost use Rattle.plant_view.specs.{edges_among, marks};
-ghost use Rattle.plant_faults.specs.{first_reported};
+ghost use Rattle.plant_requirements.specs.{first_reported};
 ghost use Rattle.plant_check.specs.Marks.{is_mark_among, mark_fault, mark_fault_among};
 ghost use Rattle.plant_check.specs.Marks.{mark_fault_in};
 
 use grouped_rows::{Grouped, Grouping};
 use plant_base::{Mark, Movement, Recall};
-use plant_check_stock::marks_within;
-use plant_faults::first::{RowRule, fault_unless, first_fault, or_fault};
-use plant_faults::keys::mark_key;
-use plant_faults::{Found, RowFault, Table, Wanted};
+use plant_requirements::first::{RowRule, fault_unless, first_fault, or_fault};
+use plant_requirements::keys::mark_key;
+use plant_requirements::{Found, RowFault, Table, Wanted, marks_within};
 use plant_view::edges;
 use std::alloc::{AllocError, Global};
 

@@ -3,18 +3,18 @@ ghost use Rattle.std.specs.Prelude.{◌≡◌, IfOk};
 ghost use Rattle.plant_check.specs.Movements.{id_found, movement_as, movement_fault};
 ghost use Rattle.plant_check.specs.Movements.{movement_fault_in, naming_fault};
 ghost use Rattle.plant_check_rules.specs.{movements_in};
-ghost use Rattle.plant_faults.specs.{first_reported};
+ghost use Rattle.plant_requirements.specs.{first_reported};
 
 use grouped_rows::Grouped;
 use plant_base::{BatchRow, ControlLine, Id, Lot, Movement, Sublot};
 use plant_check_rules::history::movements_in;
-use plant_check_stock::keys::{Parts, is_there};
-use plant_check_stock::movements::{Named, batch_by, is_of_right_merge};
-use plant_faults::first::{RowRule, first_fault, in_column};
-use plant_faults::keys::booked_key;
-use plant_faults::{Column, Found, RowFault, Table, Wanted};
+use plant_requirements::first::{RowRule, first_fault, in_column};
+use plant_requirements::keys::booked_key;
+use plant_requirements::movements::{Named, batch_by, is_of_right_merge};
+use plant_requirements::stock_keys::{Parts, is_there};
+use plant_requirements::{Column, Found, RowFault, Table, Wanted};
 use plant_stock::{source, target};
-use plant_tables_read::{BookedRow, DeskRows};
+use plant_tables::{BookedRow, DeskRows};
 use std::alloc::{AllocError, Global};
 
 /// That the columns of a row are those of its kind.

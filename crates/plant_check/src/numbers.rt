@@ -1,12 +1,12 @@
 //! Movements, events, batches and holds whose number or moment breaks a rule.
 ghost use Rattle.std.specs.Prelude.{◌≡◌, ℕ, ◌++◌, List, false, IfOk, IfSome, None, map};
-ghost use Rattle.plant_check_stock.specs.{are_by, are_numbers, is_no_later, never_fall};
-ghost use Rattle.plant_faults.specs.{first_reported};
+ghost use Rattle.plant_requirements.specs.{are_by, are_numbers, is_no_later, never_fall};
+ghost use Rattle.plant_requirements.specs.{first_reported};
 ghost use Rattle.plant_check.specs.Numbers.{event_as, fall_fault_in, late_fault_in};
 ghost use Rattle.plant_check.specs.Numbers.{line_fault, line_fault_in, moment_fault};
 ghost use Rattle.plant_check.specs.Numbers.{number_as, number_fault, number_fault_in};
 ghost use Rattle.plant_check.specs.Findings.{numbered_fault_in};
-ghost use Rattle.plant_tables_read.specs.{rows_listed};
+ghost use Rattle.plant_tables.specs.{rows_listed};
 ghost use Rattle.plant_check_rules.specs.{movements_in, obeys};
 ghost use Rattle.plant_check_rules.specs.declared.rule.Rule.TheVariants as rule;
 
@@ -14,14 +14,13 @@ use crate::movements::movement_as;
 use grouped_rows::Grouped;
 use plant_base::{BatchEvent, BatchRow, Hold, Moment, Movement};
 use plant_check_rules::history::movements_in;
-use plant_check_stock::keys::{EnteredSublots, EventNumbers, has_event};
-use plant_check_stock::moments_never_fall;
-use plant_check_stock::numbering::{is_entered_before, is_given, is_next_line};
-use plant_faults::first::{RowRule, fault_unless, first_fault, in_column, or_fault};
-use plant_faults::keys::{booked_key, hold_key, id_key, number_key};
-use plant_faults::{Column, Found, Key, RowFault, Table, Wanted};
+use plant_requirements::first::{RowRule, fault_unless, first_fault, in_column, or_fault};
+use plant_requirements::keys::{booked_key, hold_key, id_key, number_key};
+use plant_requirements::numbering::{is_entered_before, is_given, is_next_line};
+use plant_requirements::stock_keys::{EnteredSublots, EventNumbers, has_event};
+use plant_requirements::{Column, Found, Key, RowFault, Table, Wanted, moments_never_fall};
 use plant_stock::source;
-use plant_tables_read::DeskRows;
+use plant_tables::DeskRows;
 use std::alloc::{AllocError, Global};
 
 /// The movement, where it isn't the line that follows the one before it.
@@ -243,7 +242,7 @@ fn is_no_later(before: (u64, u64), row: (u64, u64)) -> bool
 /// A row with a number and a moment.
 trait Marked {
     ghost use Rattle.std.specs.Prelude.{◌≡◌, ℕ};
-    ghost use Rattle.plant_faults.specs.{RowFault as Reported};
+    ghost use Rattle.plant_requirements.specs.{RowFault as Reported};
 
     /// Its number and its moment.
     ghost mark_of: { Self → ℕ × ℕ };
@@ -261,7 +260,7 @@ trait Marked {
 }
 
 impl Marked for Movement {
-    ghost use Rattle.plant_check_stock.specs.{row_mark_of};
+    ghost use Rattle.plant_requirements.specs.{row_mark_of};
     ghost use Rattle.plant_check.specs.Numbers.{movement_before};
 
     ghost mark_of = { row_mark_of };
@@ -279,7 +278,7 @@ impl Marked for Movement {
 }
 
 impl Marked for BatchEvent {
-    ghost use Rattle.plant_check_stock.specs.{row_mark_of_event};
+    ghost use Rattle.plant_requirements.specs.{row_mark_of_event};
     ghost use Rattle.plant_check.specs.Numbers.{event_before};
 
     ghost mark_of = { row_mark_of_event };
@@ -320,7 +319,7 @@ fn falling<R: Marked>(rows: &[R]) -> Option<RowFault>
 
 /// The first row whose number or moment breaks the rule: a number that wasn't given, or else a moment that is later than the
 /// desk's, or else one that falls. The only error is that memory was refused.
-#[tactic(auto, unfolding(plant_tables_read::specs::Collecting::rows_listed))]
+#[tactic(auto, unfolding(plant_tables::specs::Collecting::rows_listed))]
 pub(crate) fn number_fault(alloc: Global, rows: &DeskRows) -> Result<Option<RowFault>, AllocError>
     ensures { IfOk result (λ reported. reported
         ≡ numbered_fault_in (rows_listed rows.now) (movements_in rows.now.movements.items)) }
@@ -376,7 +375,7 @@ fn are_by(
 
 /// Whether numbers and lines are those of commands, no moment is later than the desk's, and moments don't fall. The only error is that
 /// memory was refused.
-#[tactic(auto, unfolding(plant_tables_read::specs::Collecting::rows_listed))]
+#[tactic(auto, unfolding(plant_tables::specs::Collecting::rows_listed))]
 pub(crate) fn are_right_numbers(alloc: Global, rows: &DeskRows) -> Result<bool, AllocError>
     ensures { IfOk result (λ b. b ≡ obeys rule.Numbers (rows_listed rows.now)) }
 {

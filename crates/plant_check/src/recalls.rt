@@ -1,6 +1,6 @@
 //! Recalls that break a rule.
 ghost use Rattle.std.specs.Prelude.{◌≡◌, IfOk};
-ghost use Rattle.plant_tables_read.specs.{rows_listed};
+ghost use Rattle.plant_tables.specs.{rows_listed};
 ghost use Rattle.plant_check_rules.specs.{movements_in, recalls_read};
 ghost use Rattle.plant_check.specs.Findings.{recalled_fault_in};
 ghost use Rattle.plant_check.specs.Recalls.{recall_as, recall_fault_in};
@@ -10,12 +10,12 @@ use grouped_rows::Grouped;
 use plant_base::{Id, Lot, Moment, Recall};
 use plant_check_rules::history::movements_in;
 use plant_check_rules::recalls::recalls_read;
-use plant_check_stock::keys::{Lots, lot_at};
-use plant_check_stock::recalls::is_timely;
-use plant_faults::first::{RowRule, fault_unless, first_fault, in_column, or_fault};
-use plant_faults::keys::id_key;
-use plant_faults::{Column, Found, RowFault, Table, Wanted};
-use plant_tables_read::{DeskRows, StatedRecall};
+use plant_requirements::first::{RowRule, fault_unless, first_fault, in_column, or_fault};
+use plant_requirements::keys::id_key;
+use plant_requirements::recalls::is_timely;
+use plant_requirements::stock_keys::{Lots, lot_at};
+use plant_requirements::{Column, Found, RowFault, Table, Wanted};
+use plant_tables::{DeskRows, StatedRecall};
 use std::alloc::{AllocError, Global};
 
 /// The fault of the recall: this is in a column, where that is wanted.
@@ -82,7 +82,7 @@ fn stated_fault(
 }
 
 /// The first row that breaks the rule, or else the mark that does. The only error is that memory was refused.
-#[tactic(auto, unfolding(plant_tables_read::specs::Collecting::rows_listed))]
+#[tactic(auto, unfolding(plant_tables::specs::Collecting::rows_listed))]
 pub(crate) fn recall_fault(alloc: Global, rows: &DeskRows) -> Result<Option<RowFault>, AllocError>
     ensures { IfOk result (λ reported. reported ≡ recalled_fault_in (rows_listed rows.now)
         (recalls_read rows.now.recalls.items) (movements_in rows.now.movements.items)) }

@@ -2,20 +2,20 @@
 ghost use Rattle.std.specs.Prelude.{◌≡◌, IfOk};
 ghost use Rattle.plant_check.specs.Recipes.{definition_found, ill_formed_fault, line_fault};
 ghost use Rattle.plant_check.specs.Recipes.{recipe_fault, recipe_fault_in, stray_line_fault};
-ghost use Rattle.plant_faults.specs.{first_reported};
+ghost use Rattle.plant_requirements.specs.{first_reported};
 
 use grouped_rows::Grouped;
 use plant_base::{Header, MasterLine, Recipe, RecipeLine};
-use plant_check_plans::keys::{
+use plant_recipe::is_well_formed;
+use plant_requirements::first::{RowRule, as_a_whole, first_fault, in_column, names_none};
+use plant_requirements::keys::{recipe_key, recipe_line_key};
+use plant_requirements::numbered::are_numbered;
+use plant_requirements::plan_keys::{
     Definitions, RecipeLines, Recipes, has_definition, has_recipe, lines_of,
 };
-use plant_check_plans::numbered::are_numbered;
-use plant_check_plans::recipes::is_known;
-use plant_faults::first::{RowRule, as_a_whole, first_fault, in_column, names_none};
-use plant_faults::keys::{recipe_key, recipe_line_key};
-use plant_faults::{Column, Found, RowFault, Table, Wanted};
-use plant_recipe::is_well_formed;
-use plant_tables_read::DeskRows;
+use plant_requirements::recipes::is_known;
+use plant_requirements::{Column, Found, RowFault, Table, Wanted};
+use plant_tables::DeskRows;
 use plant_view::lines_in;
 use std::alloc::{AllocError, Global};
 

@@ -5,10 +5,10 @@ ghost use Rattle.plant_check.specs.Stocks.{stock_fault_in};
 use grouped_rows::Grouped;
 use plant_base::Sublot;
 use plant_check_rules::ends::{BySublotEntered, BySublotLeft, entries, exits, total_booked};
-use plant_faults::first::{RowRule, first_fault, in_column};
-use plant_faults::keys::sublot_key;
-use plant_faults::{Column, Found, RowFault, Table, Wanted};
-use plant_tables_read::DeskRows;
+use plant_requirements::first::{RowRule, first_fault, in_column};
+use plant_requirements::keys::sublot_key;
+use plant_requirements::{Column, Found, RowFault, Table, Wanted};
+use plant_tables::DeskRows;
 use std::alloc::{AllocError, Global};
 
 /// That a sublot's stock is what entered it less what left it.

@@ -5,7 +5,7 @@ ghost use Rattle.sqlite_value.specs.Value.{owned};
 ghost use Rattle.plant_check.specs.Stored as spec;
 
 use plant_base::{Id, Text};
-use plant_faults::{Found, Key, Table};
+use plant_requirements::{Found, Key, Table};
 use sqlite::Row;
 use sqlite::types::ValueRef;
 

@@ -6,7 +6,7 @@ ghost use Rattle.sqlite_value.specs.Value.{owned};
 ghost use Rattle.plant_check.specs.ValueRules as spec;
 
 use plant_base::{Due, Id, Text, Unit};
-use plant_faults::ValueRule;
+use plant_requirements::ValueRule;
 use sqlite::types::ValueRef;
 
 /// Whether NULL obeys the rule.

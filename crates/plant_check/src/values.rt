@@ -9,10 +9,10 @@ use plant_base::{
     BatchEvent, BatchRow, Class, ControlLine, Definition, EdgeRow, Hold, Job, Lot, Mark,
     MasterLine, Recipe, Sublot,
 };
-use plant_faults::first::{as_a_whole, in_column};
-use plant_faults::{Column, Found, Key, RowFault, Table, ValueRule, Wanted};
+use plant_requirements::first::{as_a_whole, in_column};
+use plant_requirements::{Column, Found, Key, RowFault, Table, ValueRule, Wanted};
+use plant_tables::{BookedRow, Loaded, StatedRecall};
 use plant_tables_columns::{Decoded, decode_receipts};
-use plant_tables_read::{BookedRow, Loaded, StatedRecall};
 use sqlite::Row;
 use std::alloc::{AllocError, Global};
 use std::slice;

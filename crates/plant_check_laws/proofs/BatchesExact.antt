@@ -11,9 +11,9 @@ use Rattle.plant_view.proofs.ListLemmas.{found_passes, found_keeps, same_id, sam
 use Rattle.plant_recipe.specs.{is_well_formed, is_size_of, control_of}
 use Rattle.plant_view.specs.{headers_of, header_among, lines_among, orders_of, order_among, batch_among, control_line, control_among, control_of_header, control_of_order, is_batch_among, is_size_of_some, HasBatchValues, IsConsistentBatch, AreConsistentBatches, IsConsistentRun, AreConsistentRuns, job_among, has_finished, numbered, batch_of_row}
 use Rattle.plant_view.proofs.HeadersFound.{header_found}
-use Rattle.plant_check_plans.specs.{control_sized, control_of_found, control_asked_for, is_control, is_row_among, of_batch, batch_fault, control_line_fault, batch_fault_in, recipe_among, row_of_order, are_numbered}
+use Rattle.plant_requirements.specs.{control_sized, control_of_found, control_asked_for, is_control, is_row_among, of_batch, batch_fault, control_line_fault, batch_fault_in, recipe_among, row_of_order, are_numbered}
 use Rattle.plant_check_rules.proofs.BookedRowsMove.{filter_mapped}
-use Rattle.plant_faults.proofs.NoFault.{met_exact, no_more, or_exact, unless_exact, rows_exact as each_row}
+use Rattle.plant_requirements.proofs.NoFault.{met_exact, no_more, or_exact, unless_exact, rows_exact as each_row}
 use Rattle.plant_check_laws.proofs.ExactTests.{equal_exact, both, in_words, any_exact}
 use Rattle.plant_check_laws.proofs.EqualIsSame.{control_is}
 use Rattle.plant_check_laws.proofs.EventsExact.{row_exact, HasRun}

@@ -13,8 +13,8 @@ use Rattle.plant_invariant.specs.{HasRowValues, HasPlaceValues, HasMovementValue
 use Rattle.sql_tables.specs.{HasStoredRows}
 use Rattle.plant_tables.specs.{contents_of}
 use Rattle.plant_tables_columns.specs.{movement_from, booked_of, recall_from, BookedRow}
-use Rattle.plant_tables_read.specs.{Rows, rows_from, tables_in, AreWhole, AreInOrder}
-use Rattle.plant_tables_read.proofs.RowsRepresentTables.{are_stored, represents_for}
+use Rattle.plant_tables.specs.{Rows, rows_from, tables_in, AreWhole, AreInOrder}
+use Rattle.plant_tables.proofs.RowsRepresentTables.{are_stored, represents_for}
 use Rattle.plant_check_rules.specs.{movements_in, recalls_read, broken_rows, first_broken_of, are_stocks, are_lots}
 use Rattle.plant_view.proofs.EdgeRowOrder.{edges_sorted}
 use Rattle.plant_check_laws.specs.{state_in, UnbrokenIsRead, ChecksPassImpliesInvariant, UnbrokenHolds}

@@ -5,7 +5,7 @@ use Rattle.plant_trace.specs.{IsAcyclic, Node}
 use Rattle.plant_view.specs.{tables_of, edges_in}
 use Rattle.plant_view.specs.Tables.{Tables}
 use Rattle.plant_tables_columns.specs.{booked_of}
-use Rattle.plant_tables_read.proofs.TablesOfRows.{same_tables}
+use Rattle.plant_tables.proofs.TablesOfRows.{same_tables}
 use Rattle.plant_check_rules.specs.{movements_in, are_acyclic, are_same_edges, are_kept_edges}
 use Rattle.plant_check_rules.proofs.CycleTestIsExact.{to_acyclic, acyclic_tested}
 use Rattle.plant_check_rules.proofs.EdgeListsCompared.{same_list, same_itself}

@@ -13,7 +13,7 @@ use Rattle.plant_base.specs.declared.rows.RecipeLine.TheVariants as line
 use Rattle.plant_view.proofs.ListLemmas.{same_id, same_key}
 use Rattle.plant_recipe.specs.contracts.progress.ProgressPartialEq.TheImpl.{ghosts as equal_progress}
 use Rattle.plant_recipe.specs.declared.progress.Progress.{Progress}
-use Rattle.plant_check_plans.specs.{is_control}
+use Rattle.plant_requirements.specs.{is_control}
 
 -- ---- lines
 

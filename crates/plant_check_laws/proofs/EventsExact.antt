@@ -9,7 +9,7 @@ use Rattle.plant_recipe.specs.declared.progress.Progress.{Progress}
 use Rattle.plant_recipe.specs.{run_of, progress_after}
 use Rattle.plant_recipe.proofs.EventFold.{goes_along}
 use Rattle.plant_view.specs.{is_batch_among, phases_among, events_among, batch_row, row_at, batch_of_row}
-use Rattle.plant_check_plans.specs.{is_row_among, kept_progress, is_run, has_right_run, are_events}
+use Rattle.plant_requirements.specs.{is_row_among, kept_progress, is_run, has_right_run, are_events}
 use Rattle.plant_check_laws.proofs.ExactTests.{both, in_words, all_exact, any_mapped_exact}
 use Rattle.plant_check_laws.proofs.EqualIsSame.{one_progress}
 

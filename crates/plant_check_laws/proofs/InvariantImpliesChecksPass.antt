@@ -10,13 +10,13 @@ use Rattle.plant_view.specs.DecisionInvariant.{DecisionInvariant}
 use Rattle.plant_view.specs.{headers_of, lines_among, IsWholeRecipe, IsConsistentRun, edges_among, recalls_in, tables_of, edges_in, batch_row, batch_of_row, sublot_row, place_of_row}
 use Rattle.plant_invariant.specs.StateInvariant.{StateInvariant}
 use Rattle.plant_tables.specs.{HoldsTablesOf, LacksLater}
-use Rattle.plant_tables_read.specs.{AreLoaded, IsKnown, Loaded, Rows, rows_from, rows_in}
+use Rattle.plant_tables.specs.{AreLoaded, IsKnown, Loaded, Rows, rows_from, rows_in}
 use Rattle.plant_tables_columns.specs.{movement_from, booked_of, recall_from, stated_of}
 use Rattle.plant_tables_columns.proofs.MovementColumns.{movement_again}
 use Rattle.plant_tables_columns.proofs.RecallColumns.{recall_again}
-use Rattle.plant_tables_read.proofs.RowsReadBack.{read_again}
-use Rattle.plant_tables_read.proofs.RowsRepresentTables.{rows_back}
-use Rattle.plant_check_stock.specs.{are_marks}
+use Rattle.plant_tables.proofs.RowsReadBack.{read_again}
+use Rattle.plant_tables.proofs.RowsRepresentTables.{rows_back}
+use Rattle.plant_requirements.specs.{are_marks}
 use Rattle.plant_check_rules.specs.{movements_in, recalls_read, first_broken_of, broken_rows, first_broken, are_stocks, are_lots}
 use Rattle.plant_check_rules.proofs.BookedRowsMove.{amount_entered}
 use Rattle.plant_invariant_tables.proofs.TablesHaveValidValues.{in_order, valid_values}

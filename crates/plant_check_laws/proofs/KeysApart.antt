@@ -5,7 +5,7 @@ use Rattle.std.specs.List.Sorted.{IsStrictlySortedBy}
 use Rattle.std.proofs.lemmas.Cmp.{nat_list_eq_equiv}
 use Rattle.plant_base.specs.{same, id_cmp}
 use Rattle.plant_view.proofs.ListLemmas.{all_weaker, all_two, none_left}
-use Rattle.plant_check_plans.proofs.KeyTests.{ids_tie}
+use Rattle.plant_requirements.proofs.KeyTests.{ids_tie}
 
 -- where one passes it is the one that is found
 pub found_left : {X : Type 0} (test : X → Bool) (xs : List X) (x : X) (ys : List X) → filter test xs ≡ x ∷ ys → find test xs ≡ Some x

@@ -7,7 +7,7 @@ use Rattle.std.proofs.lemmas.Simd.{map-map}
 use Rattle.plant_base.specs.{Batch, BatchEvent, BatchRow, Hold, Movement, Position}
 use Rattle.plant_view.specs.{batch_of_row}
 use Rattle.plant_invariant.specs.{mark_of_movement, mark_of_event, marks, IsNoLater, HasMoments}
-use Rattle.plant_check_stock.specs.{row_mark_of, row_mark_of_event, row_marks, is_no_later, never_fall, are_times}
+use Rattle.plant_requirements.specs.{row_mark_of, row_mark_of_event, row_marks, is_no_later, never_fall, are_times}
 use Rattle.plant_check_laws.proofs.ExactTests.{le_exact, both, in_words, all_exact, of_mapped, of_both}
 
 -- a number and a moment

@@ -9,7 +9,7 @@ use Rattle.plant_stock.specs.{goes_to, comes_from}
 use Rattle.plant_view.specs.{is_of_lot, batch_by, IsBatchThere, is_taken, is_made, control_among, IsThere, IsOneMaterial, place_of_row, batch_of_row}
 use Rattle.plant_rules.specs.{def_of}
 use Rattle.plant_invariant.specs.{IsAsked}
-use Rattle.plant_check_stock.specs.{is_there, is_batch_there, names_known, are_of_one, is_asked_for, is_yielded, is_of_right_definition, is_of_right_merge, is_right_movement, are_movements}
+use Rattle.plant_requirements.specs.{is_there, is_batch_there, names_known, are_of_one, is_asked_for, is_yielded, is_of_right_definition, is_of_right_merge, is_right_movement, are_movements}
 use Rattle.plant_check_laws.proofs.ExactTests.{passing, both, both_then, in_words, all_exact, any_mapped_exact}
 
 -- ---- definitions of lots that are there

@@ -4,7 +4,7 @@ use Rattle.std.specs.List.{AllByRecursion}
 use Rattle.std.proofs.lemmas.Bool.{false≢true, and_from}
 use Rattle.plant_view.proofs.ListLemmas.{found_passes, found_keeps, all_weaker, all_unmapped}
 use Rattle.plant_view.specs.{numbered}
-use Rattle.plant_check_plans.specs.{are_numbered}
+use Rattle.plant_requirements.specs.{are_numbered}
 use Rattle.plant_invariant.specs.{AreCounted}
 use Rattle.plant_invariant.proofs.ListsThatGrow.{all_passing}
 use Rattle.plant_check_laws.proofs.ExactTests.{equal_exact, both, all_apart}

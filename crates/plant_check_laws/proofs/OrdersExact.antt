@@ -8,8 +8,8 @@ use Rattle.plant_base.specs.declared.states.JobState.TheVariants.{Open, Cancelle
 use Rattle.plant_view.proofs.ListLemmas.{found_passes, found_keeps, same_id, same_itself, all_weaker, all_two, all_mapped, all_unmapped, find_mapped, some_mapped, not_true}
 use Rattle.plant_view.specs.{headers_of, header_among, orders_of, batch_among, job_among, is_size_of_some, has_batch, is_finished, has_finished, HasValidOrder, AreConsistentOrders, batch_of_row}
 use Rattle.plant_view.proofs.HeadersFound.{header_found, size_of_recipe}
-use Rattle.plant_check_plans.specs.{recipe_among, row_of_order, is_started, of_order, order_fault, order_fault_in}
-use Rattle.plant_faults.proofs.NoFault.{met_exact, no_more, rows_exact as each_row}
+use Rattle.plant_requirements.specs.{recipe_among, row_of_order, is_started, of_order, order_fault, order_fault_in}
+use Rattle.plant_requirements.proofs.NoFault.{met_exact, no_more, rows_exact as each_row}
 use Rattle.plant_check_laws.proofs.ExactTests.{passing, both, in_words, by_test}
 use Rattle.plant_check_laws.proofs.KeysApart.{one_found, apart_sorted, ids_apart}
 

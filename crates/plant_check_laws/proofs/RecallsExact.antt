@@ -8,13 +8,13 @@ use Rattle.plant_view.specs.{edges_among, marks, recalls_in, marks_in, tables_of
 use Rattle.plant_view.specs.Tables.{Tables}
 use Rattle.plant_view.proofs.MarkChanges.{marks_sorted}
 use Rattle.plant_invariant.specs.{IsLiftedBetween, IsValidRecall, AreValidRecalls}
-use Rattle.plant_check_stock.specs.{are_same_marks, are_marks, lot_among, is_lifted_between, is_right_recall, are_recalls}
-use Rattle.plant_check_stock.proofs.MarksByRecall.{same_list, same_itself}
+use Rattle.plant_requirements.specs.{are_same_marks, are_marks, lot_among, is_lifted_between, is_right_recall, are_recalls}
+use Rattle.plant_requirements.proofs.MarksByRecall.{same_list, same_itself}
 use Rattle.plant_tables_columns.specs.{recall_from, moment_of_lift, person_of_lift, note_of_lift, stated_of, StatedRecall}
 use Rattle.plant_tables_columns.proofs.KindLaws.{ValidOrNone}
 use Rattle.plant_tables_columns.proofs.RecallColumns.{recall_back}
 use Rattle.plant_tables_columns.proofs.TableLaws.{HasStatedColumns}
-use Rattle.plant_tables_read.proofs.TablesOfRows.{same_tables}
+use Rattle.plant_tables.proofs.TablesOfRows.{same_tables}
 use Rattle.plant_check_rules.specs.{recalls_read}
 use Rattle.plant_check_laws.proofs.RowsMadeOfRows.{all_gathered}
 use Rattle.plant_check_laws.proofs.ExactTests.{passing, le_exact, both, in_words, all_exact_where}

@@ -6,8 +6,8 @@ use Rattle.std.proofs.lemmas.Bool.Decides.{nat_tests}
 use Rattle.plant_base.specs.{is_content, is_content_byte, is_there, receipt_order, is_id, Receipt}
 use Rattle.plant_view.proofs.ListLemmas.{all_weaker, all_two, and_left}
 use Rattle.plant_invariant.specs.{HasReceiptValues, AreApart, AreValidReceipts}
-use Rattle.plant_check_stock.specs.{is_given, of_receipt, receipt_fault, receipt_fault_in, seqs_of}
-use Rattle.plant_faults.proofs.NoFault.{met_exact, no_more, rows_exact as each_row}
+use Rattle.plant_requirements.specs.{is_given, of_receipt, receipt_fault, receipt_fault_in, seqs_of}
+use Rattle.plant_requirements.proofs.NoFault.{met_exact, no_more, rows_exact as each_row}
 use Rattle.plant_check_laws.proofs.ExactTests.{passing, equal_exact, le_exact, both, by_test, in_words, all_apart, all_joined}
 use Rattle.plant_check_laws.proofs.KeysApart.{AreApart as AreApartBy, one_left, apart_alone}
 

@@ -6,9 +6,9 @@ use Rattle.plant_base.specs.{HasLineValues, same, recipe_order, master_line_orde
 use Rattle.plant_view.proofs.ListLemmas.{same_key, key_itself, all_weaker, all_two, all_mapped, all_filtered, filtered_passes}
 use Rattle.plant_recipe.specs.{is_well_formed}
 use Rattle.plant_view.specs.{is_defined, is_known, headers_of, header_among, rows_among, lines_among, master_line, IsWholeRecipe, AreConsistentRecipes, numbered}
-use Rattle.plant_check_plans.specs.{class_fault, class_fault_in, is_class_among, are_numbered, is_whole_recipe, is_recipe_among, are_recipes}
+use Rattle.plant_requirements.specs.{class_fault, class_fault_in, is_class_among, are_numbered, is_whole_recipe, is_recipe_among, are_recipes}
 use Rattle.plant_invariant.specs.{HasMasterValues}
-use Rattle.plant_faults.proofs.NoFault.{unless_exact, rows_exact as each_row}
+use Rattle.plant_requirements.proofs.NoFault.{unless_exact, rows_exact as each_row}
 use Rattle.plant_check_laws.proofs.ExactTests.{passing, both, in_words, all_exact, any_exact, any_mapped_exact, of_mapped}
 use Rattle.plant_check_laws.proofs.NumberedRows.{rows_exact, owned_numbers}
 use Rattle.plant_check_laws.proofs.ValuesSound.{IsValidHeader}

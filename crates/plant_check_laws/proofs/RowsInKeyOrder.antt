@@ -12,11 +12,11 @@ use Rattle.sql_queries.specs.{key_order, comes_before, first_of}
 use Rattle.sql_queries.proofs.ValueOrder.{key_total}
 use Rattle.plant_tables.specs.{class_table, definition_table, recipe_table, recipe_line_table, job_table, batch_table, control_line_table, batch_event_table, lot_table, sublot_table, movement_table, hold_table, receipt_table, recall_table, table_defs_of}
 use Rattle.plant_tables.proofs.StatementsOnDesk.{receipt_place, recall_place, no_receipt_place, no_recall_place}
-use Rattle.plant_tables_read.specs.{AreRising, contents_loaded, Loaded, Rows, rows_from, tables_in, AreWhole, AreInOrder}
-use Rattle.plant_tables_read.proofs.KeysOfColumns.{by_text, by_number, by_text_number, by_two_texts, by_two_numbers, by_text_numbers}
-use Rattle.plant_tables_read.proofs.SortedRowsAreUnique.{strictly_sorted}
-use Rattle.plant_tables_read.proofs.AllRowsDecoded.{map_same}
-use Rattle.plant_tables_read.proofs.RowsRepresentTables.{are_stored}
+use Rattle.plant_tables.specs.{AreRising, contents_loaded, Loaded, Rows, rows_from, tables_in, AreWhole, AreInOrder}
+use Rattle.plant_tables.proofs.KeysOfColumns.{by_text, by_number, by_text_number, by_two_texts, by_two_numbers, by_text_numbers}
+use Rattle.plant_tables.proofs.SortedRowsAreUnique.{strictly_sorted}
+use Rattle.plant_tables.proofs.AllRowsDecoded.{map_same}
+use Rattle.plant_tables.proofs.RowsRepresentTables.{are_stored}
 
 -- ---- from keys that rise to rows that do
 

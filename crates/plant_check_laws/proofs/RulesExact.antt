@@ -4,7 +4,7 @@ use Rattle.std.proofs.lemmas.Bool.{false≢true}
 use Rattle.std.specs.List.{AllByRecursion, list_all}
 use Rattle.plant_view.proofs.ListLemmas.{all_of}
 use Rattle.plant_tables_columns.specs.{only_meta}
-use Rattle.plant_tables_read.specs.{contents_loaded, Loaded, Rows, rows_from}
+use Rattle.plant_tables.specs.{contents_loaded, Loaded, Rows, rows_from}
 use Rattle.plant_check_rules.specs.{obeys, tested_rules, first_broken_of, broken_rows, first_broken, Rule}
 use Rattle.plant_check_rules.specs.declared.rule.Rule.TheVariants as rule
 use Rattle.plant_check_laws.proofs.ExactTests.{passing, in_words, all_exact}

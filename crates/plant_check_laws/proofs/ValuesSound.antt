@@ -5,12 +5,12 @@ use Rattle.sqlite.specs.Order.{Row}
 use Rattle.plant_base.specs.{is_id, is_text, is_moment, greatest_seq, greatest_sublot, is_version, HasHeaderValues, HasClassValues, HasDefinitionValues, HasLotValues, HasHoldValues, BatchRow, Header, Job, Meta, Receipt, Recipe, Sublot}
 use Rattle.plant_invariant.specs.{HasMasterValues, HasControlValues, HasEventValues}
 use Rattle.plant_view.specs.{HasBatchValues, HasValidOrder}
-use Rattle.plant_tables_read.specs.{Loaded, Rows, rows_from}
+use Rattle.plant_tables.specs.{Loaded, Rows, rows_from}
 use Rattle.plant_tables_columns.specs.{all_from, only_meta}
 use Rattle.plant_tables_columns.proofs.OptionalValues.{bound, some_same}
 use Rattle.plant_tables_columns.proofs.TableLaws.{HasBookedColumns, HasStatedColumns}
 use Rattle.plant_tables_columns.proofs.RowLaws.{Reads, meta_reads, class_reads, definition_reads, recipe_reads, master_line_reads, job_reads, batch_reads, control_line_reads, event_reads, lot_reads, sublot_reads, booked_reads, hold_reads, receipt_reads, stated_reads}
-use Rattle.plant_tables_read.proofs.RowsRepresentTables.{rows_back}
+use Rattle.plant_tables.proofs.RowsRepresentTables.{rows_back}
 
 -- ---- in the words of valid states
 

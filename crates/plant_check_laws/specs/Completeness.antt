@@ -5,7 +5,7 @@ use Rattle.plant_base.specs.{State}
 use Rattle.plant_view.specs.{tables_of}
 use Rattle.plant_invariant.specs.StateInvariant.{StateInvariant}
 use Rattle.plant_tables.specs.{HoldsTablesOf}
-use Rattle.plant_tables_read.specs.{AreLoaded, IsKnown, Loaded, rows_from, rows_in, AreInOrder}
+use Rattle.plant_tables.specs.{AreLoaded, IsKnown, Loaded, rows_from, rows_in, AreInOrder}
 use Rattle.plant_tables_columns.specs.{HasValidValues}
 use Rattle.plant_check_rules.specs.{first_broken_of, first_broken}
 

@@ -6,7 +6,7 @@ use Rattle.plant_view.specs.{state_without_kept, tables_of}
 use Rattle.plant_invariant.specs.StateInvariant.{StateInvariant}
 use Rattle.sql_tables.specs.{HaveStoredRows}
 use Rattle.plant_tables.specs.{table_defs_of, HoldsTablesOf}
-use Rattle.plant_tables_read.specs.{AreRising, contents_loaded, Loaded, Rows, rows_from, tables_in, AreWhole}
+use Rattle.plant_tables.specs.{AreRising, contents_loaded, Loaded, Rows, rows_from, tables_in, AreWhole}
 use Rattle.plant_check_rules.specs.{first_broken, first_broken_of}
 
 -- the rows without the columns that follow from others

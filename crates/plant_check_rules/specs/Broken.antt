@@ -5,9 +5,9 @@ use Rattle.std.specs.Cmp.Lexicographic.{pointwise}
 use Rattle.plant_base.specs.{edge_eq, EdgeRow, Movement, Recall}
 use Rattle.plant_trace.specs.{leads, Node}
 use Rattle.plant_view.specs.{edges_among, edges_in}
-use Rattle.plant_check_plans.specs.{are_recipes, are_events, batch_fault_in, class_fault_in, order_fault_in}
-use Rattle.plant_check_stock.specs.{are_marks, are_movements, are_numbers, are_recalls, are_times, receipt_fault_in}
-use Rattle.plant_tables_read.specs.{contents_loaded, Loaded, Rows, rows_from}
+use Rattle.plant_requirements.specs.{are_recipes, are_events, batch_fault_in, class_fault_in, order_fault_in}
+use Rattle.plant_requirements.specs.{are_marks, are_movements, are_numbers, are_recalls, are_times, receipt_fault_in}
+use Rattle.plant_tables.specs.{contents_loaded, Loaded, Rows, rows_from}
 use Rattle.plant_tables_columns.specs.{movement_from, recall_from, only_meta, BookedRow, StatedRecall}
 use Rattle.plant_check_rules.specs.Ends.{are_stocks}
 use Rattle.plant_check_rules.specs.Lots.{are_lots}

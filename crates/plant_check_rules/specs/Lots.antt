@@ -2,7 +2,7 @@
 use Rattle.std.specs.Prelude.{ℕ, Bool, true, false, ◌&&◌, ◌==◌, nat_le, if◌then◌else◌, List, [], ◌∷◌, length, map, filter}
 use Rattle.std.specs.List.{list_any, list_all}
 use Rattle.plant_base.specs.{greatest_amount, same, Definition, Hold, Lot, Sublot}
-use Rattle.plant_check_plans.specs.{are_numbered}
+use Rattle.plant_requirements.specs.{are_numbered}
 use Rattle.plant_view.specs.{is_defined}
 use Rattle.plant_tables_columns.specs.{BookedRow, MovementKindCode}
 use Rattle.plant_tables_columns.specs.declared.booked.MovementKindCode.TheVariants as kind_code

@@ -6,7 +6,7 @@ ghost use Rattle.plant_check_rules.specs.Ends.{total_booked};
 
 use grouped_rows::{Grouped, Grouping};
 use plant_base::Id;
-use plant_tables_read::{BookedRow, MovementKindCode};
+use plant_tables::{BookedRow, MovementKindCode};
 
 /// Rows by the sublot that they bring their amount to.
 pub struct BySublotEntered;

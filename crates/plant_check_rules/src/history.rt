@@ -5,7 +5,7 @@ ghost use Rattle.plant_view.specs.{edges_among};
 ghost use Rattle.plant_check_rules.specs.Broken.{movements_in, are_acyclic};
 
 use plant_base::Movement;
-use plant_tables_read::BookedRow;
+use plant_tables::BookedRow;
 use plant_trace::{Node, acyclic};
 use plant_view::edges;
 use std::alloc::{AllocError, Global};

@@ -9,9 +9,9 @@ ghost use Rattle.plant_check_rules.specs.Lots.{is_lot_among};
 use crate::ends::{BySublotEntered, entries, total_booked};
 use grouped_rows::{Grouped, Grouping};
 use plant_base::{GREATEST_AMOUNT, Id, Sublot};
-use plant_check_plans::numbered::are_numbered;
-use plant_check_stock::keys::Lots;
-use plant_tables_read::{BookedRow, MovementKindCode};
+use plant_requirements::numbered::are_numbered;
+use plant_requirements::stock_keys::Lots;
+use plant_tables::{BookedRow, MovementKindCode};
 
 /// Sublots by their lot.
 pub struct SublotsOfLots;

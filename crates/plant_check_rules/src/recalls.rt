@@ -4,7 +4,7 @@ ghost use Rattle.std.specs.Prelude.{◌≡◌, IfOk};
 ghost use Rattle.plant_check_rules.specs.Broken.{are_fitting, recalls_read};
 
 use plant_base::Recall;
-use plant_tables_read::StatedRecall;
+use plant_tables::StatedRecall;
 use std::alloc::{AllocError, Global};
 
 /// Whether each row has the columns of a lifting that its state asks for.

@@ -2,7 +2,7 @@
 use Rattle.std.proofs.Common.{◌≡◌, ℕ, Option, Some, None, refl}
 use Rattle.plant_base.specs.{State, Command, Envelope, Refusal}
 use Rattle.plant_rules.specs.{wrong, kept_for, step}
-use Rattle.plant_causes.specs.{checked, checked_by}
+use Rattle.plant_rules.specs.{checked, checked_by}
 use Rattle.plant_desk.specs.{refusal_told, refusal_foretold, reply, reply_by, number_of}
 
 same_refusal : (s : State) (c : Command) (w : Option Refusal) (n : ℕ) → refusal_foretold (checked_by s c w) ≡ refusal_told (reply_by w n)

@@ -7,8 +7,8 @@ use Rattle.plant_base.specs.declared.refusal.Refusal.TheVariants.{BadForm, RefRe
 use Rattle.plant_view.specs.{refuse}
 use Rattle.plant_rules.specs.{step, unless_refused, taken, IsRepeated, is_whole, wrong, wrong_there, kept_for, decoded}
 use Rattle.plant_desk.specs.{writes_nothing, reply, reply_by, number_of}
-use Rattle.plant_messages.specs.{DeskFault, Reply}
-use Rattle.plant_messages.specs.declared.reply.Reply.TheVariants.{Accepted, Refused}
+use Rattle.plant_questions.specs.{DeskFault, Reply}
+use Rattle.plant_questions.specs.declared.reply.Reply.TheVariants.{Accepted, Refused}
 use Rattle.plant_rules.proofs.StepPreservesInvariant.{step_preserves_invariant}
 
 -- a state that is either the one before or the next is consistent

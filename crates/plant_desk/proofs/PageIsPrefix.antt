@@ -1,7 +1,7 @@
 -- The page of a list is that of its prefix, one row longer than a page.
 use Rattle.std.proofs.Common.{◌≡◌, ◌∙◌, ◌+◌, ℕ, suc, Bool, List, map, filter, take, length, nat_lt, sym, ap, arith}
-use Rattle.plant_worklists.proofs.FoundRows.{of_mapped, take_mapped}
-use Rattle.plant_worklists.specs.{page_of, page_size}
+use Rattle.plant_questions.proofs.FoundRows.{of_mapped, take_mapped}
+use Rattle.plant_questions.specs.{page_of, page_size}
 use Rattle.std.proofs.lemmas.Grind.{common_steps}
 
 shorter : {X : Type 0} (n : ℕ) (xs : List X) → take n (take (suc n) xs) ≡ take n xs

@@ -1,7 +1,7 @@
 -- Rows that are sorted by what they hold hold sorted rows.
 use Rattle.std.proofs.Common.{◌≡◌, ◌∙◌, List, [], ◌∷◌, map, refl, ap, Ordering, Less, Equal, Greater}
 use Rattle.plant_base.specs.{put}
-use Rattle.plant_worklists.specs.{in_order}
+use Rattle.plant_questions.specs.{in_order}
 
 module _ {W R : Type 0} (held : W → R) (order : R → R → Ordering) where
   abbrev by_held : W → W → Ordering

@@ -1,10 +1,10 @@
 -- That a check says what the command would be answered.
 use Rattle.std.specs.Prelude.{◌≡◌, Option, Some, None}
 use Rattle.plant_base.specs.{State, Envelope, Refusal}
-use Rattle.plant_causes.specs.{checked, Checked}
-use Rattle.plant_causes.specs.declared.checking.Checked.TheVariants as check
-use Rattle.plant_messages.specs.{Reply}
-use Rattle.plant_messages.specs.declared.reply.Reply.TheVariants as answer
+use Rattle.plant_rules.specs.{checked, Checked}
+use Rattle.plant_rules.specs.declared.checking.Checked.TheVariants as check
+use Rattle.plant_questions.specs.{Reply}
+use Rattle.plant_questions.specs.declared.reply.Reply.TheVariants as answer
 use Rattle.plant_desk.specs.Replies.{reply}
 
 -- the refusal of a reply; none where the command is accepted

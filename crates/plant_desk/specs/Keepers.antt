@@ -2,12 +2,12 @@
 use Rattle.std.specs.Prelude.{◌≡◌, ℕ, Bool, true, false, ◌⊎◌, Result, Ok, Err}
 use Rattle.plant_base.specs.{State, Envelope}
 use Rattle.plant_rules.specs.{step}
-use Rattle.plant_causes.specs.{checked, Checked}
+use Rattle.plant_rules.specs.{checked, Checked}
 use Rattle.plant_desk.specs.Replies.{reply}
 use Rattle.plant_answers.specs.{answer}
-use Rattle.plant_messages.specs.{Answer, DeskFault, Question, Reply}
-use Rattle.plant_messages.specs.declared.reply.Reply.TheVariants.{Accepted, Refused}
-use Rattle.plant_messages.specs.declared.reply.DeskFault.TheVariants.{Store, Memory, Shut}
+use Rattle.plant_questions.specs.{Answer, DeskFault, Question, Reply}
+use Rattle.plant_questions.specs.declared.reply.Reply.TheVariants.{Accepted, Refused}
+use Rattle.plant_questions.specs.declared.reply.DeskFault.TheVariants.{Store, Memory, Shut}
 
 -- a set of states
 abbrev pub States : Type 1

@@ -1,9 +1,9 @@
 // Pages of the lists: what comes after a cursor, by the order of the rows; the movements of a lot; and pages of what lots have.
 ghost use Rattle.std.specs.Prelude.{◌≡◌, ◌+◌, filter, map, take, IfOk};
 ghost use Rattle.plant_view.specs.{batch_row, is_named};
-ghost use Rattle.plant_worklists.specs.{page_size, is_after, is_batch_in, is_recall_in, lot_made};
-ghost use Rattle.plant_worklists.specs.{due_order, is_due_in, number_order, is_number_after};
-ghost use Rattle.plant_worklists.specs.{in_order};
+ghost use Rattle.plant_questions.specs.{page_size, is_after, is_batch_in, is_recall_in, lot_made};
+ghost use Rattle.plant_questions.specs.{due_order, is_due_in, number_order, is_number_after};
+ghost use Rattle.plant_questions.specs.{in_order};
 
 use crate::batches::batch_row;
 use crate::keys::copy_of;
@@ -13,10 +13,9 @@ use plant_base::{
     Batch, BatchEvent, BatchRow, Class, ControlLine, Definition, Due, Hold, Id, Job, JobState, Lot,
     Movement, MovementKind, Place, Recall, Receipt, Recipe, RecipeState, Sublot,
 };
-use plant_sorted::{ByDue, ByNumber, in_order};
-use plant_worklists::{
-    Cursor, PAGE_SIZE, Page, Worklists, first_page, is_after, is_due_after, is_movement_after,
-    is_number_after, is_recipe_after,
+use plant_questions::{
+    ByDue, ByNumber, Cursor, PAGE_SIZE, Page, Worklists, first_page, in_order, is_after,
+    is_due_after, is_movement_after, is_number_after, is_recipe_after,
 };
 use std::alloc::{AllocError, Global};
 

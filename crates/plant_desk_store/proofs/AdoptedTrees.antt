@@ -7,7 +7,7 @@ use Rattle.plant_base.specs.{State, newest_schema}
 use Rattle.plant_view.specs.{tables_of}
 use Rattle.sql_tables.specs.{AreFree, IsSettled}
 use Rattle.plant_tables.specs.{desk_table_defs, FindsTables, opening_tables}
-use Rattle.plant_tables_read.specs.{rows_in, rows_listed, DeskRows}
+use Rattle.plant_tables.specs.{rows_in, rows_listed, DeskRows}
 use Rattle.plant_invariant_tables.proofs.RowsInKeyOrder.{keyed}
 use Rattle.plant_migrate.specs.{edges_from, IsRaisedBy}
 use Rattle.plant_migrate.proofs.RaisingEnds.{position_reported, bookings_reported, finds_raised}

@@ -8,7 +8,7 @@ use Rattle.plant_base.specs.{State, newest_schema}
 use Rattle.sql_tables.specs.{Keeps, AreFree, IsFree}
 use Rattle.sql_tables.proofs.TransactionEnds.{IsStore}
 use Rattle.plant_tables.specs.{desk_table_defs}
-use Rattle.plant_tables_read.specs.{IsVersion}
+use Rattle.plant_tables.specs.{IsVersion}
 use Rattle.plant_desk_store.specs.{Adopts, HoldsValidState, IsRaised, IsRefusedBy, IsRisingAt, IsUnraised, NamesFirst, HasAdopted, HasRefused, HasMade, HasTaken, KeepsForeignTables}
 use Rattle.plant_desk_store.specs.declared.adopting.AdoptFault.{AdoptFault}
 use Rattle.plant_desk_store.proofs.ValidIsAdoptedAgain.{not_free, one_reported, pos_le}

@@ -5,10 +5,10 @@ use Rattle.sqlite.specs.State as store
 use Rattle.sqlite.specs.State.{HasCleanDisk}
 use Rattle.plant_base.specs.{State, newest_schema, Envelope}
 use Rattle.sql_tables.proofs.TransactionEnds.{IsStore}
-use Rattle.plant_causes.specs.{Checked}
+use Rattle.plant_rules.specs.{Checked}
 use Rattle.plant_desk.specs.{Checks, Asks}
-use Rattle.plant_messages.specs.{Answer, DeskFault, Question}
-use Rattle.plant_messages.specs.declared.reply.DeskFault.TheVariants.{Store, Memory, Shut}
+use Rattle.plant_questions.specs.{Answer, DeskFault, Question}
+use Rattle.plant_questions.specs.declared.reply.DeskFault.TheVariants.{Store, Memory, Shut}
 use Rattle.plant_desk_store.specs.{OnlyReads, HasForeseen, HasAnswered, Represents, HasForeignTables}
 use Rattle.plant_desk_store.proofs.ForeignTablesKept.{others_kept}
 use Rattle.plant_desk_store.proofs.ReadingKeepsState.{still_represents, still_crash_states}

@@ -15,8 +15,8 @@ use Rattle.plant_tables.proofs.WritingEnds.{finds_same}
 use Rattle.plant_view.specs.{tables_of, IsWholeIn}
 use Rattle.plant_view.specs.Tables.{Tables}
 use Rattle.plant_invariant.specs.StateInvariant.{StateInvariant}
-use Rattle.plant_tables_read.specs.{AreLoaded, AreRising, contents_loaded, IsVersion, IsKnown, HasTablesOf, DeskRows, Loaded, rows_in, rows_listed}
-use Rattle.plant_tables_read.proofs.OneVersion.{one_version}
+use Rattle.plant_tables.specs.{AreLoaded, AreRising, contents_loaded, IsVersion, IsKnown, HasTablesOf, DeskRows, Loaded, rows_in, rows_listed}
+use Rattle.plant_tables.proofs.OneVersion.{one_version}
 use Rattle.plant_migrate.specs.{FailureLeavesAmid}
 use Rattle.plant_migrate.proofs.RaisingEnds.{raised_to_is}
 use Rattle.plant_migrate.proofs.NothingWritten.{at_still, keeps_itself}

@@ -11,7 +11,7 @@ use Rattle.plant_answers.proofs.PlainTables.{whole_in_newest}
 use Rattle.plant_invariant.proofs.StepPreservesInvariant.{opening_is_valid}
 use Rattle.sql_tables.specs.{AreFree, IsFree, KeepsOtherTables}
 use Rattle.plant_tables.specs.{desk_table_defs, later_table_defs, FindsOf, HoldsTablesOf}
-use Rattle.plant_tables_read.specs.{IsKnown}
+use Rattle.plant_tables.specs.{IsKnown}
 use Rattle.plant_desk_store.specs.{HoldsValidState, IsRaised, IsAdoptable, IsOpenedAfter, ValidIsAdoptedAgain, FindsStateOf}
 use Rattle.plant_desk_store.proofs.ValidIsAdoptedAgain.{not_free, one_reported, version_held}
 use Rattle.plant_desk_store.proofs.SchemaIsUnique.{one_schema}

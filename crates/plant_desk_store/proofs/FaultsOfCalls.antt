@@ -6,16 +6,16 @@ use lib.IntN.{negsuc}
 use Rattle.sqlite.specs.State as store
 use Rattle.sqlite.specs.State.{IsUnchanged}
 use Rattle.plant_base.specs.{newest_schema}
-use Rattle.plant_tables_read.specs.{IsVersion, IsKnown, FoundTables, Loaded}
-use Rattle.plant_tables_read.specs.declared.finding.FoundTables.TheVariants as tables
+use Rattle.plant_tables.specs.{IsVersion, IsKnown, FoundTables, Loaded}
+use Rattle.plant_tables.specs.declared.finding.FoundTables.TheVariants as tables
 use Rattle.plant_migrate.proofs.KnownVersion.{version_number}
 use Rattle.sql_tables.specs.{Fault}
 use Rattle.sql_tables.specs.declared.fault.Fault.TheVariants as below
 use Rattle.plant_view.specs.{ViewFault}
 use Rattle.plant_view.specs.declared.fault.ViewFault.TheVariants as view
 use Rattle.plant_check_rules.specs.declared.rule.Rule.TheVariants as rule
-use Rattle.plant_messages.specs.{DeskFault}
-use Rattle.plant_messages.specs.declared.reply.DeskFault.TheVariants.{Store, Shut}
+use Rattle.plant_questions.specs.{DeskFault}
+use Rattle.plant_questions.specs.declared.reply.DeskFault.TheVariants.{Store, Shut}
 use Rattle.plant_desk_store.specs.{desk_fault, looked_up, rows_to_test, rows_to_adopt, schema_found}
 use Rattle.plant_desk_store.specs.declared.adopting.AdoptFault.{AdoptFault}
 use Rattle.plant_desk_store.specs.declared.adopting.AdoptFault.TheVariants as fault

@@ -12,8 +12,8 @@ use Rattle.sql_tables.proofs.WritesInTurn.{others_then}
 use Rattle.plant_tables.specs.{desk_table_defs, IsAt, FindsTables, FailureLeaves}
 use Rattle.plant_base.specs.{Envelope, State}
 use Rattle.plant_desk.specs.{shuts}
-use Rattle.plant_messages.specs.{DeskFault, Reply}
-use Rattle.plant_messages.specs.declared.reply.DeskFault.TheVariants.{Store, Memory, Shut}
+use Rattle.plant_questions.specs.{DeskFault, Reply}
+use Rattle.plant_questions.specs.declared.reply.DeskFault.TheVariants.{Store, Memory, Shut}
 use Rattle.plant_rules.specs.{step}
 use Rattle.plant_desk_store.specs.{KeepsForeignTables, IsDurablyAt, HasForeignTables, Executed}
 use Rattle.plant_desk_store.proofs.SchemaIsUnique.{one_schema}

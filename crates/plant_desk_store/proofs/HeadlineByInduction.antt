@@ -13,16 +13,16 @@ use Rattle.plant_rules.specs.{step}
 use Rattle.plant_invariant.proofs.StepPreservesInvariant.{opening_is_valid}
 use Rattle.sql_tables.specs.{AreFree}
 use Rattle.plant_tables.specs.{desk_table_defs}
-use Rattle.plant_causes.specs.{Checked}
+use Rattle.plant_rules.specs.{Checked}
 use Rattle.plant_desk.specs.{States, Executes, Checks, Asks, shuts, reply, fold, replies}
-use Rattle.plant_messages.specs.{Answer, DeskFault, Question, Reply}
-use Rattle.plant_messages.specs.declared.reply.DeskFault.TheVariants.{Store, Memory, Shut}
+use Rattle.plant_questions.specs.{Answer, DeskFault, Question, Reply}
+use Rattle.plant_questions.specs.declared.reply.DeskFault.TheVariants.{Store, Memory, Shut}
 use Rattle.plant_desk_store.specs.{AdoptedFrom, Adopts, IsAdopted, IsRefusedBy, HasAdopted, HasRefused, IsAtState, IsFoundAt, IsKeptAt, IsSoAt, HasOpenableCrashState, IsAdoptable, IsOpenedAfter, Attempt, acknowledged, in_flight, PossibleOutcome, attempt_as, cut_off, StorePhase, opened, desk, refused, Execution, begun, found, adopted, unadopted, executed, ran, foretold, asked, verified, indexed, stopped, given_back, RunEnds, IsDurablyAt, Represents, HasCrashStates}
 use Rattle.plant_desk_store.specs.Headline.{Headline}
 use Rattle.plant_desk_store.specs.Executions.{IsOpened}
 use Rattle.plant_desk_store.specs.declared.adopting.AdoptFault.{AdoptFault}
 use Rattle.plant_desk_store.specs.declared.adopting.AdoptFault.TheVariants as fault
-use Rattle.plant_tables_read.proofs.OneVersion.{each_free, free_reports_nothing}
+use Rattle.plant_tables.proofs.OneVersion.{each_free, free_reports_nothing}
 use Rattle.plant_desk_store.proofs.ValidIsAdoptedAgain.{not_free, unrefused}
 use Rattle.plant_desk_store.proofs.AnswersFollowMovements.{answered}
 use Rattle.plant_desk_store.proofs.RunsPreserveInvariant.{accounted_valid}

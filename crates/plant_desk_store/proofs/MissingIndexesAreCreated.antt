@@ -9,7 +9,7 @@ use Rattle.plant_view.specs.{tables_of}
 use Rattle.sql_tables.specs.{Fault, Keeps}
 use Rattle.sql_tables.proofs.TransactionEnds.{IsStore}
 use Rattle.plant_tables.specs.{IsAt, AddsMissing, AreAllTaken, HasCreatedIndexes}
-use Rattle.plant_messages.specs.{DeskFault}
+use Rattle.plant_questions.specs.{DeskFault}
 use Rattle.plant_desk_store.specs.{HasIndexed, desk_fault, HasMended, HasCrashStates, IsDurablyAt}
 use Rattle.plant_desk_store.proofs.ForeignTablesKept.{others_kept, others_committed, others_cut, open_foreign_tables}
 use Rattle.plant_desk_store.proofs.ReadingKeepsState.{open_at, cut_at, left_still, still_open}

@@ -7,7 +7,7 @@ use Rattle.sqlite.specs.State.{HasCleanDisk, Survives}
 use Rattle.plant_base.specs.{newest_schema}
 use Rattle.sql_tables.specs.{Keeps, KeepsOtherTables}
 use Rattle.plant_tables.specs.{desk_table_defs}
-use Rattle.plant_tables_read.specs.{IsVersion}
+use Rattle.plant_tables.specs.{IsVersion}
 use Rattle.plant_desk_store.specs.{HoldsValidState, ShowsUnchanged, IsUnraised, NamesFirst}
 use Rattle.plant_desk_store.specs.declared.adopting.AdoptFault.{AdoptFault}
 use Rattle.plant_desk_store.specs.declared.adopting.AdoptFault.TheVariants as fault

@@ -6,7 +6,7 @@ use Rattle.sqlite.specs.State.{HasCleanDisk, IsUnchanged, Survives}
 use Rattle.sqlite.proofs.StateLemmas.{survives_then, survives_weaker}
 use Rattle.plant_base.specs.{State, newest_schema}
 use Rattle.sql_tables.proofs.TransactionEnds.{IsStore}
-use Rattle.plant_tables_read.specs.{IsKnown, DeskRows}
+use Rattle.plant_tables.specs.{IsKnown, DeskRows}
 use Rattle.plant_migrate.proofs.RaisingEnds.{raised_since}
 use Rattle.plant_desk_store.specs.{HoldsValidState, IsNewlyOpened, IsRaised, HasChecked, HasRaised, HasTaken, KeepsForeignTables}
 use Rattle.plant_desk_store.specs.declared.adopting.AdoptFault.{AdoptFault}

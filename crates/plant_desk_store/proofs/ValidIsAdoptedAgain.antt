@@ -19,8 +19,8 @@ use Rattle.plant_view.specs.{tables_of}
 use Rattle.sql_tables.specs.{TableDef, table_of, HasTable, HasStoredRows, AreFree, IsFree}
 use Rattle.plant_tables.specs.{desk_table_defs, meta_table, table_defs_of, later_table_defs, HoldsTablesOf}
 use Rattle.plant_invariant.specs.StateInvariant.{StateInvariant}
-use Rattle.plant_tables_read.specs.{IsVersion, IsKnown, HasTablesOf, AreLoaded}
-use Rattle.plant_tables_read.proofs.OneVersion.{one_version, each_free, free_reports_nothing}
+use Rattle.plant_tables.specs.{IsVersion, IsKnown, HasTablesOf, AreLoaded}
+use Rattle.plant_tables.proofs.OneVersion.{one_version, each_free, free_reports_nothing}
 use Rattle.plant_check_laws.proofs.InvariantImpliesChecksPass.{read_valid}
 use Rattle.plant_desk_store.specs.{HoldsValidState, IsRefusedBy, IsFirstBroken, IsAdoptable}
 use Rattle.plant_check_rules.specs.{Rule}

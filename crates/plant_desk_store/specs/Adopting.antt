@@ -11,7 +11,7 @@ use Rattle.sql_tables.specs.{AreFree, Keeps}
 pub use Rattle.sql_queries.specs.Opened.{IsNewlyOpened}
 pub use Rattle.plant_check_rules.specs.Damaged.{LacksTables, AreFirstBroken, IsFirstBroken, IsDamaged}
 use Rattle.plant_tables.specs.{desk_table_defs, later_table_defs, MakesDesk, IsAtOf, FindsTables, opening_tables, HoldsTablesOf}
-use Rattle.plant_tables_read.specs.{IsVersion, IsKnown, Loaded}
+use Rattle.plant_tables.specs.{IsVersion, IsKnown, Loaded}
 use Rattle.plant_migrate.specs.{IsBetween, FindsRisable}
 use Rattle.plant_check_rules.specs.{first_broken, Rule}
 use Rattle.plant_desk.specs.{States}

@@ -1,7 +1,7 @@
 -- The outcome of a test of all tables.
 use Rattle.std.specs.Prelude.{◌≡◌, ℕ, Option, Some, None, ⊤}
 use Rattle.sqlite.specs.Effect.{Database}
-use Rattle.plant_tables_read.specs.{AreLoaded, DeskRows, Loaded, Rows, rows_from, rows_listed}
+use Rattle.plant_tables.specs.{AreLoaded, DeskRows, Loaded, Rows, rows_from, rows_listed}
 use Rattle.plant_base.specs.{newest_schema}
 use Rattle.plant_check_rules.specs.{first_broken, first_broken_of, Rule}
 use Rattle.plant_desk_store.specs.declared.check_error.CheckError.{CheckError}

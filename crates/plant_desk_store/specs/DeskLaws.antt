@@ -8,7 +8,7 @@ use Rattle.plant_view.specs.{edges_of, Reaches, node_of, tables_of}
 use Rattle.sql_tables.specs.{AreFree, IsFree, KeepsOtherTables, HasStoredRows}
 use Rattle.plant_tables_columns.specs.{row_of_mark}
 use Rattle.plant_tables.specs.{desk_table_defs, later_table_defs, mark_table, HoldsTables}
-use Rattle.plant_tables_read.specs.{IsKnown}
+use Rattle.plant_tables.specs.{IsKnown}
 use Rattle.plant_desk_store.specs.Adopting.{HoldsValidState, IsAdopted, IsRefusedBy}
 use Rattle.plant_desk_store.specs.DeskStates.{FindsStateOf}
 use Rattle.plant_desk_store.specs.declared.adopting.AdoptFault.{AdoptFault}

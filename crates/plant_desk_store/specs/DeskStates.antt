@@ -12,8 +12,8 @@ use Rattle.plant_invariant.specs.StateInvariant.{StateInvariant}
 use Rattle.sql_tables.specs.{KeepsOtherTables}
 use Rattle.plant_tables.specs.{desk_table_defs, IsAt, HoldsTablesOf}
 use Rattle.plant_desk.specs.{States, reply}
-use Rattle.plant_messages.specs.{DeskFault, Reply}
-use Rattle.plant_messages.specs.declared.reply.DeskFault.TheVariants.{Store, Memory, Shut}
+use Rattle.plant_questions.specs.{DeskFault, Reply}
+use Rattle.plant_questions.specs.declared.reply.DeskFault.TheVariants.{Store, Memory, Shut}
 
 -- The state is valid, and the store, where it is open, shows its tables.
 pub record ShowsState (c : store.State) (s : State) : Type 0 where

@@ -11,10 +11,10 @@ use Rattle.sql_tables.specs.{AreFree}
 use Rattle.sql_queries.specs.{IsNewlyOpened}
 use Rattle.plant_tables.specs.{desk_table_defs}
 use Rattle.plant_check_rules.specs.{Rule}
-use Rattle.plant_causes.specs.{Checked}
+use Rattle.plant_rules.specs.{Checked}
 use Rattle.plant_desk.specs.{reply}
-use Rattle.plant_messages.specs.{Answer, DeskFault, Question, Reply}
-use Rattle.plant_messages.specs.declared.reply.DeskFault.TheVariants.{Store, Memory, Shut}
+use Rattle.plant_questions.specs.{Answer, DeskFault, Question, Reply}
+use Rattle.plant_questions.specs.declared.reply.DeskFault.TheVariants.{Store, Memory, Shut}
 use Rattle.plant_desk_store.specs.Calls.{HasAdopted, HasRefused, HasExecuted, HasForetold, HasAsked, HasRun, HasVerified, HasIndexed}
 use Rattle.plant_desk_store.specs.DeskLaws.{IsAdoptable}
 use Rattle.plant_desk_store.specs.declared.adopting.AdoptFault.{AdoptFault}

@@ -6,10 +6,10 @@ use Rattle.plant_base.specs.{newest_schema}
 use Rattle.plant_view.specs.{ViewFault}
 use Rattle.plant_view.specs.declared.fault.ViewFault.TheVariants as view
 use Rattle.plant_check_rules.specs.declared.rule.Rule.TheVariants as rule
-use Rattle.plant_tables_read.specs.{FoundTables, Loaded}
-use Rattle.plant_tables_read.specs.declared.finding.FoundTables.TheVariants as tables
-use Rattle.plant_messages.specs.{DeskFault}
-use Rattle.plant_messages.specs.declared.reply.DeskFault.TheVariants as desk
+use Rattle.plant_tables.specs.{FoundTables, Loaded}
+use Rattle.plant_tables.specs.declared.finding.FoundTables.TheVariants as tables
+use Rattle.plant_questions.specs.{DeskFault}
+use Rattle.plant_questions.specs.declared.reply.DeskFault.TheVariants as desk
 use Rattle.plant_desk_store.specs.declared.adopting.AdoptFault.{AdoptFault}
 use Rattle.plant_desk_store.specs.declared.adopting.AdoptFault.TheVariants as adopting
 

@@ -14,11 +14,11 @@ use Rattle.plant_view.specs.{edges_of, tables_of, IsWholeIn, place_of_row}
 use Rattle.plant_invariant.specs.StateInvariant.{StateInvariant}
 use Rattle.sql_tables.specs.{AreFree}
 use Rattle.plant_tables.specs.{desk_table_defs, HoldsTablesOf, HoldsTables}
-use Rattle.plant_causes.specs.{checked, Checked}
+use Rattle.plant_rules.specs.{checked, Checked}
 use Rattle.plant_answers.specs.{StandsFrom, standing_order, answer, missing}
-use Rattle.plant_messages.specs.{Answer, LotAnswer, Question, StandingLot}
-use Rattle.plant_messages.specs.declared.question.Question.TheVariants as Q
-use Rattle.plant_messages.specs.declared.question.Answer.TheVariants as A
+use Rattle.plant_questions.specs.{Answer, LotAnswer, Question, StandingLot}
+use Rattle.plant_questions.specs.declared.question.Question.TheVariants as Q
+use Rattle.plant_questions.specs.declared.question.Answer.TheVariants as A
 use Rattle.plant_desk_store.specs.Calls.{IsAccounted, HasRefused, HasForetold, HasAsked}
 use Rattle.plant_desk_store.specs.Executions.{Attempt, PossibleOutcome, IsOpened, StorePhase, opened, desk, refused, Execution}
 use Rattle.plant_desk_store.specs.declared.adopting.AdoptFault.{AdoptFault}

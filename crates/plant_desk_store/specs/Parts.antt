@@ -9,15 +9,15 @@ use Rattle.plant_view.specs.{PutsOneBatch, tables_of, changed_all, RowChange}
 use Rattle.plant_invariant.specs.StateInvariant.{StateInvariant}
 use Rattle.sql_tables.specs.{Keeps, AreFree, IsSettled}
 use Rattle.plant_tables.specs.{desk_table_defs, AreFresh, AddsMissing, AreAllTaken}
-use Rattle.plant_tables_read.specs.{IsKnown, IsVersion, rows_in, rows_listed, DeskRows}
+use Rattle.plant_tables.specs.{IsKnown, IsVersion, rows_in, rows_listed, DeskRows}
 use Rattle.plant_migrate.specs.{edges_from, IsRaisedBy}
 use Rattle.plant_check_rules.specs.{Rule}
 use Rattle.plant_answers.specs.{answer}
-use Rattle.plant_causes.specs.{checked, Checked}
+use Rattle.plant_rules.specs.{checked, Checked}
 use Rattle.plant_desk.specs.{writes_nothing}
-use Rattle.plant_messages.specs.{Answer, DeskFault, Question, Reply}
-use Rattle.plant_messages.specs.declared.reply.Reply.TheVariants.{Accepted}
-use Rattle.plant_messages.specs.declared.reply.DeskFault.TheVariants.{Store, Shut}
+use Rattle.plant_questions.specs.{Answer, DeskFault, Question, Reply}
+use Rattle.plant_questions.specs.declared.reply.Reply.TheVariants.{Accepted}
+use Rattle.plant_questions.specs.declared.reply.DeskFault.TheVariants.{Store, Shut}
 use Rattle.plant_desk_store.specs.Adopting.{IsNewlyOpened, HoldsValidState, IsRisingAt, IsRaised, ShowsUnchanged, NamesFirst, AreMade}
 use Rattle.plant_desk_store.specs.Lookups.{IsDecidedAt, IsRepeat}
 use Rattle.plant_desk_store.specs.DeskStates.{ShowsState, HasCrashStates, IsDurablyAt, Executed, KeepsForeignTables}

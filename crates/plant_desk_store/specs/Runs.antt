@@ -3,8 +3,8 @@ use Rattle.std.specs.Prelude.{◌≡◌, ◌⊎◌, ℕ, Bool, true, false, List
 use Rattle.plant_base.specs.{State, Envelope}
 use Rattle.plant_rules.specs.{step}
 use Rattle.plant_desk.specs.{States, fold, replies}
-use Rattle.plant_messages.specs.{DeskFault, Reply}
-use Rattle.plant_messages.specs.declared.reply.DeskFault.TheVariants.{Store, Memory, Shut}
+use Rattle.plant_questions.specs.{DeskFault, Reply}
+use Rattle.plant_questions.specs.declared.reply.DeskFault.TheVariants.{Store, Memory, Shut}
 
 -- how a run ended, after so many commands led to t: at a fault of the store the next command may have been made
 abbrev pub RunEnds : State → List Envelope → ℕ → States → (States → Type 0) → Bool → Option DeskFault → Type 0

@@ -6,7 +6,7 @@ ghost use Rattle.plant_desk_store.specs.Checks.{FailsChecksOf};
 
 use plant_check::check_rows;
 use plant_check_rules::Rule;
-use plant_tables_read::{DeskRows, Loaded, has_meta, take_rows};
+use plant_tables::{DeskRows, Loaded, has_meta, take_rows};
 use std::alloc::Global;
 
 /// Why loaded rows aren't those of a desk of a schema.

@@ -9,7 +9,7 @@ ghost use Rattle.plant_desk_store.specs.Parts.{HasCommitted, HasStepped, HasWrit
 
 use crate::lookups::{Decided, decide_on};
 use plant_base::Envelope;
-use plant_messages::{DeskFault, Reply};
+use plant_questions::{DeskFault, Reply};
 use plant_tables::commit_changes;
 use plant_view::{Decision, RowChange, RowParts};
 use sqlite::{Alter, Connection};

@@ -3,8 +3,8 @@
 ghost use Rattle.std.specs.Prelude.{◌≡◌};
 ghost use Rattle.plant_desk_store.specs.Faults as spec;
 
-use plant_messages::DeskFault;
-use plant_tables_read::Loaded;
+use plant_questions::DeskFault;
+use plant_tables::Loaded;
 use plant_view::ViewFault;
 use sql_tables::Fault;
 

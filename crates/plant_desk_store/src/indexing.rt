@@ -5,9 +5,8 @@ ghost use Rattle.sqlite.specs.Held.{state};
 ghost use Rattle.plant_desk_store.specs.Parts.{HasMended};
 
 use crate::faults::fault_of;
-use plant_messages::DeskFault;
-use plant_tables::commit_missing;
-use plant_tables_read::read_meta;
+use plant_questions::DeskFault;
+use plant_tables::{commit_missing, read_meta};
 use sqlite::{Alter, Connection};
 use std::alloc::Global;
 

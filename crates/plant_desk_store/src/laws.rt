@@ -12,9 +12,9 @@ ghost use Rattle.plant_desk_store.specs.Resent.{ExecutionsApplyInOrder, StoresAp
 
 use crate::stored::Desk;
 use plant_base::Envelope;
-use plant_causes::Checked;
 use plant_desk::Keeper;
-use plant_messages::{Answer, DeskFault, Question, Reply};
+use plant_questions::{Answer, DeskFault, Question, Reply};
+use plant_rules::Checked;
 use sqlite::Alter;
 
 /// The main theorem: stopped before or within any write, however often, reopening gives the tables of all acknowledged commands,

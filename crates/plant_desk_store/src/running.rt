@@ -3,12 +3,12 @@
 ghost use Rattle.std.specs.Prelude.{◌≡◌, ◌≢◌, ◌≤◌, [], false, true, Some, length};
 ghost use Rattle.plant_base.specs.{State};
 ghost use Rattle.plant_desk.specs.{IsSameDesk};
-ghost use Rattle.plant_messages.specs.declared.reply.DeskFault.TheVariants as fault;
+ghost use Rattle.plant_questions.specs.declared.reply.DeskFault.TheVariants as fault;
 ghost use Rattle.plant_desk_store.specs.Runs.{Ran};
 
 use plant_base::{Envelope, Items};
 use plant_desk::{Keeper, RunReport};
-use plant_messages::{DeskFault, Reply};
+use plant_questions::{DeskFault, Reply};
 use std::alloc::Global;
 
 /// Executes commands over an open keeper in order, up to the first fault. Room for the replies is taken first; where it

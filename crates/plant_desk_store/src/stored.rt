@@ -7,10 +7,10 @@ use crate::lookups::{answer_on, check_on};
 use crate::running::run_over;
 use crate::verifying::verify_on;
 use plant_base::{Envelope, Items};
-use plant_causes::Checked;
 use plant_check_rules::Rule;
 use plant_desk::{Keeper, RunReport};
-use plant_messages::{Answer, DeskFault, Question, Reply};
+use plant_questions::{Answer, DeskFault, Question, Reply};
+use plant_rules::Checked;
 use sqlite::{Alter, Connection};
 use std::alloc::Global;
 

@@ -9,8 +9,8 @@ use crate::check_error::{CheckError, check_desk};
 use crate::faults::rows_to_test;
 use plant_base::NEWEST_SCHEMA;
 use plant_check_rules::Rule;
-use plant_messages::DeskFault;
-use plant_tables_read::Loaded;
+use plant_questions::DeskFault;
+use plant_tables::Loaded;
 use sqlite::{Alter, Connection};
 use std::alloc::Global;
 

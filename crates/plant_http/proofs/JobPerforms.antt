@@ -2,15 +2,15 @@
 use Rattle.std.proofs.Common.{◌≡◌, ℕ, Bool, true, false, Result, Ok, Err, refl, sym, subst, ap, ◌∙◌, inl, inr}
 use Rattle.plant_base.specs.{State, Envelope}
 use Rattle.plant_desk.specs.{States, Executes, Asks, shuts}
-use Rattle.plant_messages.specs.{Answer as DeskAnswer, DeskFault, Question, Reply}
-use Rattle.plant_messages.specs.declared.reply.DeskFault.TheVariants.{Store, Memory, Shut}
+use Rattle.plant_questions.specs.{Answer as DeskAnswer, DeskFault, Question, Reply}
+use Rattle.plant_questions.specs.declared.reply.DeskFault.TheVariants.{Store, Memory, Shut}
 use Rattle.plant_text.specs.{RepresentsDurably, ChecksAs, check_when_shut}
 use Rattle.plant_text.proofs.RunCrashStates.{CrashStateIsOwn}
 use Rattle.plant_http_requests.specs.{is_of_body, Reads, Job}
-use Rattle.plant_http_routes.specs.{BodyFormat}
+use Rattle.plant_http_requests.specs.{BodyFormat}
 use Rattle.plant_http_requests.specs.declared.job.Job.TheVariants as J
-use Rattle.plant_text_commands.specs.{ToCheck}
-use Rattle.plant_text_commands.specs.declared.checks.ToCheck.TheVariants as to_check
+use Rattle.plant_json_in.specs.{ToCheck}
+use Rattle.plant_json_in.specs.declared.checks.ToCheck.TheVariants as to_check
 use Rattle.plant_text_checks.specs.{CheckAnswer}
 use Rattle.plant_http.specs.{Out, fault_out, reply_out, answer_out, check_out, shut_out, is_silent, rendered, Executed, Asked, Checked, Performs, OutWhenShut, DoneWhenShut}
 use Rattle.plant_http.specs.declared.answer.Answer.{Answer}

@@ -7,18 +7,18 @@ use Rattle.plant_base.specs.declared.refusal.Refusal.TheVariants.{BadForm}
 use Rattle.plant_orders.specs.{kind_name, CsvFault}
 use Rattle.plant_answers.specs.{answer}
 use Rattle.plant_desk.specs.{reply}
-use Rattle.plant_messages.specs.{Answer as DeskAnswer, BatchView, DeskFault, Reply}
-use Rattle.plant_messages.specs.declared.question.Answer.TheVariants as A
-use Rattle.plant_messages.specs.declared.reply.Reply.TheVariants.{Accepted, Refused}
-use Rattle.plant_messages.specs.declared.reply.DeskFault.TheVariants as fault
-use Rattle.plant_record.specs.{record_text}
+use Rattle.plant_questions.specs.{Answer as DeskAnswer, BatchView, DeskFault, Reply}
+use Rattle.plant_questions.specs.declared.question.Answer.TheVariants as A
+use Rattle.plant_questions.specs.declared.reply.Reply.TheVariants.{Accepted, Refused}
+use Rattle.plant_questions.specs.declared.reply.DeskFault.TheVariants as fault
+use Rattle.plant_text_answers.specs.{record_text}
 use Rattle.plant_text_answers.specs.{text_of_answer, reply_text, fault_text}
 use Rattle.plant_text_checks.specs.{check_text, check_answer, CheckAnswer}
 use Rattle.plant_text.specs.{check_when_shut}
 use Rattle.plant_http_requests.specs.{Allow, Job, Status}
-use Rattle.plant_http_routes.specs.{BodyFormat}
+use Rattle.plant_http_requests.specs.{BodyFormat}
 use Rattle.plant_http_requests.specs.declared.job.Job.TheVariants as J
-use Rattle.plant_http_routes.specs.declared.routes.BodyFormat.TheVariants.{Json, Record}
+use Rattle.plant_http_requests.specs.declared.routes.BodyFormat.TheVariants.{Json, Record}
 use Rattle.plant_http_requests.specs.declared.status.Status.TheVariants as st
 use Rattle.plant_http_requests.specs.declared.status.Allow.TheVariants.{Unsaid, Get, Post}
 use Rattle.plant_http.specs.declared.media.MediaType.{MediaType}

@@ -3,10 +3,10 @@ use Rattle.std.specs.Prelude.{◌≡◌, ℕ, ◌≤◌, Bool, true, false, List
 use Rattle.std.specs.Io.KnownBytes.{Appends, Keeps}
 use Rattle.plant_base.specs.{State}
 use Rattle.plant_desk.specs.{States}
-use Rattle.plant_messages.specs.{DeskFault}
-use Rattle.plant_messages.specs.declared.reply.DeskFault.TheVariants as fault
+use Rattle.plant_questions.specs.{DeskFault}
+use Rattle.plant_questions.specs.declared.reply.DeskFault.TheVariants as fault
 use Rattle.plant_text.specs.{RepresentsDurably, CrashStatesAtFault, Entry, nothing, command, question, check, after, CrashStatesOfFault, AppendsPrefix}
-use Rattle.plant_text_commands.specs.declared.checks.ToCheck.TheVariants as to_check
+use Rattle.plant_json_in.specs.declared.checks.ToCheck.TheVariants as to_check
 use Rattle.plant_http_requests.specs.{InputFault, Job, Profile, JobOf, is_of_body}
 use Rattle.plant_http_requests.specs.declared.reading.InputFault.TheVariants as input
 use Rattle.plant_http_requests.specs.declared.job.Job.TheVariants as J

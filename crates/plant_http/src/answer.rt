@@ -10,12 +10,11 @@ use crate::media::{MediaType, media_of};
 use crate::room::{Room, csv_text, status_text};
 use desk_page::page_bytes;
 use plant_base::Refusal;
-use plant_http_requests::{Allow, Status};
-use plant_http_routes::BodyFormat;
-use plant_messages::{Answer as DeskAnswer, DeskFault, Reply};
+use plant_http_requests::{Allow, BodyFormat, Status};
 use plant_orders::CsvFault;
-use plant_record::record;
+use plant_questions::{Answer as DeskAnswer, DeskFault, Reply};
 use plant_text::{CheckAnswer, ReplyText, answer_text, check_text, fault_line, reply_line};
+use plant_text_answers::record;
 use std::alloc::{AllocError, Global};
 
 /// The body of an answer. Only a long one takes memory, which is taken before anything is written.

@@ -3,7 +3,7 @@ ghost use Rattle.std.specs.Prelude.{◌≡◌, ◌≤◌, length};
 ghost use Rattle.plant_http.specs.Answers.{media_of, type_of, policy_bytes};
 
 use desk_page::policy_text;
-use plant_http_routes::BodyFormat;
+use plant_http_requests::BodyFormat;
 
 /// What the bytes of an answer's body are (RFC 9110, section 8.3.1).
 #[derive(Clone, Copy, Debug, PartialEq, Eq)]

@@ -12,9 +12,8 @@ use crate::answer::{
 };
 use plant_base::{Envelope, Refusal};
 use plant_desk::Keeper;
-use plant_http_requests::Job;
-use plant_http_routes::BodyFormat;
-use plant_messages::{Answer as DeskAnswer, DeskFault, Question, Reply};
+use plant_http_requests::{BodyFormat, Job};
+use plant_questions::{Answer as DeskAnswer, DeskFault, Question, Reply};
 use plant_text::{CheckAnswer, ToCheck, answer_check};
 use std::alloc::Global;
 

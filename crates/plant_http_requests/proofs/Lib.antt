@@ -1,3 +1,6 @@
+pub mod RoutesInTurn
+pub mod PathParts
+pub mod KnownPaths
 pub mod HeadEnds
 pub mod Schemes
 pub mod BodyIsOfInput

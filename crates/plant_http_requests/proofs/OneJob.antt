@@ -9,7 +9,7 @@ use Rattle.httparse.proofs.GrammarLemmas.{request_unique}
 use Rattle.plant_base.specs.{Envelope, OrderRow}
 use Rattle.plant_orders.specs.{FailsAs, CsvFault, CsvKind, ImportMetadata}
 use Rattle.plant_orders.specs.declared.fault.CsvKind.TheVariants as csv
-use Rattle.plant_messages.specs.{Question}
+use Rattle.plant_questions.specs.{Question}
 use Rattle.plant_text.specs.{asked_by, asked_of, checked_by, kind_at, Line, line_says, kind_around, object_says, text_checked, value_in, value_says}
 use Rattle.plant_text.specs.declared.LineFault.{LineFault}
 use Rattle.plant_text.specs.declared.read.Line.TheVariants as L
@@ -17,14 +17,14 @@ use Rattle.plant_text.specs.declared.LineFault.TheVariants as line
 use Rattle.plant_http_requests.specs.declared.reading.HeadEnd.{HeadEnd}
 use Rattle.plant_http_requests.specs.declared.reading.HeadEnd.TheVariants as end
 use Rattle.plant_http_requests.specs.{end_of_head, field_lines, Parsed, fails, command_job, command_of, file_job, fault_job_of, body_job, is_of_body, Reads, EndJob, JobOf, parsed_step, finish}
-use Rattle.plant_message_schema.specs.{Around, AskedKind, Field, NodeKind, fields_of, node_in, question_in, FormatError, ShapeError, ◌>>=◌, object}
-use Rattle.plant_message_schema.specs.declared.format_errors.FormatError.TheVariants as format_error
-use Rattle.plant_message_schema.specs.declared.format_errors.ShapeError.TheVariants as shape_error
-use Rattle.plant_message_schema.specs.declared.members.Member.TheVariants as m
-use Rattle.plant_message_schema.specs.declared.question_tables.AskedKind.TheVariants as asked
-use Rattle.plant_message_schema.specs.declared.question_tables.QuestionKind.TheVariants as q
-use Rattle.plant_text_commands.specs.{check_of, checked_as, command_among, command_of as command_of_value, ToCheck}
-use Rattle.plant_text_commands.specs.declared.checks.ToCheck.TheVariants as to_check
+use Rattle.plant_json_in.specs.{Around, AskedKind, Field, NodeKind, fields_of, node_in, question_in, FormatError, ShapeError, ◌>>=◌, object}
+use Rattle.plant_json_in.specs.declared.format_errors.FormatError.TheVariants as format_error
+use Rattle.plant_json_in.specs.declared.format_errors.ShapeError.TheVariants as shape_error
+use Rattle.plant_json_in.specs.declared.members.Member.TheVariants as m
+use Rattle.plant_json_in.specs.declared.question_tables.AskedKind.TheVariants as asked
+use Rattle.plant_json_in.specs.declared.question_tables.QuestionKind.TheVariants as q
+use Rattle.plant_json_in.specs.{check_of, checked_as, command_among, command_of as command_of_value, ToCheck}
+use Rattle.plant_json_in.specs.declared.checks.ToCheck.TheVariants as to_check
 use Rattle.plant_http_requests.specs.declared.job.Content.TheVariants as content
 use Rattle.plant_http_requests.specs.declared.job.Job.{Job}
 use Rattle.plant_http_requests.specs.declared.job.Job.TheVariants as J

@@ -1,7 +1,7 @@
 -- The laws of jobs.
 use Rattle.std.specs.Prelude.{◌≡◌, ◌↔◌, ℕ, List, Option}
 use Rattle.plant_base.specs.{Envelope}
-use Rattle.plant_text_commands.specs.declared.checks.ToCheck.TheVariants as to_check
+use Rattle.plant_json_in.specs.declared.checks.ToCheck.TheVariants as to_check
 use Rattle.plant_http_requests.specs.Jobs.{JobOf, body_job}
 use Rattle.plant_http_requests.specs.declared.job.Content.TheVariants as content
 use Rattle.plant_http_requests.specs.declared.job.Job.{Job}

@@ -1,3 +1,5 @@
+pub mod RouteTable
+pub mod Routes
 pub mod HeadEnd
 pub mod PieceReading
 pub mod Fields
@@ -7,6 +9,11 @@ pub mod Heads
 pub mod Steps
 pub mod Jobs
 pub mod Law
+pub use Routes.{first_part, second_part, target_of}
+unfoldable pub use Routes.{found_in}
+pub use declared.routes.BodyFormat.{BodyFormat}
+pub use declared.routes.Post.{Post}
+pub use declared.routes.Target.{Target}
 pub use HeadEnd.{blank_length, end_where, or_else}
 unfoldable pub use HeadEnd.{end_of_head, head_length}
 pub use PieceReading.{Agrees, FindsHead, GoesOn, SpentAll}

@@ -1,9 +1,12 @@
 -- What the head of a request decides.
 use Rattle.std.specs.Prelude.{ℕ, Bool, false, ◌||◌, List, codes, bytes_eq, Option, Some, None, Result, Ok, Err, if◌then◌else◌}
-use Rattle.plant_messages.specs.{Question}
-use Rattle.plant_http_routes.specs.{target_of, BodyFormat, Post, Target}
-use Rattle.plant_http_routes.specs.declared.routes.Post.TheVariants as post
-use Rattle.plant_http_routes.specs.declared.routes.Target.TheVariants as target
+use Rattle.plant_questions.specs.{Question}
+use Rattle.plant_http_requests.specs.Routes.{target_of}
+use Rattle.plant_http_requests.specs.declared.routes.BodyFormat.{BodyFormat}
+use Rattle.plant_http_requests.specs.declared.routes.Post.{Post}
+use Rattle.plant_http_requests.specs.declared.routes.Target.{Target}
+use Rattle.plant_http_requests.specs.declared.routes.Post.TheVariants as post
+use Rattle.plant_http_requests.specs.declared.routes.Target.TheVariants as target
 use Rattle.plant_http_requests.specs.Fields.{Fields, import_metadata_in}
 use Rattle.plant_http_requests.specs.Framing.{framing}
 use Rattle.plant_http_requests.specs.declared.job.Job.{Job}

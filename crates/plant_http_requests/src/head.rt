@@ -4,10 +4,10 @@ ghost use Rattle.plant_http_requests.specs.Jobs.{StepOf};
 use crate::job::HeadStep;
 use crate::parse::{MOST_FIELDS, has_too_many_fields, parse_head};
 use crate::profile::Profile;
+use crate::routes::Routes;
 use crate::status::Status;
 use crate::steps::{fails, request_step};
 use httparse::spans::EMPTY_HEADER_SPAN;
-use plant_http_routes::Routes;
 
 /// What a head decides: 431 for more than 32 lines of fields, 400 where it isn't one head of HTTP/1.1, else what its parts ask
 /// for.

@@ -1,8 +1,8 @@
+use crate::routes::BodyFormat;
 use crate::status::{Allow, Status};
 use plant_base::Envelope;
-use plant_http_routes::BodyFormat;
-use plant_messages::Question;
 use plant_orders::{CsvFault, ImportMetadata};
+use plant_questions::Question;
 use plant_text::ToCheck;
 
 /// What a request asks for. `silent` where the answer's body is left out, as to a HEAD.

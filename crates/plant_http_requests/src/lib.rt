@@ -1,3 +1,4 @@
+//! The routes of the desk's HTTP server: which path asks for what.
 //! What a request of HTTP/1.1 (RFC 9112) asks of the desk, judged from its bytes before the desk is asked anything.
 #![tactic(auto)]
 
@@ -10,9 +11,12 @@ mod job;
 mod law;
 mod origins;
 mod parse;
+mod path;
 mod profile;
 mod read;
 mod reading;
+mod route_table;
+mod routes;
 mod status;
 mod steps;
 
@@ -22,4 +26,5 @@ pub use law::{check_law, job_law};
 pub use profile::Profile;
 pub use read::{MOST_READS, read_job};
 pub use reading::{HeadEnd, InputFault, LONGEST_HEAD, read_head, read_to};
+pub use routes::{BodyFormat, Post, Routes, RoutesFault, Target};
 pub use status::{Allow, Status};

@@ -8,10 +8,10 @@ use crate::bodies::body_job;
 use crate::head::step_of_head;
 use crate::job::{HeadStep, Job};
 use crate::profile::Profile;
+use crate::routes::Routes;
 use crate::status::Status;
 use crate::steps::refusal_of;
 use crate::{HeadEnd, InputFault, read_head, read_to};
-use plant_http_routes::Routes;
 use std::alloc::Global;
 use std::io::Read;
 

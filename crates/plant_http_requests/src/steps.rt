@@ -10,11 +10,11 @@ use crate::fields::import_metadata_in;
 use crate::framing::framing;
 use crate::job::{Content, HeadStep, Job};
 use crate::profile::Profile;
+use crate::routes::{BodyFormat, Post, Routes, Target};
 use crate::status::{Allow, Status};
 use http::Method;
 use httparse::spans::{HeaderSpan, RequestSpans};
-use plant_http_routes::{BodyFormat, Post, Routes, Target};
-use plant_messages::Question;
+use plant_questions::Question;
 
 /// The job of a request that is answered by a status alone; no methods are named.
 pub(crate) fn refusal_of(status: Status, silent: bool) -> Job

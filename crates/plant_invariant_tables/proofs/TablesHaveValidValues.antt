@@ -20,7 +20,7 @@ use Rattle.plant_invariant.proofs.KeptColumns.{columns}
 use Rattle.plant_invariant.proofs.ListsThatGrow.{all_append, all_swap, all_passing}
 use Rattle.plant_invariant_tables.proofs.RowsInKeyOrder.{keyed}
 use Rattle.plant_tables_columns.specs.{is_in, greatest_number, HasRecipeValues, IsLineNumber, HasMasterLineValues, HasBatchRowValues, HasControlLineValues, HasEventRowValues, HasSublotValues, HasKindRowValues, HasMovementRowValues, HasEdgeValues, HasReceiptRowValues, HasMarkValues, HasValidValues}
-use Rattle.plant_tables_read.specs.{IsKnown, AreInOrder}
+use Rattle.plant_tables.specs.{IsKnown, AreInOrder}
 
 -- ---- order
 

@@ -11,7 +11,7 @@ use Rattle.plant_view.proofs.MappedContains.{mapped_in}
 use Rattle.plant_trace.proofs.SortedNodes.{Lists-same}
 use Rattle.plant_trace.specs.{node_cmp, node_total, IsNext, Lists, turned, Direction, Node}
 use Rattle.plant_trace.specs.declared.direction.Direction.TheVariants.{Forward, Back}
-use Rattle.plant_worklists.proofs.RowsOfLot.{below_lt, below_le}
+use Rattle.plant_questions.proofs.RowsOfLot.{below_lt, below_le}
 use Rattle.plant_keyed.specs.{Ascend, AreTurned, HasEdgesAt}
 use Rattle.plant_keyed.proofs.EdgesAtNode.{mapped_of, row_pair, pair_row}
 use Rattle.plant_view.specs.{edge_rows, edges_among, ends_of}

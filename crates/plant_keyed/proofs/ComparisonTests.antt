@@ -8,11 +8,11 @@ use Rattle.sqlite_value.proofs.OrderLemmas.{value_cmp-Text, value_cmp-Int}
 use Rattle.plant_base.specs.{same, Movement, MovementKind}
 use Rattle.plant_base.specs.declared.rows.MovementKind.TheVariants as kind
 use Rattle.plant_view.specs.{batch_by, is_named, is_scrap}
-use Rattle.plant_worklists.specs.{other_lot}
+use Rattle.plant_questions.specs.{other_lot}
 use Rattle.sql_queries.specs.{has_values}
 use Rattle.plant_tables_columns.specs.{other_lot as column_lot, number, null_or, row_of_movement}
 use Rattle.plant_tables.proofs.KeyTies.{and_true}
-use Rattle.plant_tables_read.proofs.SortedRowsAreUnique.{int_cmp_pos}
+use Rattle.plant_tables.proofs.SortedRowsAreUnique.{int_cmp_pos}
 use Rattle.std.proofs.Math.Bool.{and-true, and_comm}
 
 pub text_is : (a b : List ℕ) → is_eq (value_cmp (Text a) (Text b)) ≡ same a b

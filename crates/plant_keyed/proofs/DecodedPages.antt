@@ -5,7 +5,7 @@ use Rattle.sqlite.specs.Order.{Row}
 use Rattle.sql_tables.specs.{TableDef, Fault}
 use Rattle.sql_queries.specs.{IsPage, Page as StoredPage}
 use Rattle.plant_tables_columns.specs.{all_from}
-use Rattle.plant_worklists.specs.{page_size, Page}
+use Rattle.plant_questions.specs.{page_size, Page}
 use Rattle.plant_keyed.specs.{IsPaged}
 
 pub paged_by : {R : Type 0} (row_from : Row → Option R) (db : Database) (t : TableDef) (by places : List ℕ) (next : ℕ) (values : Row) (r : Result StoredPage Fault) (q : Result (Page R) Fault)

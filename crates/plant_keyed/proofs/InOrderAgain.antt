@@ -11,8 +11,8 @@ use Rattle.std.proofs.lemmas.List.Sorted.{IsPermutation-refl, IsPermutation-tran
 use Rattle.sqlite_trees.proofs.ListLemmas.{IsPermutation-filter, all-permutation}
 use Rattle.plant_base.specs.{put}
 use Rattle.plant_view.proofs.ListLemmas.{sorted_put, all_weaker}
-use Rattle.plant_tables_read.proofs.SortedRowsAreUnique.{same_sorted}
-use Rattle.plant_worklists.specs.{in_order}
+use Rattle.plant_tables.proofs.SortedRowsAreUnique.{same_sorted}
+use Rattle.plant_questions.specs.{in_order}
 
 module _ {R : Type 0} (order : R → R → Ordering) (total : IsTotalOrder order) where
   abbrev ties : R → R → Bool

@@ -21,12 +21,12 @@ use Rattle.sql_queries.specs.{is_beyond, stored_order}
 use Rattle.plant_tables.proofs.RowChangeIsTableChange.{all_filter}
 use Rattle.plant_tables_columns.specs.{all_from}
 use Rattle.plant_tables_columns.proofs.OptionalValues.{some_same}
-use Rattle.plant_tables_read.proofs.SortedRowsAreUnique.{sorted_keys}
-use Rattle.plant_tables_read.proofs.AllRowsDecoded.{map_same, all_again}
-use Rattle.plant_worklists.specs.{in_order, page_size, page_of, Page}
+use Rattle.plant_tables.proofs.SortedRowsAreUnique.{sorted_keys}
+use Rattle.plant_tables.proofs.AllRowsDecoded.{map_same, all_again}
+use Rattle.plant_questions.specs.{in_order, page_size, page_of, Page}
 use Rattle.plant_keyed.specs.{IsPaged}
 use Rattle.plant_keyed.proofs.InOrderAgain.{IsOnce, again_in_order, kept_in_order, ordered}
-use Rattle.plant_worklists.proofs.FoundRows.{of_mapped, take_mapped}
+use Rattle.plant_questions.proofs.FoundRows.{of_mapped, take_mapped}
 
 stored_total : (places : List ℕ) → IsTotalOrder (stored_order places)
 stored_total [] = record { antisymm = λ a b. refl; trans = λ a b c less more. less; congr = λ a b c same. refl }

@@ -21,10 +21,10 @@ use Rattle.plant_tables.specs.{class_table, definition_table, job_table, batch_t
 use Rattle.plant_tables_columns.specs.{number, flag, recall_state_name, RecallState, HasJobValues, HasBatchRowValues, HasReceiptRowValues, HasSublotValues, HasValidValues, row_of_class, row_of_definition, row_of_job, row_of_batch, row_of_lot, row_of_hold, row_of_receipt, row_of_recall, row_of_sublot, class_from, definition_from, job_from, batch_from, lot_from, hold_from, receipt_from, recall_read, sublot_from}
 use Rattle.plant_tables_columns.specs.declared.recalls.RecallState.TheVariants as state
 use Rattle.plant_tables_columns.proofs.RowLaws.{class_reads, definition_reads, job_reads, batch_reads, lot_reads, hold_reads, receipt_again, sublot_reads}
-use Rattle.plant_tables_read.proofs.SortedRowsAreUnique.{int_cmp_pos}
+use Rattle.plant_tables.proofs.SortedRowsAreUnique.{int_cmp_pos}
 use Rattle.plant_invariant_tables.proofs.TablesHaveValidValues.{in_order, valid_values, newest_known}
 use Rattle.sql_queries.specs.{is_beyond, first_of}
-use Rattle.plant_worklists.specs.{page_size, page_of, text_after, is_after, is_order_in, orders_in, agree, is_batch_in, batches_in, is_lot_of, lots_of, is_hold_on, holds_on, is_recall_in, recalls_in, classes_after, is_definition_in, definitions_in, lots_after, sublots_after, holds_after, number_after, number_order, is_number_after, receipts_by_number, Page}
+use Rattle.plant_questions.specs.{page_size, page_of, text_after, is_after, is_order_in, orders_in, agree, is_batch_in, batches_in, is_lot_of, lots_of, is_hold_on, holds_on, is_recall_in, recalls_in, classes_after, is_definition_in, definitions_in, lots_after, sublots_after, holds_after, number_after, number_order, is_number_after, receipts_by_number, Page}
 use Rattle.plant_keyed.specs.{IsPaged}
 use Rattle.plant_keyed.proofs.InOrderAgain.{AreApart as ArePlacesApart, apart_once}
 use Rattle.plant_keyed.proofs.PageIsFirstRows.{page_again, page_in_order}

@@ -24,8 +24,8 @@ use Rattle.plant_tables.specs.{recipe_table, movement_table, job_table, HoldsTab
 use Rattle.plant_tables_columns.specs.{other_lot, number, HasRecipeValues, HasMovementRowValues, HasJobValues, HasValidValues, row_of_recipe, row_of_movement, row_of_job, recipe_from, movement_read, job_from}
 use Rattle.plant_tables_columns.proofs.RowLaws.{recipe_reads, job_reads}
 use Rattle.plant_invariant_tables.proofs.TablesHaveValidValues.{in_order, valid_values, newest_known}
-use Rattle.plant_worklists.specs.{page_size, page_of, recipe_after, recipes_in, movement_after, is_movement_after, lot_made, is_in_ledger, ledger_of, due_after, due_order, orders_by_due, Cursor, Page, in_order as as_sorted}
-use Rattle.plant_worklists.proofs.MergedLists.{merged_filters}
+use Rattle.plant_questions.specs.{page_size, page_of, recipe_after, recipes_in, movement_after, is_movement_after, lot_made, is_in_ledger, ledger_of, due_after, due_order, orders_by_due, Cursor, Page, in_order as as_sorted}
+use Rattle.plant_questions.proofs.MergedLists.{merged_filters}
 use Rattle.plant_keyed.specs.{IsOfBoth, IsPagedBeyond}
 use Rattle.plant_keyed.proofs.InOrderAgain.{IsOnce, kept_in_order, once_by_key, ordered}
 use Rattle.plant_keyed.proofs.PagesFind.{by_number, by_text_number, by_two_texts, number_cmp}

@@ -15,7 +15,7 @@ use Rattle.sql_tables.specs.{TableDef, columns_of}
 use Rattle.plant_tables.specs.DeskTableDefs.{meta_table, class_table, definition_table, recipe_table, recipe_line_table, job_table, batch_table, control_line_table, batch_event_table, lot_table, sublot_table, movement_table, hold_table, receipt_table, recall_table}
 use Rattle.plant_tables_columns.specs.TableColumns.{only_meta, class_from, definition_from, recipe_from, master_line_from, job_from, batch_from, control_line_from, batch_event_from, lot_from, sublot_from, movement_read, hold_from, receipt_from, recall_read}
 -- ---- end of the declarations and how rows are read
-use Rattle.plant_worklists.specs.{in_order}
+use Rattle.plant_questions.specs.{in_order}
 
 abbrev pub rows_under : Database → TableDef → Option Table → List Row
 rows_under db table_def None = []

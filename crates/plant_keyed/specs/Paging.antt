@@ -8,7 +8,7 @@ use Rattle.sqlite.specs.declared.types.Value.{Value}
 use Rattle.sql_tables.specs.{TableDef}
 use Rattle.sql_queries.specs.{IsPage}
 use Rattle.plant_tables_columns.specs.{all_from, number}
-use Rattle.plant_worklists.specs.{page_size, page_of, Page}
+use Rattle.plant_questions.specs.{page_size, page_of, Page}
 
 -- These rows of the desk were read of a page of the table's rows, in the order of the columns with these indexes.
 pub record IsPaged (db : Database) (table_def : TableDef) (by : List ℕ) {R : Type 0} (row_from : Row → Option R) (places : List ℕ) (next : ℕ) (values : Row) (page : Page R) : Type 0 where

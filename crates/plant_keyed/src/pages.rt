@@ -11,16 +11,16 @@ ghost use Rattle.sqlite_value.specs.Value.{owned};
 ghost use Rattle.sql_queries.specs.{AnswersUnchanged, BeginsNone, KeepsVisible, SelectsPage};
 ghost use Rattle.sql_queries.specs.{AreBounds, first_of};
 ghost use Rattle.plant_tables_columns.specs.{all_from, number};
-ghost use Rattle.plant_worklists.specs.{page_size, text_after};
+ghost use Rattle.plant_questions.specs.{page_size, text_after};
 ghost use Rattle.plant_keyed.specs.LookupOutcomes.{PreservesFrame, IsReported};
 ghost use Rattle.plant_keyed.specs.Paging.{IsPaged, IsPagedBeyond};
 
 use crate::faults::if_memory;
 use crate::keyed::Keyed;
 use plant_base::{Id, Items};
+use plant_questions::{HasKeyOrder, PAGE_SIZE, Page, merge_pages, text_after};
 use plant_tables_columns::storing::{small, word};
 use plant_tables_columns::{Decoded, decode_all};
-use plant_worklists::{HasKeyOrder, PAGE_SIZE, Page, merge_pages, text_after};
 use sql_queries::{find_page, first_key};
 use sql_tables::{Fault, TableDef};
 use sqlite::types::ValueRef;

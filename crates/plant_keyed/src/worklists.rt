@@ -10,15 +10,15 @@ use plant_base::{
     BatchRow, Class, Definition, Due, Hold, Id, Job, JobState, Lot, Movement, Recall, Receipt,
     Recipe, RecipeState, Sublot,
 };
+use plant_questions::{
+    Cursor, Page, Worklists, due_text_after, merge_pages, movement_after, order_text_after,
+    recipe_text_after, version_after,
+};
 use plant_tables::table_defs::{
     BATCH, CLASS, DEFINITION, HOLD, JOB, LOT, MOVEMENT, RECALL, RECEIPT, RECIPE, SUBLOT,
 };
 use plant_tables_columns::RecallState;
 use plant_tables_columns::storing::{id as text_of, large, small, truth, word};
-use plant_worklists::{
-    Cursor, Page, Worklists, due_text_after, merge_pages, movement_after, order_text_after,
-    recipe_text_after, version_after,
-};
 use sql_queries::first_key;
 use sql_tables::Fault;
 use sqlite::Alter;

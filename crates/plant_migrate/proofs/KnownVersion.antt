@@ -19,8 +19,8 @@ use Rattle.sql_tables.specs.{Keeps, HasStoredRows, KeepsOtherTables, IsSettled}
 use Rattle.sql_tables.proofs.TransactionEnds.{IsStore}
 use Rattle.plant_tables.specs.{desk_table_defs, meta_table, HoldsTablesOf, IsAtOf}
 use Rattle.plant_tables_columns.specs.{row_of_meta}
-use Rattle.plant_tables_read.specs.{Loads, IsVersion}
-use Rattle.plant_tables_read.proofs.AllRowsDecoded.{loaded_rows}
+use Rattle.plant_tables.specs.{Loads, IsVersion}
+use Rattle.plant_tables.proofs.AllRowsDecoded.{loaded_rows}
 use Rattle.plant_migrate.specs.{IsReadable, FailureLeavesAmid, IsRaisedFrom, IsRaisedTo, HasKnownVersion, raised_to}
 use Rattle.plant_migrate.proofs.RaisingEnds.{raised_to_is}
 use Rattle.plant_migrate.proofs.RowsBeforeRaising.{from_since}

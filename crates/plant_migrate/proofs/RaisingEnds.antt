@@ -11,7 +11,7 @@ use Rattle.plant_view.specs.{tables_of, IsWholeIn, position_of, RowChange}
 use Rattle.sql_tables.specs.{AreFree, KeepsOtherTables, IsSettled}
 use Rattle.plant_tables.specs.{desk_table_defs, later_table_defs, HoldsTablesOf, AreKeyed, IsAtOf, FindsOf}
 use Rattle.plant_tables.proofs.RaisedSchema.{lacks_later}
-use Rattle.plant_tables_read.specs.{Rows, rows_in, rows_listed, DeskRows}
+use Rattle.plant_tables.specs.{Rows, rows_in, rows_listed, DeskRows}
 use Rattle.plant_migrate.specs.{edges_from, raised_by, IsRisable, FailureLeavesWithin, FindsRisable, IsRaisedBy, FailureLeavesAmid, raised_to}
 use Rattle.plant_migrate.proofs.ChangesOfState.{bookings, state_raised}
 

@@ -13,9 +13,9 @@ use Rattle.plant_tables.specs.{desk_table_defs, meta_table, IsAtOf}
 use Rattle.plant_tables.proofs.RaisedSchema.{lacks_later}
 use Rattle.plant_tables_columns.specs.{only_meta, row_of_meta}
 use Rattle.plant_tables_columns.proofs.RowLaws.{meta_reads}
-use Rattle.plant_tables_read.specs.{AreLoaded, Loads, DeskRows, Loaded, rows_from, rows_in, rows_listed}
-use Rattle.plant_tables_read.proofs.RowsReadBack.{read_again}
-use Rattle.plant_tables_read.proofs.AllRowsDecoded.{loaded_rows}
+use Rattle.plant_tables.specs.{AreLoaded, Loads, DeskRows, Loaded, rows_from, rows_in, rows_listed}
+use Rattle.plant_tables.proofs.RowsReadBack.{read_again}
+use Rattle.plant_tables.proofs.AllRowsDecoded.{loaded_rows}
 use Rattle.plant_migrate.specs.{edges_from, IsRaisedBy, IsReadable, FailureLeavesAmid, IsRead, IsRaisedFrom}
 use Rattle.plant_migrate.proofs.RaisingEnds.{raised_since}
 use Rattle.plant_migrate.proofs.NothingWritten.{amid_since}

@@ -8,7 +8,7 @@ use Rattle.plant_view.specs.Tables.{Tables}
 use Rattle.sql_tables.specs.{KeepsOtherTables, IsSettled, Fault}
 use Rattle.sql_tables.specs.declared.fault.Fault.TheVariants as fault
 use Rattle.plant_tables.specs.{desk_table_defs, IsAtOf, AreKeyed}
-use Rattle.plant_tables_read.specs.{rows_in, rows_listed, DeskRows, IsVersion}
+use Rattle.plant_tables.specs.{rows_in, rows_listed, DeskRows, IsVersion}
 use Rattle.plant_migrate.specs.Raised.{raised_by}
 use Rattle.plant_migrate.specs.FailureLeaves.{IsReadable, FailureLeavesAmid, HasKnownVersion, raised_to}
 use Rattle.plant_migrate.specs.Steps.{IsRisable, FailureLeavesWithin}

@@ -9,7 +9,7 @@ use Rattle.plant_view.specs.{tables_of, IsWholeIn}
 use Rattle.sql_tables.specs.{KeepsOtherTables}
 use Rattle.plant_tables.specs.{desk_table_defs, meta_table, IsAtOf, FindsOf}
 use Rattle.plant_tables_columns.specs.{HasValidValues, only_meta, BookedRow}
-use Rattle.plant_tables_read.specs.{AreInOrder, Rows, rows_from, AreLoaded, Loads, IsVersion, IsKnown, Loaded}
+use Rattle.plant_tables.specs.{AreInOrder, Rows, rows_from, AreLoaded, Loads, IsVersion, IsKnown, Loaded}
 use Rattle.plant_migrate.specs.Raised.{edges_from}
 use Rattle.plant_migrate.specs.Steps.{IsRaisedBy}
 

@@ -6,7 +6,7 @@ ghost use Rattle.plant_migrate.specs.Raised.{edge_booked, edge_change, edges_fro
 ghost use Rattle.plant_migrate.specs.Raised.{AreEdges};
 
 use plant_base::{EdgeRow, MovementKind};
-use plant_tables_read::BookedRow;
+use plant_tables::BookedRow;
 use plant_view::{RowChange, RowParts, edge_row};
 use sql_tables::Fault;
 use std::alloc::{AllocError, Global};

@@ -13,7 +13,7 @@ ghost use Rattle.plant_migrate.specs.FailureLeaves.{IsRaisedFrom, IsRaisedTo};
 use crate::rows::raise_rows;
 use crate::steps::raise_by;
 use plant_base::NEWEST_SCHEMA;
-use plant_tables_read::{FoundTables, Loaded, found, only_meta, read_meta, rows_of};
+use plant_tables::{FoundTables, Loaded, found, only_meta, read_meta, rows_of};
 use sql_tables::Fault;
 use sqlite::{Alter, Connection};
 use std::alloc::Global;

@@ -10,7 +10,7 @@ ghost use Rattle.plant_migrate.specs.Steps.{IsRaisedBy};
 
 use crate::changes::edges_from;
 use crate::steps::raise_by;
-use plant_tables_read::DeskRows;
+use plant_tables::DeskRows;
 use sql_tables::Fault;
 use sqlite::{Alter, Connection};
 use std::alloc::Global;

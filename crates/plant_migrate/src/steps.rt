@@ -14,9 +14,8 @@ ghost use Rattle.plant_migrate.specs.Steps.{IsRisable, IsRaisedOnce, IsRaisedBy}
 
 use crate::changes::added_rows;
 use plant_base::Position;
-use plant_tables::commit_raising;
 use plant_tables::table_defs::{desk_table_defs, tables_in};
-use plant_tables_read::lacks_counts;
+use plant_tables::{commit_raising, lacks_counts};
 use plant_view::RowChange;
 use sql_queries::all_free;
 use sql_tables::Fault;

@@ -7,3 +7,15 @@ pub mod WritingEnds
 pub mod OpeningTables
 pub mod RaisedSchema
 pub mod MissingIndexes
+pub mod FirstTablesRead
+pub mod LoadedIsStored
+pub mod SchemaParts
+pub mod TextsSelectAll
+pub mod OneVersion
+pub mod SortedRowsAreUnique
+pub mod KeysOfColumns
+pub mod AllRowsDecoded
+pub mod RowsReadBack
+pub mod RowsRepresentTables
+pub mod TablesOfRows
+pub mod MovementsFirst

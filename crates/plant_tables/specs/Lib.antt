@@ -7,6 +7,12 @@ pub mod PutStatements
 pub mod Schemas
 pub mod Calls
 pub mod Missing
+pub mod Loading
+pub mod Readings
+pub mod Version
+pub mod LoadingCalls
+pub mod Collecting
+pub mod ReadingLaws
 pub use DeskTableDefs.{batch_event_table, batch_table, class_table, control_line_table, definition_table, desk_table_defs, hold_table, job_table, later_table_defs, lot_table, mark_table, meta_table, movement_table, recall_table, receipt_table, recipe_line_table, recipe_table, sublot_table, table_defs_of}
 pub use DeskIndexes.{added_indexes, desk_indexes, fourth_indexes, indexes_of, second_indexes}
 pub use DeskTables.{all_rows_changed, contents_of, rows_of}
@@ -16,3 +22,11 @@ pub use DeskCrashStates.{FailureLeaves, FailureLeavesOf, FindsOf, FindsTables, I
 pub use PutStatements.{OnlyAdds}
 pub use Schemas.{AreRisable, IsOlder, RaisesTables, raising}
 pub use Missing.{AddsMissing, AreAllTaken, CreateLacking, CreatesIndexes, CreatesMissingIndexes, HasCreatedIndexes, is_missing, lacking, missing_in}
+pub use Loading.{AreLoaded, AreRising, HasOthers, Loads, contents_loaded}
+pub use Readings.{SelectsAll}
+pub use Version.{HasTablesOf, IsKnown, IsValidMeta, IsVersion, row_of}
+pub use Collecting.{AreInOrder, AreWhole, Rows, rows_in, tables_in}
+unfoldable pub use Collecting.{rows_beside, rows_from, rows_listed}
+pub use declared.desk_rows.DeskRows.{DeskRows}
+pub use declared.finding.FoundTables.{FoundTables}
+pub use declared.loaded.Loaded.{Loaded}

@@ -3,10 +3,10 @@ use Rattle.std.proofs.Common.{◌≡◌, ◌∙◌, Bool, true, false, Option, S
 use Rattle.std.proofs.lemmas.Bool.{false≢true}
 use Rattle.plant_base.specs.{State, Envelope}
 use Rattle.plant_rules.specs.{is_whole, wrong}
-use Rattle.plant_causes.specs.{checked, Checked}
-use Rattle.plant_causes.specs.declared.checking.Checked.TheVariants.{Accepted, Refused}
-use Rattle.plant_command_errors.specs.{command_error_of, CommandError}
-use Rattle.plant_command_errors.proofs.NoErrorIfWhole.{reported_unless_whole}
+use Rattle.plant_rules.specs.{checked, Checked}
+use Rattle.plant_rules.specs.declared.checking.Checked.TheVariants.{Accepted, Refused}
+use Rattle.plant_text_checks.specs.{command_error_of, CommandError}
+use Rattle.plant_text_checks.proofs.NoErrorIfWhole.{reported_unless_whole}
 use Rattle.plant_desk.specs.{refusal_told, refusal_foretold, reply}
 use Rattle.plant_desk.proofs.ChecksForetell.{checks_foretell}
 use Rattle.plant_text_checks.specs.{answer_by}

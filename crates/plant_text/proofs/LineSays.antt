@@ -8,17 +8,17 @@ use Rattle.std.specs.Result.{result_ok}
 use Rattle.serde_json.specs.Data.{Data}
 use Rattle.serde_json.specs.Find.{get}
 use Rattle.serde_json.specs.Read.{read}
-use Rattle.plant_message_schema.specs.{Around, AskedKind, Fault, FormatError, NodeKind, ◌>>=◌, Reports, IsReported, is_reported, format_error_is_reported, fields_of, node_in, question_in}
-use Rattle.plant_message_schema.specs.declared.members.Member.TheVariants as m
-use Rattle.plant_message_schema.specs.declared.question_tables.AskedKind.TheVariants as asked
-use Rattle.plant_message_schema.specs.declared.question_tables.QuestionKind.TheVariants as q
-use Rattle.plant_message_schema.specs.declared.format_errors.ShapeError.TheVariants as shape_error
-use Rattle.plant_message_schema.specs.declared.format_errors.FormatError.TheVariants as format_error
-use Rattle.plant_message_schema.specs.declared.format_errors.Fault.TheVariants as fault
-use Rattle.plant_message_schema.proofs.FieldsAreTyped.{Good, valid_bind, valid_map, good_object, only_fails, ask_fails}
-use Rattle.plant_message_schema.proofs.QuestionsAreReported.{question_good}
-use Rattle.plant_text_commands.specs.{check_of, checked_in}
-use Rattle.plant_text_commands.proofs.ChecksAreTyped.{check_valid}
+use Rattle.plant_json_in.specs.{Around, AskedKind, Fault, FormatError, NodeKind, ◌>>=◌, Reports, IsReported, is_reported, format_error_is_reported, fields_of, node_in, question_in}
+use Rattle.plant_json_in.specs.declared.members.Member.TheVariants as m
+use Rattle.plant_json_in.specs.declared.question_tables.AskedKind.TheVariants as asked
+use Rattle.plant_json_in.specs.declared.question_tables.QuestionKind.TheVariants as q
+use Rattle.plant_json_in.specs.declared.format_errors.ShapeError.TheVariants as shape_error
+use Rattle.plant_json_in.specs.declared.format_errors.FormatError.TheVariants as format_error
+use Rattle.plant_json_in.specs.declared.format_errors.Fault.TheVariants as fault
+use Rattle.plant_json_in.proofs.FieldsAreTyped.{Good, valid_bind, valid_map, good_object, only_fails, ask_fails}
+use Rattle.plant_json_in.proofs.QuestionsAreReported.{question_good}
+use Rattle.plant_json_in.specs.{check_of, checked_in}
+use Rattle.plant_json_in.proofs.ChecksAreTyped.{check_valid}
 use Rattle.plant_text.specs.{kind_at, asked_by, asked_of, value_says, checked_by, IsProblemOf, longest_line, kind_around, or_no_json, line_says, line_of, text_checked, value_in}
 use Rattle.plant_text.specs.declared.read.Line.{Line}
 use Rattle.plant_text.specs.declared.read.Line.TheVariants as L

@@ -2,8 +2,8 @@
 use Rattle.std.proofs.Common.{◌≡◌, ℕ, List, Bool, false, Option, inl, inr}
 use Rattle.plant_base.specs.{State}
 use Rattle.plant_desk.specs.{States}
-use Rattle.plant_messages.specs.{DeskFault}
-use Rattle.plant_messages.specs.declared.reply.DeskFault.TheVariants.{Store, Memory, Shut}
+use Rattle.plant_questions.specs.{DeskFault}
+use Rattle.plant_questions.specs.declared.reply.DeskFault.TheVariants.{Store, Memory, Shut}
 use Rattle.plant_text.specs.{Entry, nothing, bad, command, question, check, after, fold, CrashStatesOfFault, StopsAt, RunStopped, StoppedAmong, EndsWithin, CrashStatesAtFault, CrashStatesAtStop, CrashStatesAfterSome, CrashStatesAmong, CrashStatesOfRun}
 use Rattle.plant_text.specs.declared.run.RunEnd.{RunEnd}
 use Rattle.plant_text.specs.declared.run.RunEnd.TheVariants as E

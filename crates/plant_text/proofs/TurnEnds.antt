@@ -6,15 +6,15 @@ use Rattle.plant_text.proofs.KnownBytes.{Appends-nil}
 use Rattle.plant_text.proofs.LineSays.{line_long}
 use Rattle.plant_base.specs.{State, Envelope}
 use Rattle.plant_desk.specs.{States, Executes, Asks, shuts}
-use Rattle.plant_messages.specs.{Answer, DeskFault, Question}
-use Rattle.plant_messages.specs.declared.reply.DeskFault.TheVariants.{Store, Memory, Shut}
+use Rattle.plant_questions.specs.{Answer, DeskFault, Question}
+use Rattle.plant_questions.specs.declared.reply.DeskFault.TheVariants.{Store, Memory, Shut}
 use Rattle.plant_text.specs.{longest_line, line_of, ChecksAs, Entry, nothing, bad, command, question, check, entry_of, entry_where, entry_text, after, is_unknown, CrashStatesOfFault, StopsAt, with_lf, AppendsPrefix, TurnEnds, FaultWritten, AnswerWritten, BadWritten}
 use Rattle.plant_text_answers.specs.{fault_text, text_of_answer}
 use Rattle.plant_text.specs.declared.read.Line.{Line}
 use Rattle.plant_text.specs.declared.turns.TurnError.{TurnError}
 use Rattle.plant_text.specs.declared.turns.TurnError.TheVariants as S
 use Rattle.plant_text_checks.specs.{check_text, CheckAnswer}
-use Rattle.plant_text_commands.specs.{ToCheck}
+use Rattle.plant_json_in.specs.{ToCheck}
 
 pub stops_by_fault : (k : ℕ) (s : State) (e : Entry) (old new : Option (List ℕ)) (represents : States) (shut : Bool) (crash_states : States → Type 0) (f : DeskFault) (stop : TurnError)
     → FaultWritten f old new stop → CrashStatesOfFault f s e represents shut crash_states → StopsAt k s e old new represents shut crash_states stop

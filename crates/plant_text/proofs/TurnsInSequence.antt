@@ -5,7 +5,7 @@ use Rattle.plant_base.specs.{State}
 use Rattle.plant_desk.specs.{States}
 use Rattle.plant_text.specs.declared.turns.TurnError.{TurnError}
 use Rattle.plant_text.specs.{entry_of, Entry, entry_text, after, is_refused, texts, fold, some_refused, AreAnswered, StopsAt, RunStopped, TurnEnds, FaultWritten, held_after, entries_after}
-use Rattle.plant_messages.specs.declared.reply.DeskFault.TheVariants.{Memory}
+use Rattle.plant_questions.specs.declared.reply.DeskFault.TheVariants.{Memory}
 use Rattle.plant_text.proofs.KnownBytes.{Appends-nil, Appends-append}
 use Rattle.plant_text.proofs.HeldLine.{each-append}
 use Rattle.plant_text.proofs.TurnEnds.{stops_by_fault}

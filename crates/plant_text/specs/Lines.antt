@@ -5,15 +5,15 @@ use Rattle.std.specs.Str.{is_utf8}
 use Rattle.serde_json.specs.Data.{Data}
 use Rattle.serde_json.specs.Find.{get, as_object, as_str}
 use Rattle.serde_json.specs.Read.{read}
-use Rattle.plant_message_schema.specs.declared.format_errors.ShapeError.TheVariants as shape_error
-use Rattle.plant_message_schema.specs.{Around, AskedKind, Fault, FormatError, NodeKind, QuestionKind, asked_kind, fields_of, node_in, question_in, ◌>>=◌, object}
-use Rattle.plant_message_schema.specs.declared.format_errors.Fault.TheVariants as fault
-use Rattle.plant_message_schema.specs.declared.format_errors.FormatError.TheVariants as format_error
-use Rattle.plant_message_schema.specs.declared.members.Member.TheVariants as m
-use Rattle.plant_message_schema.specs.declared.question_tables.AskedKind.TheVariants as asked
-use Rattle.plant_message_schema.specs.declared.question_tables.QuestionKind.TheVariants as q
-use Rattle.plant_text_commands.specs.{check_of, checked_in, command_of, ToCheck}
-use Rattle.plant_text_commands.specs.declared.checks.ToCheck.TheVariants as to_check
+use Rattle.plant_json_in.specs.declared.format_errors.ShapeError.TheVariants as shape_error
+use Rattle.plant_json_in.specs.{Around, AskedKind, Fault, FormatError, NodeKind, QuestionKind, asked_kind, fields_of, node_in, question_in, ◌>>=◌, object}
+use Rattle.plant_json_in.specs.declared.format_errors.Fault.TheVariants as fault
+use Rattle.plant_json_in.specs.declared.format_errors.FormatError.TheVariants as format_error
+use Rattle.plant_json_in.specs.declared.members.Member.TheVariants as m
+use Rattle.plant_json_in.specs.declared.question_tables.AskedKind.TheVariants as asked
+use Rattle.plant_json_in.specs.declared.question_tables.QuestionKind.TheVariants as q
+use Rattle.plant_json_in.specs.{check_of, checked_in, command_of, ToCheck}
+use Rattle.plant_json_in.specs.declared.checks.ToCheck.TheVariants as to_check
 use Rattle.plant_text.specs.declared.read.Line.{Line}
 use Rattle.plant_text.specs.declared.read.Line.TheVariants as L
 

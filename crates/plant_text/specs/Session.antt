@@ -7,14 +7,14 @@ use Rattle.plant_base.specs.declared.refusal.Refusal.TheVariants.{BadForm}
 use Rattle.plant_rules.specs.{step}
 use Rattle.plant_desk.specs.{reply, States}
 use Rattle.plant_answers.specs.{answer}
-use Rattle.plant_messages.specs.{Answer, DeskFault, Question, Reply}
-use Rattle.plant_messages.specs.declared.question.Answer.TheVariants as A
-use Rattle.plant_messages.specs.declared.reply.Reply.TheVariants.{Accepted, Refused}
-use Rattle.plant_messages.specs.declared.reply.DeskFault.TheVariants.{Store, Memory, Shut}
+use Rattle.plant_questions.specs.{Answer, DeskFault, Question, Reply}
+use Rattle.plant_questions.specs.declared.question.Answer.TheVariants as A
+use Rattle.plant_questions.specs.declared.reply.Reply.TheVariants.{Accepted, Refused}
+use Rattle.plant_questions.specs.declared.reply.DeskFault.TheVariants.{Store, Memory, Shut}
 use Rattle.plant_text.specs.Lines.{line_of}
 use Rattle.plant_text_answers.specs.{reply_text, fault_text, text_of_answer}
 use Rattle.plant_text_checks.specs.{check_text, check_answer}
-use Rattle.plant_text_commands.specs.{ToCheck}
+use Rattle.plant_json_in.specs.{ToCheck}
 use Rattle.plant_text.specs.Checks.{IsCommand}
 use Rattle.plant_text.specs.Writes.{with_lf, AppendsPrefix}
 use Rattle.plant_text.specs.declared.read.Line.{Line}

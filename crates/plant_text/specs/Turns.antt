@@ -4,9 +4,9 @@ use Rattle.std.specs.Io.KnownBytes.{Appends}
 use Rattle.plant_base.specs.{State}
 use Rattle.plant_base.specs.declared.refusal.Refusal.TheVariants.{BadForm}
 use Rattle.plant_desk.specs.{States}
-use Rattle.plant_messages.specs.declared.reply.Reply.TheVariants.{Refused}
-use Rattle.plant_messages.specs.{DeskFault}
-use Rattle.plant_messages.specs.declared.reply.DeskFault.TheVariants.{Memory}
+use Rattle.plant_questions.specs.declared.reply.Reply.TheVariants.{Refused}
+use Rattle.plant_questions.specs.{DeskFault}
+use Rattle.plant_questions.specs.declared.reply.DeskFault.TheVariants.{Memory}
 use Rattle.plant_text_answers.specs.{reply_text, fault_text}
 use Rattle.plant_text.specs.Writes.{with_lf, AppendsPrefix}
 use Rattle.plant_text.specs.Session.{Entry, entry_text, after, is_refused, AreAnswered, StopsAt, RunStopped}

@@ -4,11 +4,10 @@ ghost use Rattle.plant_base.specs.{State};
 ghost use Rattle.plant_desk.specs.{IsSameDesk};
 ghost use Rattle.plant_text.specs.Checks.{ChecksAs, AnswersForetell, check_when_shut};
 
-use plant_command_errors::Reason;
 use plant_desk::Keeper;
-use plant_messages::DeskFault;
-use plant_text_checks::{CheckAnswer, command_answer};
-use plant_text_commands::ToCheck;
+use plant_json_in::ToCheck;
+use plant_questions::DeskFault;
+use plant_text_checks::{CheckAnswer, Reason, command_answer};
 
 /// Answers what would become of what is to be checked. A keeper is asked only of a command. Its state stays as it is, and an open keeper stays
 /// open; a stop leaves no more than it left before.

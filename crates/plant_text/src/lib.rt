@@ -9,12 +9,10 @@ mod turns;
 mod writes;
 
 pub use checks::{answer_check, foretelling_law};
-pub use plant_message_schema::{Fault, FormatError, LineFault};
+pub use plant_json_in::{Fault, FormatError, LineFault, ToCheck};
 pub use plant_orders::{CsvFault, CsvKind, read_orders};
-pub use plant_record::record;
-pub use plant_text_answers::{ReplyText, answer_text, fault_line, reply_line};
+pub use plant_text_answers::{ReplyText, answer_text, fault_line, record, reply_line};
 pub use plant_text_checks::{CheckAnswer, check_text};
-pub use plant_text_commands::ToCheck;
 pub use read::{Line, read_line, read_line_or_error, read_to_check};
 pub use run::{RunEnd, run_lines, run_lines_within};
 pub use turns::{TurnError, is_unknown, take_command, write_fault};

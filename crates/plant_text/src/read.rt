@@ -4,19 +4,18 @@ ghost use Rattle.std.specs.Prelude.{IfErr, IsErrOf};
 ghost use Rattle.serde_json.specs.Data.{Data};
 ghost use Rattle.serde_json.specs.Errors.{IsMemory};
 ghost use Rattle.serde_json.specs.View.{view};
-ghost use Rattle.plant_message_schema.specs.{FormatError as Problem, IsReported, Reports};
-ghost use Rattle.plant_message_schema.specs.declared.format_errors.FormatError.TheVariants as format_error;
+ghost use Rattle.plant_json_in.specs.{FormatError as Problem, IsReported, Reports};
+ghost use Rattle.plant_json_in.specs.declared.format_errors.FormatError.TheVariants as format_error;
 ghost use Rattle.plant_text.specs.Lines.{longest_line, kind_at, asked_of, object_says, value_says};
 ghost use Rattle.plant_text.specs.Lines.{IsProblemOf, checked_by, line_says, line_of};
 ghost use Rattle.plant_text.specs.Lines.{question_asked, question_kind, text_checked, value_in};
 
 use plant_base::Envelope;
-use plant_message_schema::{
-    AskedKind, Fault, FormatError, LineFault, Member, QuestionKind, ShapeError, asked_kind,
-    fields_of, node_in, question_of,
+use plant_json_in::{
+    AskedKind, Fault, FormatError, LineFault, Member, QuestionKind, ShapeError, ToCheck,
+    asked_kind, check_of, command_of, fields_of, node_in, question_of, to_check_of,
 };
-use plant_messages::Question;
-use plant_text_commands::{ToCheck, check_of, command_of, to_check_of};
+use plant_questions::Question;
 use serde_json::Value;
 use std::alloc::Global;
 

@@ -11,7 +11,7 @@ ghost use Rattle.plant_text.specs.HeldLines.{held_with, held_after, entries_afte
 
 use crate::turns::{TurnError, take_line, write_fault};
 use plant_desk::Keeper;
-use plant_messages::DeskFault;
+use plant_questions::DeskFault;
 use std::alloc::Global;
 use std::io::{Read, Write};
 

@@ -6,14 +6,14 @@ use Rattle.serde_json.specs.View.{items_of, view}
 use Rattle.serde_json.specs.Written.{has_float, items_have_float, compact_text}
 use Rattle.plant_base.specs.{Lifting, Movement, Recall, RecipeLine}
 use Rattle.plant_view.specs.{batch_by, ends_of}
-use Rattle.plant_messages.specs.{BatchLines, BatchView, BookedEdge, BookedLine, Booking, CommandHead, Genealogy, Listed, LotAnswer, NodeAnswer, OpenBatch, OrderAnswer, RecallAnswer, RecipeAnswer, StandingLot}
-use Rattle.plant_messages.specs.declared.genealogy.NodeAnswer.TheVariants as known
-use Rattle.plant_messages.specs.declared.listed.Listed.TheVariants as listed
+use Rattle.plant_questions.specs.{BatchLines, BatchView, BookedEdge, BookedLine, Booking, CommandHead, Genealogy, Listed, LotAnswer, NodeAnswer, OpenBatch, OrderAnswer, RecallAnswer, RecipeAnswer, StandingLot}
+use Rattle.plant_questions.specs.declared.genealogy.NodeAnswer.TheVariants as known
+use Rattle.plant_questions.specs.declared.listed.Listed.TheVariants as listed
 use Rattle.plant_base.specs.declared.rows.RecipeLine.TheVariants as line
 use Rattle.plant_text_answers.specs.{booking_data, batch_data, recall_data, node_item, edge_item, genealogy_data, node_data, trace_data, order_data, lot_data, standing_data, stands_data, order_item, batch_item, lot_item, hold_item, all_holds_item, recall_item, lifting_or_null, lifted_item, command_data, command_item, class_item, definition_item, recipe_item, movement_item, other_sub, listed_data, id_or_null, unit_or_null, number_or_null, sublot_data, recipe_line_data, recipe_line_item, booked_line_data, booked_line_item, recipe_data, batch_lines_data}
 use Rattle.plant_trace.specs.{Node}
 use Rattle.plant_trace.specs.declared.node.Node.TheVariants.{Lot, Batch}
-use Rattle.plant_worklists.specs.{other_lot}
+use Rattle.plant_questions.specs.{other_lot}
 use Rattle.std.proofs.lemmas.Result.{IfOk-weaker}
 
 -- the text of a value that shows this

@@ -1,1 +1,2 @@
 pub mod AnswersHaveNoFloats
+mod PaddedNumbers

@@ -3,8 +3,8 @@ use Rattle.std.specs.Prelude.{ℕ, List, codes}
 use Rattle.serde_json.specs.Data.{Data, string, object, member, no_members}
 use Rattle.serde_json.specs.Written.{compact_text}
 use Rattle.plant_base.specs.{job_state_name}
-use Rattle.plant_messages.specs.{Answer, OrderAnswer}
-use Rattle.plant_messages.specs.declared.question.Answer.TheVariants as A
+use Rattle.plant_questions.specs.{Answer, OrderAnswer}
+use Rattle.plant_questions.specs.declared.question.Answer.TheVariants as A
 use Rattle.plant_text_answers.specs.BatchAnswers.{batch_data}
 use Rattle.plant_text_answers.specs.EdgeAnswers.{genealogy_data}
 use Rattle.plant_text_answers.specs.ListAnswers.{listed_data}

@@ -3,7 +3,7 @@ use Rattle.std.specs.Prelude.{Bool, true, false, if◌then◌else◌, List, map,
 use Rattle.serde_json.specs.Data.{Data, Items, boolean, string, array, object, member, no_members}
 use Rattle.serde_json.specs.View.{items_of}
 use Rattle.plant_base.specs.{batch_state_name}
-use Rattle.plant_messages.specs.{BatchView, Booking, phases_in}
+use Rattle.plant_questions.specs.{BatchView, Booking, phases_in}
 use Rattle.plant_text_answers.specs.Natural.{natural}
 
 -- what a batch took, with the sublot

@@ -3,8 +3,8 @@ use Rattle.std.specs.Prelude.{ℕ, List, codes}
 use Rattle.serde_json.specs.Data.{Data, boolean, string, object, member, no_members}
 use Rattle.plant_trace.specs.declared.node.Node.TheVariants.{Batch}
 use Rattle.plant_view.specs.{ends_of}
-use Rattle.plant_messages.specs.{BookedEdge, Genealogy, LotNode, NodeAnswer}
-use Rattle.plant_messages.specs.declared.genealogy.NodeAnswer.TheVariants as known
+use Rattle.plant_questions.specs.{BookedEdge, Genealogy, LotNode, NodeAnswer}
+use Rattle.plant_questions.specs.declared.genealogy.NodeAnswer.TheVariants as known
 use Rattle.plant_text_answers.specs.ListAnswers.{rows_data}
 use Rattle.plant_text_answers.specs.Natural.{natural}
 use Rattle.plant_text_answers.specs.TraceAnswers.{node_data}

@@ -9,6 +9,7 @@ pub mod RecallAnswers
 pub mod RecipeAnswers
 pub mod Replies
 pub mod TraceAnswers
+pub mod Record
 pub use Answers.{order_data}
 unfoldable pub use Answers.{text_of_answer}
 pub use BatchAnswers.{batch_data, booking_data}
@@ -21,3 +22,5 @@ pub use RecallAnswers.{recall_data}
 pub use RecipeAnswers.{batch_lines_data, booked_line_data, booked_line_item, recipe_data, recipe_line_data, recipe_line_item}
 unfoldable pub use Replies.{fault_text, reply_text}
 pub use TraceAnswers.{node_data, trace_data}
+pub use Record.{consumed_text, control_text, event_text, produced_text, section}
+unfoldable pub use Record.{record_text, right_in}

@@ -5,9 +5,9 @@ use Rattle.serde_json.specs.View.{items_of}
 use Rattle.plant_base.specs.{batch_state_name, Class, Definition, Hold, Job, Lifting, Movement, MovementKind, Recall, Recipe}
 use Rattle.plant_base.specs.declared.rows.MovementKind.TheVariants as kind
 use Rattle.plant_view.specs.{batch_by}
-use Rattle.plant_worklists.specs.{other_lot, Page}
-use Rattle.plant_messages.specs.{BookedCommand, CommandHead, Listed, LotPage, OpenBatch, StandingLot}
-use Rattle.plant_messages.specs.declared.listed.Listed.TheVariants as listed
+use Rattle.plant_questions.specs.{other_lot, Page}
+use Rattle.plant_questions.specs.{BookedCommand, CommandHead, Listed, LotPage, OpenBatch, StandingLot}
+use Rattle.plant_questions.specs.declared.listed.Listed.TheVariants as listed
 use Rattle.plant_text_answers.specs.Natural.{natural}
 use Rattle.plant_text_answers.specs.Parts.{id_or_null, number_or_null, sublots_data}
 

@@ -2,7 +2,7 @@
 use Rattle.std.specs.Prelude.{List, map, codes}
 use Rattle.serde_json.specs.Data.{Data, boolean, string, array, object, member, no_members}
 use Rattle.serde_json.specs.View.{items_of}
-use Rattle.plant_messages.specs.{LotAnswer, StandingLot}
+use Rattle.plant_questions.specs.{LotAnswer, StandingLot}
 use Rattle.plant_text_answers.specs.Natural.{natural}
 use Rattle.plant_text_answers.specs.Parts.{sublots_data}
 

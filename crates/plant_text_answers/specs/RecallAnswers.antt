@@ -1,7 +1,7 @@
 -- The JSON trees of answers about recalls.
 use Rattle.std.specs.Prelude.{ℕ, Bool, List, codes, if◌then◌else◌}
 use Rattle.serde_json.specs.Data.{Data, string, array, object, member, no_members}
-use Rattle.plant_messages.specs.{RecallAnswer}
+use Rattle.plant_questions.specs.{RecallAnswer}
 use Rattle.plant_text_answers.specs.TraceAnswers.{nodes_data}
 
 abbrev pub state_name : Bool → List ℕ

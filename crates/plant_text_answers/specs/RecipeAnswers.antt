@@ -3,7 +3,7 @@ use Rattle.std.specs.Prelude.{ℕ, List, Option, codes}
 use Rattle.serde_json.specs.Data.{Data, string, object, member, no_members}
 use Rattle.plant_base.specs.{recipe_state_name, Definition, RecipeLine}
 use Rattle.plant_base.specs.declared.rows.RecipeLine.TheVariants as line
-use Rattle.plant_messages.specs.{BatchLines, BookedLine, RecipeAnswer, RecipeLineAnswer}
+use Rattle.plant_questions.specs.{BatchLines, BookedLine, RecipeAnswer, RecipeLineAnswer}
 use Rattle.plant_text_answers.specs.ListAnswers.{rows_data}
 use Rattle.plant_text_answers.specs.Natural.{natural}
 use Rattle.plant_text_answers.specs.Parts.{unit_or_null}

@@ -1,8 +1,8 @@
 -- The texts of replies and faults: JSON with no blanks, the members by the bytes of their names.
 use Rattle.std.specs.Prelude.{ℕ, List, ◌++◌, codes, decimal}
 use Rattle.plant_base.specs.{number_of, name_of, Refusal}
-use Rattle.plant_messages.specs.{fault_number, DeskFault, Reply}
-use Rattle.plant_messages.specs.declared.reply.Reply.TheVariants.{Accepted, Refused}
+use Rattle.plant_questions.specs.{fault_number, DeskFault, Reply}
+use Rattle.plant_questions.specs.declared.reply.Reply.TheVariants.{Accepted, Refused}
 
 abbrev pub accepted_text : ℕ → List ℕ
 accepted_text seq = codes "{\"ok\":" ++ decimal seq ++ codes "}"

@@ -14,7 +14,7 @@ use crate::recipe_answers::{batch_lines_value, definition_value, recipe_value};
 use crate::replies::refusal_line;
 use crate::trace_answers::trace_value;
 use plant_base::Moment;
-use plant_messages::{Answer, OrderAnswer};
+use plant_questions::{Answer, OrderAnswer};
 use serde_json::{Value, json};
 use std::alloc::{AllocError, Global};
 

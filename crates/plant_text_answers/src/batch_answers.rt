@@ -5,7 +5,7 @@ ghost use Rattle.serde_json.specs.View.{view};
 ghost use Rattle.plant_text_answers.specs.BatchAnswers.{consumed_data, produced_data, booking_data};
 ghost use Rattle.plant_text_answers.specs.BatchAnswers.{bookings_data, batch_data};
 
-use plant_messages::{BatchView, Booking, phases_in};
+use plant_questions::{BatchView, Booking, phases_in};
 use serde_json::{Value, json};
 use std::alloc::{AllocError, Global};
 

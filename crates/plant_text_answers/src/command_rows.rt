@@ -2,7 +2,7 @@
 ghost use Rattle.plant_text_answers.specs.ListAnswers.{command_item};
 
 use crate::listed_rows::Shown;
-use plant_messages::BookedCommand;
+use plant_questions::BookedCommand;
 use serde_json::{Value, json};
 use std::alloc::{AllocError, Global};
 

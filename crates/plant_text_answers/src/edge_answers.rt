@@ -6,7 +6,7 @@ ghost use Rattle.plant_text_answers.specs.EdgeAnswers.{node_item};
 
 use crate::list_answers::rows_value;
 use crate::listed_rows::Shown;
-use plant_messages::{BookedEdge, Genealogy, LotNode, NodeAnswer};
+use plant_questions::{BookedEdge, Genealogy, LotNode, NodeAnswer};
 use plant_trace::Node;
 use plant_view::ends;
 use serde_json::{Value, json};

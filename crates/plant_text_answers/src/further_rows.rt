@@ -6,7 +6,7 @@ ghost use Rattle.plant_text_answers.specs.ListAnswers.{lifting_data, lifting_or_
 ghost use Rattle.plant_text_answers.specs.ListAnswers.{lifted_data};
 
 use plant_base::{Hold, Lifting, Recall};
-use plant_worklists::Page;
+use plant_questions::Page;
 use serde_json::{Value, json};
 use std::alloc::{AllocError, Global};
 

@@ -11,8 +11,7 @@ use crate::further_rows::{all_holds_value, lifted_value};
 use crate::listed_rows::Shown;
 use crate::parts::id_value;
 use plant_base::{Class, Definition, Hold, Job, Movement, Recall, Recipe};
-use plant_messages::{BookedCommand, Listed, LotPage, OpenBatch};
-use plant_worklists::Page;
+use plant_questions::{BookedCommand, Listed, LotPage, OpenBatch, Page};
 use serde_json::{Value, json};
 use std::alloc::{AllocError, Global};
 

@@ -9,8 +9,7 @@ ghost use Rattle.plant_text_answers.specs.ListAnswers.{movement_kind_name, other
 use crate::list_answers::rows_value;
 use crate::parts::{id_value, number_value};
 use plant_base::{Class, Definition, Hold, Id, Job, Movement, MovementKind, Recall, Recipe};
-use plant_messages::{OpenBatch, StandingLot};
-use plant_worklists::other_lot;
+use plant_questions::{OpenBatch, StandingLot, other_lot};
 use serde_json::{Value, json};
 use std::alloc::{AllocError, Global};
 

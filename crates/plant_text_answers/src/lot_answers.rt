@@ -5,7 +5,7 @@ ghost use Rattle.serde_json.specs.View.{view, items_of};
 ghost use Rattle.plant_text_answers.specs.LotAnswers.{lot_data, standing_data, stands_data};
 
 use crate::list_answers::rows_value;
-use plant_messages::{LotAnswer, StandingLot};
+use plant_questions::{LotAnswer, StandingLot};
 use serde_json::{Value, json};
 use std::alloc::{AllocError, Global};
 

@@ -4,7 +4,7 @@ ghost use Rattle.serde_json.specs.View.{view};
 ghost use Rattle.plant_text_answers.specs.RecallAnswers.{state_name, recall_data};
 
 use crate::list_answers::rows_value;
-use plant_messages::RecallAnswer;
+use plant_questions::RecallAnswer;
 use serde_json::{Value, json};
 use std::alloc::{AllocError, Global};
 

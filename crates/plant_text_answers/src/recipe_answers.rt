@@ -10,7 +10,7 @@ use crate::list_answers::rows_value;
 use crate::listed_rows::Shown;
 use crate::parts::unit_value;
 use plant_base::{Amount, Definition, Id, RecipeLine, Text, Unit};
-use plant_messages::{BatchLines, BookedLine, RecipeAnswer, RecipeLineAnswer};
+use plant_questions::{BatchLines, BookedLine, RecipeAnswer, RecipeLineAnswer};
 use serde_json::{Value, json};
 use std::alloc::{AllocError, Global};
 

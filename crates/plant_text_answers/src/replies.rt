@@ -6,7 +6,7 @@ ghost use Rattle.plant_text_answers.specs.Replies.{accepted_text};
 use arrayvec::ArrayString;
 use itoa::Buffer;
 use plant_base::Refusal;
-use plant_messages::{DeskFault, Reply};
+use plant_questions::{DeskFault, Reply};
 use std::marker::Model;
 
 /// The text of a reply or of a fault. It has room of its own, 96 bytes, and takes no memory.

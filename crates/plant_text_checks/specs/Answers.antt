@@ -4,7 +4,8 @@ use Rattle.serde_json.specs.Data.{Data, boolean, string, object, member, no_memb
 use Rattle.serde_json.specs.Written.{compact_text}
 use Rattle.plant_base.specs.{number_of, name_of, Refusal}
 use Rattle.plant_base.specs.declared.refusal.Refusal.TheVariants.{BadForm}
-use Rattle.plant_command_errors.specs.{reason_text, Reason}
+use Rattle.plant_text_checks.specs.Reasons.{reason_text}
+use Rattle.plant_text_checks.specs.declared.reason.Reason.{Reason}
 use Rattle.plant_text_answers.specs.{natural}
 use Rattle.plant_text_checks.specs.declared.answers.CheckAnswer.{CheckAnswer}
 use Rattle.plant_text_checks.specs.declared.answers.CheckAnswer.TheVariants as answer

@@ -1,12 +1,13 @@
 -- What would become of what is to be checked.
 use Rattle.std.specs.Prelude.{Option, Some, None}
 use Rattle.plant_base.specs.{State}
-use Rattle.plant_causes.specs.{checked, Checked}
-use Rattle.plant_causes.specs.declared.checking.Checked.TheVariants.{Accepted, Refused}
-use Rattle.plant_command_errors.specs.{command_error_of, CommandError}
-use Rattle.plant_command_errors.specs.declared.reason.Reason.TheVariants as reason
-use Rattle.plant_text_commands.specs.{ToCheck}
-use Rattle.plant_text_commands.specs.declared.checks.ToCheck.TheVariants as to_check
+use Rattle.plant_rules.specs.{checked, Checked}
+use Rattle.plant_rules.specs.declared.checking.Checked.TheVariants.{Accepted, Refused}
+use Rattle.plant_text_checks.specs.CommandErrors.{command_error_of}
+use Rattle.plant_text_checks.specs.declared.command_errors.CommandError.{CommandError}
+use Rattle.plant_text_checks.specs.declared.reason.Reason.TheVariants as reason
+use Rattle.plant_json_in.specs.{ToCheck}
+use Rattle.plant_json_in.specs.declared.checks.ToCheck.TheVariants as to_check
 use Rattle.plant_text_checks.specs.declared.answers.CheckAnswer.{CheckAnswer}
 use Rattle.plant_text_checks.specs.declared.answers.CheckAnswer.TheVariants as answer
 

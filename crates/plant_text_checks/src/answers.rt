@@ -4,8 +4,8 @@ ghost use Rattle.serde_json.specs.View.{view};
 ghost use Rattle.plant_text_checks.specs.Answers.{accepted_data, refused_data, bad_form_data};
 ghost use Rattle.plant_text_checks.specs.Answers.{check_text};
 
+use crate::reason::Reason;
 use plant_base::Refusal;
-use plant_command_errors::Reason;
 use serde_json::{Value, json};
 use std::alloc::{AllocError, Global};
 

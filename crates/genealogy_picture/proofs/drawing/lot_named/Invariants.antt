@@ -1,6 +1,6 @@
 use Rattle.std.proofs.Common.{◌≡◌, false, take, bytes_eq}
 use Rattle.std.specs.List.{list_any}
-use Rattle.genealogy_graph.specs.{PictureLot}
+use Rattle.genealogy_svg.specs.{PictureLot}
 use Rattle.genealogy_picture.proofs.drawing.lot_named.Given as goal
 
 abbrev pub invariant-loop-lot : goal.invariant-loop-lot

@@ -1,5 +1,5 @@
 use Rattle.std.proofs.Common.{refl}
-use Rattle.plant_message_schema.specs.declared.words.CommandKind.TheVariants as c
+use Rattle.plant_json_in.specs.declared.words.CommandKind.TheVariants as c
 use Rattle.line_check.proofs.words.command_words.Goals as goal
 
 pub returns : goal.returns

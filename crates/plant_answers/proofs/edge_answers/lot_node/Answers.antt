@@ -4,7 +4,7 @@ use Rattle.plant_base.specs.{definition_at, Definition}
 use Rattle.plant_trace.proofs.HoldsIfHonest.{HoldsIfHonest-then, HoldsIfHonest-weaker}
 use Rattle.plant_view.specs.{is_blocked}
 use Rattle.plant_answers.specs.{lot_node, AreKnown, after_definition, after_lot}
-use Rattle.plant_messages.specs.declared.genealogy.NodeAnswer.TheVariants as node
+use Rattle.plant_questions.specs.declared.genealogy.NodeAnswer.TheVariants as node
 use Rattle.plant_answers.proofs.edge_answers.lot_node.Goals as goal
 
 pub returns : goal.returns

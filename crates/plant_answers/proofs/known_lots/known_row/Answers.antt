@@ -1,7 +1,7 @@
 use Rattle.std.proofs.Common.{◌≡◌}
 use Rattle.std.proofs.lemmas.Result.{IfOk-weaker}
 use Rattle.plant_trace.proofs.HoldsIfHonest.{HoldsIfHonest-weaker}
-use Rattle.plant_worklists.specs.{prefetched_lots}
+use Rattle.plant_questions.specs.{prefetched_lots}
 use Rattle.plant_answers.specs.{after_row}
 use Rattle.plant_answers.specs.declared.known_lots.KnownLots.{KnownLots}
 use Rattle.plant_answers.proofs.BothHold.{both_hold}

@@ -2,7 +2,7 @@ use Rattle.std.proofs.Common.{◌≡◌, ◌∙◌, Some, sym, ap}
 use Rattle.plant_base.specs.{lot_at}
 use Rattle.plant_trace.proofs.HoldsIfHonest.{HoldsIfHonest-then}
 use Rattle.plant_answers.specs.{answer_lot}
-use Rattle.plant_messages.specs.declared.question.Answer.TheVariants as A
+use Rattle.plant_questions.specs.declared.question.Answer.TheVariants as A
 use Rattle.plant_answers.proofs.lot_answers.lot_answer.Goals as goal
 
 pub returns : goal.returns

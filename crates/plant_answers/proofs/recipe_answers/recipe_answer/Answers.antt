@@ -1,6 +1,6 @@
 use Rattle.std.proofs.Common.{◌∙◌, ap, sym}
 use Rattle.plant_trace.proofs.HoldsIfHonest.{HoldsIfHonest-then}
-use Rattle.plant_messages.specs.declared.question.Answer.TheVariants as A
+use Rattle.plant_questions.specs.declared.question.Answer.TheVariants as A
 use Rattle.plant_answers.proofs.recipe_answers.recipe_answer.Goals as goal
 
 pub returns : goal.returns

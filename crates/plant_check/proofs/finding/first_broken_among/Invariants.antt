@@ -1,5 +1,5 @@
 use Rattle.std.proofs.Common.{◌≡◌, drop, find, not}
-use Rattle.plant_tables_read.specs.{rows_listed}
+use Rattle.plant_tables.specs.{rows_listed}
 use Rattle.plant_check_rules.specs.{obeys}
 use Rattle.plant_check.proofs.finding.first_broken_among.Given as goal
 

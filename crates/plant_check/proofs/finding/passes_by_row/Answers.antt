@@ -1,5 +1,5 @@
 use Rattle.std.proofs.Common.{◌∙◌, sym, ap, is_none}
-use Rattle.plant_tables_read.specs.{rows_listed}
+use Rattle.plant_tables.specs.{rows_listed}
 use Rattle.plant_check.proofs.FoundIfDisobeyed.{none_where_obeyed}
 use Rattle.plant_check.proofs.finding.passes_by_row.Goals as goal
 

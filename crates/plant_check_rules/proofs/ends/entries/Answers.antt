@@ -1,5 +1,5 @@
 use Rattle.std.proofs.Common.{◌∙◌, filter}
-use Rattle.plant_check_stock.proofs.SublotTests.{placed}
+use Rattle.plant_requirements.proofs.SublotTests.{placed}
 use Rattle.plant_check_rules.specs.{entered_by}
 use Rattle.plant_check_rules.proofs.ends.entries.Goals as goal
 

@@ -1,5 +1,5 @@
 use Rattle.std.proofs.Common.{◌∙◌, filter}
-use Rattle.plant_check_stock.proofs.SublotTests.{placed}
+use Rattle.plant_requirements.proofs.SublotTests.{placed}
 use Rattle.plant_check_rules.specs.{left_by}
 use Rattle.plant_check_rules.proofs.ends.exits.Goals as goal
 

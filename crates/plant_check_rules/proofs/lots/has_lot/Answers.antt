@@ -1,6 +1,6 @@
 use Rattle.std.proofs.Common.{◌∙◌}
 use Rattle.std.specs.List.{list_any}
-use Rattle.plant_check_plans.proofs.KeyTests.{ids_tie}
+use Rattle.plant_requirements.proofs.KeyTests.{ids_tie}
 use Rattle.plant_check_rules.proofs.lots.has_lot.Goals as goal
 
 pub returns : goal.returns

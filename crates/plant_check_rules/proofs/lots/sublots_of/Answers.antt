@@ -1,5 +1,5 @@
 use Rattle.std.proofs.Common.{◌∙◌, filter}
-use Rattle.plant_check_plans.proofs.KeyTests.{ids_tie}
+use Rattle.plant_requirements.proofs.KeyTests.{ids_tie}
 use Rattle.plant_check_rules.proofs.lots.sublots_of.Goals as goal
 
 pub returns : goal.returns

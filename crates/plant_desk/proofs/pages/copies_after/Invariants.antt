@@ -1,5 +1,5 @@
 use Rattle.std.proofs.Common.{◌≡◌, filter, map, take}
-use Rattle.plant_worklists.specs.{is_number_after}
+use Rattle.plant_questions.specs.{is_number_after}
 use Rattle.plant_desk.proofs.pages.copies_after.Given as goal
 
 -- those of the receipts so far

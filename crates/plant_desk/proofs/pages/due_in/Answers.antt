@@ -1,7 +1,7 @@
 use Rattle.std.proofs.Common.{◌≡◌, ◌∙◌, List, IfOk, filter, map, ap, subst}
 use Rattle.plant_base.specs.{Job}
-use Rattle.plant_sorted.specs.declared.keys.ByDue.{ByDue}
-use Rattle.plant_worklists.specs.{in_order, due_order, is_due_in}
+use Rattle.plant_questions.specs.declared.keys.ByDue.{ByDue}
+use Rattle.plant_questions.specs.{in_order, due_order, is_due_in}
 use Rattle.plant_desk.proofs.SortedRows.{sorted_held}
 use Rattle.plant_desk.proofs.pages.due_in.Goals as goal
 

@@ -1,5 +1,5 @@
 use Rattle.std.proofs.Common.{◌≡◌, filter, map, take}
-use Rattle.plant_worklists.specs.{is_due_in}
+use Rattle.plant_questions.specs.{is_due_in}
 use Rattle.plant_desk.proofs.pages.jobs_due.Given as goal
 
 -- those of the orders so far

@@ -1,7 +1,7 @@
 use Rattle.std.proofs.Common.{◌≡◌, ◌∙◌, List, IfOk, filter, map, ap, subst}
 use Rattle.plant_base.specs.{Receipt}
-use Rattle.plant_sorted.specs.declared.keys.ByNumber.{ByNumber}
-use Rattle.plant_worklists.specs.{in_order, number_order, is_number_after}
+use Rattle.plant_questions.specs.declared.keys.ByNumber.{ByNumber}
+use Rattle.plant_questions.specs.{in_order, number_order, is_number_after}
 use Rattle.plant_desk.proofs.SortedRows.{sorted_held}
 use Rattle.plant_desk.proofs.pages.receipts_behind.Goals as goal
 

@@ -2,8 +2,8 @@ use Rattle.std.proofs.Common.{◌≡◌, pos, ℤ, Ok, refl, inl}
 use Rattle.sqlite.specs.Held.{state}
 use Rattle.sqlite.proofs.StateLemmas.{survives_weaker}
 use Rattle.sql_tables.proofs.TransactionEnds.{IsStore}
-use Rattle.plant_tables_read.specs.{IsVersion}
-use Rattle.plant_tables_read.specs.declared.finding.FoundTables.TheVariants as tables
+use Rattle.plant_tables.specs.{IsVersion}
+use Rattle.plant_tables.specs.declared.finding.FoundTables.TheVariants as tables
 use Rattle.plant_desk_store.specs.{IsRefusedBy}
 use Rattle.plant_desk_store.proofs.AdoptionOutcomes.{made_or_not, taken_or_not}
 use Rattle.plant_desk_store.proofs.CheckedStore.{stays_valid}

@@ -4,7 +4,7 @@ use Rattle.sqlite.specs.Held.{state}
 use Rattle.sqlite.specs.State.{HasCleanDisk, IsUnchanged}
 use Rattle.sql_tables.specs.{HaveStoredRows}
 use Rattle.plant_tables.specs.{table_defs_of}
-use Rattle.plant_tables_read.specs.{AreLoaded, AreRising, contents_loaded, HasTablesOf}
+use Rattle.plant_tables.specs.{AreLoaded, AreRising, contents_loaded, HasTablesOf}
 use Rattle.plant_desk_store.specs.{NamesFirst}
 use Rattle.plant_desk_store.proofs.CheckedRows.{numbered}
 use Rattle.plant_desk_store.proofs.CheckedStore.{valid_rows, rows_of_valid, broken_tables}

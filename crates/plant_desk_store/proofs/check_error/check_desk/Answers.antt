@@ -1,6 +1,6 @@
 use Rattle.std.proofs.Common.{◌≡◌, ◌∙◌, ap, true, false, None, Some, is_some, rules}
 use Rattle.std.proofs.lemmas.Result.{IfErr-weaker}
-use Rattle.plant_tables_read.specs.{contents_loaded, rows_from, rows_listed}
+use Rattle.plant_tables.specs.{contents_loaded, rows_from, rows_listed}
 use Rattle.plant_tables_columns.specs.{only_meta}
 use Rattle.plant_check_rules.specs.{broken_rows}
 use Rattle.plant_desk_store.proofs.CheckedRows.{broken_where, passing_of, check_error_by}

@@ -4,8 +4,8 @@ use Rattle.sqlite.specs.Held.{state}
 use Rattle.plant_base.specs.{State, newest_schema}
 use Rattle.plant_view.specs.{puts_one_batch, tables_of, changed_all, RowChange}
 use Rattle.plant_rules.specs.{step}
-use Rattle.plant_messages.specs.declared.reply.DeskFault.TheVariants.{Store}
-use Rattle.plant_messages.specs.declared.reply.Reply.TheVariants.{Accepted}
+use Rattle.plant_questions.specs.declared.reply.DeskFault.TheVariants.{Store}
+use Rattle.plant_questions.specs.declared.reply.Reply.TheVariants.{Accepted}
 use Rattle.plant_invariant.proofs.StepPreservesInvariant.{step_preserves_validity}
 use Rattle.plant_invariant_tables.proofs.AddedRowsAreFresh.{fresh}
 use Rattle.plant_desk_store.specs.{IsDecidedAt, PossibleOutcomes, IsDurablyAt}

@@ -1,7 +1,7 @@
 use Rattle.std.proofs.Common.{sym, subst, Err}
 use Rattle.sqlite.specs.Held.{state}
 use Rattle.sql_tables.proofs.TransactionEnds.{IsStore}
-use Rattle.plant_messages.specs.{DeskFault}
+use Rattle.plant_questions.specs.{DeskFault}
 use Rattle.plant_desk_store.specs.{HasMended}
 use Rattle.plant_desk_store.proofs.MissingIndexesAreCreated.{mended, unmended, unread}
 use Rattle.plant_desk_store.proofs.indexing.index_on.Goals as goal

@@ -1,5 +1,5 @@
 use Rattle.std.proofs.Common.{◌≡◌, IfOk, rules}
-use Rattle.plant_causes.specs.{checked}
+use Rattle.plant_rules.specs.{checked}
 use Rattle.plant_desk_store.proofs.FaultsOfCalls.{looked_up_if, looked_up_open}
 use Rattle.plant_desk_store.proofs.lookups.check_on.Goals as goal
 

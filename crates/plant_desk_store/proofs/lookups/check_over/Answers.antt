@@ -1,7 +1,7 @@
 use Rattle.std.proofs.Common.{◌≡◌, subst}
 use Rattle.sqlite.specs.Held.{state}
 use Rattle.plant_base.specs.{State}
-use Rattle.plant_causes.specs.{checked}
+use Rattle.plant_rules.specs.{checked}
 use Rattle.plant_keyed.specs.{frame_trans}
 use Rattle.plant_desk_store.proofs.LookupsAreHonest.{honest_at}
 use Rattle.plant_desk_store.proofs.lookups.check_over.Goals as goal

@@ -4,8 +4,8 @@ use Rattle.sqlite.specs.Held.{state}
 use Rattle.sqlite.specs.State.{HasCleanDisk, IsUnchanged}
 use Rattle.plant_base.specs.{newest_schema}
 use Rattle.sql_tables.specs.declared.fault.Fault.TheVariants as fault
-use Rattle.plant_tables_read.specs.{AreLoaded}
-use Rattle.plant_messages.specs.declared.reply.DeskFault.TheVariants.{Shut}
+use Rattle.plant_tables.specs.{AreLoaded}
+use Rattle.plant_questions.specs.declared.reply.DeskFault.TheVariants.{Shut}
 use Rattle.plant_check_laws.proofs.InvariantImpliesChecksPass.{read_valid}
 use Rattle.plant_invariant_tables.proofs.TablesHaveValidValues.{newest_known}
 use Rattle.plant_desk_store.proofs.FaultsOfCalls.{tested_rows, unshut, untested_unshut}

@@ -6,8 +6,8 @@ use Rattle.sqlite.proofs.StateLemmas.{survives_then, survives_weaker}
 use Rattle.plant_base.specs.{newest_schema}
 use Rattle.plant_view.specs.{tables_of}
 use Rattle.sql_tables.proofs.TransactionEnds.{IsStore}
-use Rattle.plant_tables_read.specs.{IsVersion}
-use Rattle.plant_tables_read.proofs.OneVersion.{one_version}
+use Rattle.plant_tables.specs.{IsVersion}
+use Rattle.plant_tables.proofs.OneVersion.{one_version}
 use Rattle.plant_migrate.specs.{IsRaisedTo}
 use Rattle.plant_migrate.proofs.NothingWritten.{settled_still, not_raised}
 use Rattle.plant_migrate.proofs.KnownVersion.{version_is, not_below, below, has_known_version, stays_at, handed_on, rises_to, cut_from, raised_reported}

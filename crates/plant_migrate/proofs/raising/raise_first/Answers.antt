@@ -6,7 +6,7 @@ use Rattle.sqlite.proofs.StateLemmas.{survives_then, survives_weaker}
 use Rattle.plant_view.specs.{tables_of}
 use Rattle.sql_tables.proofs.TransactionEnds.{IsStore}
 use Rattle.plant_tables.specs.{IsAtOf}
-use Rattle.plant_tables_read.specs.{rows_from, rows_in, rows_listed, AreLoaded}
+use Rattle.plant_tables.specs.{rows_from, rows_in, rows_listed, AreLoaded}
 use Rattle.plant_migrate.proofs.NothingWritten.{at_still, settled_still, not_raised}
 use Rattle.plant_migrate.proofs.RowsBeforeRaising.{rows_read, ends_since, cut_since, first_raised}
 use Rattle.plant_migrate.proofs.raising.raise_first.Given.{Over}

@@ -1,6 +1,6 @@
 use Rattle.std.proofs.Common.{◌≡◌, ◌<◌, length, Err, None, Some, ap, ◌∙◌, arith}
 use Rattle.std.proofs.lemmas.Bool.Decides.{nat_tests}
-use Rattle.plant_messages.specs.declared.reply.DeskFault.TheVariants.{Memory}
+use Rattle.plant_questions.specs.declared.reply.DeskFault.TheVariants.{Memory}
 use Rattle.plant_text.specs.declared.read.Line.TheVariants as L
 use Rattle.plant_text.specs.{line_of, entry_of}
 use Rattle.plant_text.proofs.TurnEnds.{nothing_ends, bad_ends, stops_by_fault, entry_empty, entry_read}

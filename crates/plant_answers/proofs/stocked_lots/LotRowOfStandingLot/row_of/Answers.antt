@@ -1,5 +1,5 @@
 use Rattle.plant_trace.proofs.HoldsIfHonest.{HoldsIfHonest-then}
-use Rattle.plant_worklists.proofs.PrefetchSteps.{of_any}
+use Rattle.plant_questions.proofs.PrefetchSteps.{of_any}
 use Rattle.plant_answers.proofs.stocked_lots.LotRowOfStandingLot.row_of.Goals as goal
 
 pub returns : goal.returns

@@ -1,5 +1,5 @@
 use Rattle.std.proofs.Common.{◌∙◌, refl, ap}
-use Rattle.plant_worklists.specs.{page_of}
+use Rattle.plant_questions.specs.{page_of}
 use Rattle.plant_desk.proofs.pages.ListsViewWorklists.lots_after.Goals as goal
 
 pub returns : goal.returns

@@ -1,6 +1,6 @@
 use Rattle.std.proofs.Common.{◌∙◌, map, refl, ap}
 use Rattle.plant_view.specs.{sublot_row}
-use Rattle.plant_worklists.specs.{page_of, is_after}
+use Rattle.plant_questions.specs.{page_of, is_after}
 use Rattle.plant_desk.proofs.PageIsPrefix.{prefix_of_mapped}
 use Rattle.plant_desk.proofs.pages.ListsViewWorklists.sublots_after.Goals as goal
 

@@ -6,7 +6,7 @@ use Rattle.sqlite.specs.Held.{state}
 use Rattle.sqlite.specs.Values.{bound_value}
 use Rattle.sqlite_value.specs.Value.{owned}
 use Rattle.plant_tables_columns.specs.{number}
-use Rattle.plant_worklists.specs.{page_size, page_of}
+use Rattle.plant_questions.specs.{page_size, page_of}
 use Rattle.plant_keyed.specs.{IsPaged, frame_trans}
 use Rattle.plant_keyed.proofs.LookupsKeep.{reported_by, reported_then}
 use Rattle.plant_keyed.proofs.keyed.Keyed.page_beyond.Goals as goal

@@ -8,7 +8,7 @@ use Rattle.plant_base.specs.{movement_order}
 use Rattle.sql_queries.specs.{first_of}
 use Rattle.plant_tables.specs.{movement_table}
 use Rattle.plant_tables_columns.specs.{number, movement_read}
-use Rattle.plant_worklists.specs.{page_of, movement_after}
+use Rattle.plant_questions.specs.{page_of, movement_after}
 use Rattle.plant_keyed.specs.{IsPagedBeyond, frame_trans}
 use Rattle.plant_keyed.proofs.LookupsKeep.{reported_then}
 use Rattle.plant_keyed.proofs.TwoKeyPages.{ledger_is}

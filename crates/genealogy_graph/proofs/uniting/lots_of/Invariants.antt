@@ -1,6 +1,0 @@
-use Rattle.std.proofs.Common.{◌≡◌, [], drop}
-use Rattle.genealogy_graph.specs.{lots_from}
-use Rattle.genealogy_graph.proofs.uniting.lots_of.Given as goal
-
-abbrev pub invariant-loop-lot : goal.invariant-loop-lot
-invariant-loop-lot l = lots_from [] l.reported ≡ lots_from l.lots.entries (drop l.lot-index l.reported)

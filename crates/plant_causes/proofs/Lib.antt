@@ -1,3 +1,0 @@
-pub mod ChecksFollowConditions
-pub mod CausesAreTold
-pub mod ItemsAreFirst

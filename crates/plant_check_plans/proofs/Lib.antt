@@ -1,2 +1,0 @@
-pub mod CountedTwice
-pub mod KeyTests

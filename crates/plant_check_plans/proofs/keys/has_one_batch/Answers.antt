@@ -1,6 +1,0 @@
-use Rattle.std.proofs.Common.{◌∙◌, ap, length, ◌==◌, filter}
-use Rattle.plant_check_plans.proofs.KeyTests.{ids_tie}
-use Rattle.plant_check_plans.proofs.keys.has_one_batch.Goals as goal
-
-pub returns : goal.returns
-returns c = ap (λ rows. length rows == 1) (c.at.ensures ∙ (λ i. filter (λ b. ids_tie b.batch.job c.args.order i) c.args.batches.now.rows.now))

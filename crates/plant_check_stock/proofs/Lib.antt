@@ -1,4 +1,0 @@
-pub mod MarksByRecall
-pub mod SetsOfKeys
-pub mod SublotTests
-pub mod MomentsRise

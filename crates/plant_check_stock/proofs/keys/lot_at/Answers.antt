@@ -1,6 +1,0 @@
-use Rattle.std.proofs.Common.{◌∙◌, find}
-use Rattle.plant_check_plans.proofs.KeyTests.{ids_tie}
-use Rattle.plant_check_stock.proofs.keys.lot_at.Goals as goal
-
-pub returns : goal.returns
-returns c = c.first.ensures ∙ (λ i. find (λ l. ids_tie l.id c.args.id i) c.args.lots.now.rows.now)

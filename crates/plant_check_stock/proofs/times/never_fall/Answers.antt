@@ -1,6 +1,0 @@
-use Rattle.std.proofs.Common.{◌∙◌}
-use Rattle.plant_check_stock.proofs.MomentsRise.{rising}
-use Rattle.plant_check_stock.proofs.times.never_fall.Goals as goal
-
-pub returns : goal.returns
-returns c = c.rises.ensures ∙ rising _ _ c.sort_unstable.ensures.permutation c.sort_unstable.ensures.sorted

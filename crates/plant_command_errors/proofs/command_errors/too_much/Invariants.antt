@@ -1,9 +1,0 @@
-use Rattle.std.proofs.Common.{◌≡◌, drop, not}
-use Rattle.plant_recipe.specs.{fits}
-use Rattle.plant_command_errors.specs.{index_of}
-use Rattle.plant_command_errors.proofs.IndexesInLists.{place_on}
-use Rattle.plant_command_errors.proofs.command_errors.too_much.Given as goal
-
--- each of the lines so far fits
-abbrev pub invariant-loop-index : goal.invariant-loop-index
-invariant-loop-index l = index_of (λ line. not (fits l.base l.size line)) l.lines ≡ place_on l.index (index_of (λ line. not (fits l.base l.size line)) (drop l.index l.lines))

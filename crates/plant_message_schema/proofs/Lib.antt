@@ -1,5 +1,0 @@
-pub mod PartsInOrder
-pub mod QuestionsAreMade
-pub mod QuestionsAreReported
-pub mod EachMember
-pub mod FieldsAreTyped

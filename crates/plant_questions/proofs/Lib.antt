@@ -1,0 +1,9 @@
+pub mod FoundRows
+pub mod RowsOfLot
+pub mod PrefetchedPage
+pub mod PrefetchSteps
+pub mod MergedLists
+pub mod HoldsOfAllLots
+mod SmallNumbers
+mod PutFromEnd
+pub mod Split

@@ -1,0 +1,82 @@
+//! What is answered of worklists.
+
+use crate::page::Page;
+use crate::question::StandingLot;
+use plant_base::{
+    BatchRow, Class, Definition, Hold, Id, Items, Job, Moment, Movement, Recall, Recipe, Text,
+};
+
+/// A page of a worklist.
+#[derive(Drop)]
+pub enum Listed {
+    /// Orders, all in the state that was asked for.
+    Orders(Page<Job>),
+    /// Batches, all that aren't closed or all that are.
+    Batches(Page<OpenBatch>),
+    /// Lots of a definition.
+    Lots(LotPage),
+    /// Holds of a lot.
+    Holds(Page<Hold>),
+    /// Recalls that weren't lifted.
+    Recalls(Page<Recall>),
+    /// Recalls that were lifted.
+    LiftedRecalls(Page<Recall>),
+    /// Holds of all lots.
+    AllHolds(Page<Hold>),
+    /// Commands that had references, by their numbers.
+    Commands(Page<BookedCommand>),
+    /// Classes.
+    Classes(Page<Class>),
+    /// Definitions of a class.
+    Definitions(Page<Definition>),
+    /// Versions of recipes, all in the state that was asked for.
+    Recipes(Page<Recipe>),
+    /// The ledger of a lot.
+    Ledger(Page<Movement>),
+}
+
+/// A command that had a reference, as its receipt has it.
+#[derive(Clone, Copy)]
+pub struct BookedCommand {
+    /// The number of the command, 1 to [`GREATEST_SEQ`](plant_base::GREATEST_SEQ).
+    pub seq: u64,
+    /// The reference of the command.
+    pub reference: Id,
+    /// What the command's content begins with; `None` where it doesn't begin so, as in no valid state.
+    pub head: Option<CommandHead>,
+}
+
+/// What the content of a command begins with.
+#[derive(Clone, Copy)]
+pub struct CommandHead {
+    /// When the command was given.
+    pub at: Moment,
+    /// The operator who gave the command; it may be empty.
+    pub by: Text,
+    /// The operator's note; empty where there is none.
+    pub note: Text,
+    /// The word of the command, as `receive`.
+    pub word: Text,
+}
+
+/// A batch in a list, and what is next in it (job response of IEC 62264-4).
+#[derive(Clone, Copy)]
+pub struct OpenBatch {
+    /// The batch with its progress.
+    pub row: BatchRow,
+    /// How many phases its control recipe has.
+    pub phases: usize,
+    /// The phase that is next, nothing where all are done.
+    pub next_phase: Option<Id>,
+}
+
+/// What there is of a definition, lot by lot.
+#[derive(Drop)]
+pub struct LotPage {
+    /// The lots of the page that have stock.
+    pub lots: Items<StandingLot>,
+    /// The last lot of the page, with stock or without: the next page begins after it. Nothing where the page has no lot.
+    pub last: Option<Id>,
+    /// Whether more lots of the definition come after the page, with stock or without.
+    pub has_more: bool,
+}

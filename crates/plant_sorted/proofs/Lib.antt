@@ -1,2 +1,0 @@
-mod PutFromEnd
-pub mod Split

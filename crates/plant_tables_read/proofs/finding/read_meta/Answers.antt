@@ -1,5 +1,0 @@
-use Rattle.plant_tables_read.proofs.TextsSelectAll.{meta_selected}
-use Rattle.plant_tables_read.proofs.finding.read_meta.Goals as goal
-
-pub read_table-requires : goal.read_table-requires
-read_table-requires g c = meta_selected

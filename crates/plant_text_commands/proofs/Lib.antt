@@ -1,2 +1,0 @@
-pub mod ChecksAreTyped
-pub mod StepsAreTyped

@@ -163,7 +163,7 @@ fn serve_listening<S: Alter + Drop>(
     ensures honest { WasHonest (state S.Store desk.old.connection) (state S.Store desk.new.connection) }
 {
     match listening {
-        Ok(listener) => serve_listener(rt, rt.alloc(), &listener, profile, count, desk, log),
+        Ok(listener) => serve_listener(rt, &listener, profile, count, desk, log),
         Err(fault) => Err(fault),
     }
 }

@@ -1,5 +1,5 @@
 -- The connection of a token, with something to be read on it.
-use Rattle.std.proofs.Common.{◌≡◌, ◌<◌, ◌≤◌, ℕ, ◌==◌, zero, suc, Bool, true, false, List, [], ◌∷◌, length, slice_index_or, Option, Some, None, inl, inr, refl, ap, ◌∙◌, lt-ltb, arith, slice_set}
+use Rattle.std.proofs.Common.{◌≡◌, ◌<◌, ℕ, ◌==◌, zero, suc, Bool, true, false, List, [], ◌∷◌, length, slice_index_or, Some, None, inl, inr, refl, ap, ◌∙◌, lt-ltb, arith, slice_set}
 use Rattle.std.specs.List.{position_or_len}
 use Rattle.std.proofs.lemmas.Bool.{cases_lt}
 use Rattle.std.proofs.lemmas.List.Quantifiers.{position-Some}

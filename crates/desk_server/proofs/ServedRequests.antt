@@ -1,17 +1,17 @@
 -- From what came of one request to what came of many.
-use Rattle.std.proofs.Common.{◌≡◌, ℕ, ◌+◌, ◌≤◌, Bool, true, false, List, [], ◌∷◌, ◌++◌, length, Option, Result, Ok, Err, refl, sym, ap, ◌∙◌, inl, inr, arith, length-append}
+use Rattle.std.proofs.Common.{◌≡◌, ℕ, ◌+◌, ◌-◌, ◌≤◌, Bool, true, false, List, [], ◌∷◌, ◌++◌, length, Option, Result, Ok, Err, refl, inl, inr, arith, length-append}
 use Rattle.sqlite.specs.Held.{state}
-use Rattle.sqlite.specs.State.{HasCleanDisk}
 use Rattle.sqlite_trees.specs.declared.store.Store.{Ghosts}
 use Rattle.plant_desk_store.specs.{Represents, HasCrashStates, Desk}
 use Rattle.plant_base.specs.{State}
 use Rattle.plant_desk.specs.{States}
+use Rattle.plant_desk.proofs.SameDesk.{same_after}
 use Rattle.plant_questions.specs.{DeskFault}
 use Rattle.plant_questions.specs.declared.reply.DeskFault.TheVariants.{Store, Memory, Shut}
-use Rattle.plant_text.specs.{RepresentsDurably, RepresentsEither, Entry, nothing, bad, command, question, check, after, fold, CrashStatesOfFault, CrashStatesOfStoreFault}
+use Rattle.plant_text.specs.{RepresentsDurably, Entry, nothing, bad, command, question, check, after, fold, CrashStatesOfFault, CrashStatesOfStoreFault}
 use Rattle.plant_text.proofs.RunCrashStates.{CrashStateIsOwn}
-use Rattle.plant_http_requests.specs.{Job, Profile}
-use Rattle.plant_http.specs.{Out, entry_of, AnswersBy, Performs, Serves, ServeFault, Served}
+use Rattle.plant_http_requests.specs.{Profile}
+use Rattle.plant_http.specs.{Out, entry_of, Performs, Serves, ServeFault, Served}
 use Rattle.plant_http.specs.declared.serve.Served.TheVariants.{Answered, Nothing}
 use Rattle.plant_http.specs.declared.serve.ServeFault.TheVariants as end
 use Rattle.desk_server.specs.{Asked, entries, HasServed, ServesAtMost, IsSameStore}
@@ -81,10 +81,6 @@ fewer_served profile made most s represents true crash_states room (jobs, last, 
 
 -- ---- the connections of a desk
 
-pub desk_unasked : {S : Type 0} (g : Ghosts S) (profile : Profile) (most : ℕ) (d : Desk S g) → d.is_shut ≡ false → ServesAtMost g profile most d d
-desk_unasked g profile most d is_live = λ clean s represented.
-    open_served profile most s (Represents (state g d.connection) d.is_shut) d.is_shut (λ states. HasCrashStates (state g d.connection) states) [] is_live (omega arith) (represented, represented.1 is_live)
-
 pub desk_fewer : {S : Type 0} (g : Ghosts S) (profile : Profile) (made most : ℕ) (a b : Desk S g) → made ≤ most → ServesAtMost g profile made a b → ServesAtMost g profile most a b
 desk_fewer g profile made most a b room first = λ clean s represented.
     fewer_served profile made most s (Represents (state g b.connection) b.is_shut) b.is_shut (λ states. HasCrashStates (state g b.connection) states) room (first clean s represented)
@@ -94,3 +90,28 @@ pub desk_more : {S : Type 0} (g : Ghosts S) (profile : Profile) (made n most : �
 desk_more g profile made n most a b c is_live room same first more = λ clean s represented.
     then_served profile made n most s (Represents (state g b.connection) b.is_shut) (Represents (state g c.connection) c.is_shut) b.is_shut c.is_shut
     (λ states. HasCrashStates (state g b.connection) states) (λ states. HasCrashStates (state g c.connection) states) is_live room (first (same.honest clean) s represented) (λ t represents. more clean t represents)
+
+-- ---- a desk that serves on
+
+-- An open desk with so many connections left of so many: it is one and the same, and has served at most the others.
+abbrev pub IsServing : {S : Type 0} (g : Ghosts S) → Profile → ℕ → ℕ → Desk S g → Desk S g → Type 0
+IsServing g profile count left old new = IsSameStore g old new × (new.is_shut ≡ false) × (left ≤ count) × ServesAtMost g profile (count - left) old new
+
+pub serving_at_most : {S : Type 0} (g : Ghosts S) (profile : Profile) (count left : ℕ) (a b : Desk S g) → IsServing g profile count left a b → ServesAtMost g profile count a b
+serving_at_most g profile count left a b (same, is_live, within, served) = desk_fewer g profile (count - left) count a b (omega (arith, within)) served
+
+-- it was asked nothing
+pub serving_fewer : {S : Type 0} (g : Ghosts S) (profile : Profile) (count left done : ℕ) (a b : Desk S g) → IsServing g profile count left a b → done ≤ left → IsServing g profile count (left - done) a b
+serving_fewer g profile count left done a b (same, is_live, within, served) room =
+    (same, is_live, omega (arith, within), desk_fewer g profile (count - left) (count - (left - done)) a b (omega (arith, within, room)) served)
+
+-- it has served one connection more, or a fault at that one has shut it
+pub serving_one : {S : Type 0} (g : Ghosts S) (profile : Profile) (count left : ℕ) (a b c : Desk S g) → IsServing g profile count left a b → 1 ≤ left → IsSameStore g b c → ServesAtMost g profile 1 b c
+    → IsSameStore g a c × ServesAtMost g profile (count - (left - 1)) a c
+serving_one g profile count left a b c (same, is_live, within, served) room still one =
+    (same_after _ _ _ _ _ _ same still, desk_more g profile (count - left) 1 (count - (left - 1)) a b c is_live (omega (arith, within, room)) still served one)
+
+pub serving_more : {S : Type 0} (g : Ghosts S) (profile : Profile) (count left : ℕ) (a b c : Desk S g) → IsServing g profile count left a b → 1 ≤ left → IsSameStore g b c → ServesAtMost g profile 1 b c → c.is_shut ≡ false
+    → IsServing g profile count (left - 1) a c
+serving_more g profile count left a b c before room still one is_live =
+    let more = serving_one g profile count left a b c before room still one in (more.0, is_live, omega (arith, before.2), more.1)

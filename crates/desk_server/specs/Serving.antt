@@ -56,10 +56,3 @@ EndsServing shut (Ok served) = shut ≡ false
 EndsServing shut (Err fault.Store) = shut ≡ true
 EndsServing shut (Err fault.Net) = shut ≡ false
 EndsServing shut (Err fault.Memory) = shut ≡ false
-
--- The end of a step: it was done, by a desk that is open; or no further connection could be taken; or a fault of the store has shut it.
-abbrev pub EndsStep : Bool → Result ℕ ServingFault → Type 0
-EndsStep shut (Ok done) = shut ≡ false
-EndsStep shut (Err fault.Store) = shut ≡ true
-EndsStep shut (Err fault.Net) = shut ≡ false
-EndsStep shut (Err fault.Memory) = ⊥

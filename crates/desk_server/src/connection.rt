@@ -6,11 +6,10 @@ ghost use Rattle.plant_desk.specs.{IsSameDesk};
 ghost use Rattle.desk_server.specs.Serving.{HasServed, status_of};
 
 use crate::deadline::Timed;
-use crate::log::{AccessLog, Arrival, Heard};
+use crate::log::{Arrival, Heard};
+use crate::server::Server;
 use plant_desk::Keeper;
 use plant_http::{ServeFault, Served, serve_one};
-use plant_http_requests::{Profile, Routes};
-use std::alloc::Global;
 use std::io::Read;
 use std::net::{Shutdown, TcpStream};
 use std::rt::Clock;
@@ -93,41 +92,49 @@ fn status_of(served: &Result<Served, ServeFault>) -> Option<u16>
     }
 }
 
-/// Serves the request of one connection. The clauses are about the keeper, and say nothing of the connection.
-///
-/// A socket's bytes aren't known, so that no clause says which request it was: the keeper does the job of one request,
-/// once, or nothing.
-///
-/// The request has to be whole within its time by the clock (`Timed`).
-///
-/// The connection comes back where its client has all that it needs to end it. Where nothing was answered, for a fault of the connection, for
-/// want of memory or since the time was over, nothing has to reach the client, and the connection is dropped at once.
-pub(crate) fn serve_stream<R: Clock, K: Keeper>(
-    alloc: Global,
-    clock: &R,
-    routes: &Routes,
-    profile: Profile<'_>,
-    stream: TcpStream,
-    keeper: &mut K,
-    log: AccessLog<'_>,
-    arrival: Arrival,
-) -> Option<TcpStream>
-    ensures same { IsSameDesk K.honest K.schema K.foreign_tables keeper.old keeper.new }
-    ensures serves { K.honest keeper.new → K.shut keeper.old ≡ false → (s : State) → K.represents keeper.old s
-        → HasServed profile.entry 1 s (K.represents keeper.new) (K.shut keeper.new) (K.crash_states keeper.new) }
-    ensures unchanged { K.shut keeper.old ≡ true → keeper.new ≡ keeper.old }
-{
-    bound_writes(&stream);
-    let status = {
-        let mut input = Heard::new(Timed::new(clock, &stream));
-        let mut output = &stream;
-        let served = serve_one(alloc, routes, profile, &mut input, &mut output, keeper);
-        let status = status_of(&served);
-        log.note_request(arrival, input.prefix(), status);
-        status
-    };
-    match status {
-        Some(status) => end_answer(stream, status),
-        None => None,
+impl<R: Clock> Server<'_, R> {
+    /// Serves the request of one connection. The clauses are about the keeper, and say nothing of
+    /// the connection.
+    ///
+    /// A socket's bytes aren't known, so that no clause says which request it was: the keeper does
+    /// the job of one request, once, or nothing.
+    ///
+    /// The request has to be whole within its time by the clock (`Timed`).
+    ///
+    /// The connection comes back where its client has all that it needs to end it. Where nothing
+    /// was answered, for a fault of the connection, for want of memory or since the time was over,
+    /// nothing has to reach the client, and the connection is dropped at once.
+    pub(crate) fn serve_stream<K: Keeper>(
+        &self,
+        stream: TcpStream,
+        arrival: Arrival,
+        keeper: &mut K,
+    ) -> Option<TcpStream>
+        ensures same { IsSameDesk K.honest K.schema K.foreign_tables keeper.old keeper.new }
+        ensures serves { K.honest keeper.new → K.shut keeper.old ≡ false → (s : State)
+            → K.represents keeper.old s → HasServed self.now.profile 1 s
+            (K.represents keeper.new) (K.shut keeper.new) (K.crash_states keeper.new) }
+        ensures unchanged { K.shut keeper.old ≡ true → keeper.new ≡ keeper.old }
+    {
+        bound_writes(&stream);
+        let status = {
+            let mut input = Heard::new(Timed::new(self.clock, &stream));
+            let mut output = &stream;
+            let served = serve_one(
+                self.alloc,
+                &self.routes,
+                self.profile,
+                &mut input,
+                &mut output,
+                keeper,
+            );
+            let status = status_of(&served);
+            self.log.note_request(arrival, input.prefix(), status);
+            status
+        };
+        match status {
+            Some(status) => end_answer(stream, status),
+            None => None,
+        }
     }
 }

@@ -8,6 +8,7 @@ mod fault;
 mod listening;
 mod log;
 mod reception;
+mod server;
 mod waiting;
 
 pub use address::{ListenLocally, Local, listen_at, local_at};

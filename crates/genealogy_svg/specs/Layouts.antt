@@ -1,5 +1,4 @@
 -- The layout of a picture: its nodes and edges at their positions.
-use Rattle.genealogy_svg.specs.United.{◌>>=◌}
 use Rattle.std.specs.Prelude.{◌≡◌, ◌<◌, ◌⊎◌, ℕ, List, [], ◌∷◌, ◌++◌, map, Any, Contains, Option, Some, None, Result, Ok, Err, ⊤}
 use Rattle.std.specs.BTreeMap.{BTreeMap, get}
 use Rattle.genealogy_svg.specs.declared.model.Picture.{Picture}
@@ -8,6 +7,7 @@ use Rattle.genealogy_svg.specs.declared.model.PictureLot.{PictureLot}
 use Rattle.genealogy_svg.specs.Layers.{AreSettled, IsLayered}
 use Rattle.genealogy_svg.specs.Positions.{ArePositioned}
 use Rattle.genealogy_svg.specs.Rows.{HasAmounts}
+use Rattle.genealogy_svg.specs.United.{◌>>=◌}
 use Rattle.genealogy_svg.specs.declared.drawing.Drawing.{Drawing}
 use Rattle.genealogy_svg.specs.declared.drawing.DrawnBatch.{DrawnBatch}
 use Rattle.genealogy_svg.specs.declared.drawing.DrawnEdge.{DrawnEdge}

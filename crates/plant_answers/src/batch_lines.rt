@@ -56,10 +56,8 @@ fn booked_lines<V: View>(
 {
     let lines = measured_lines(alloc, view, batch)?;
     let bookings = bookings_of(alloc, view, batch)?;
-    match lines_booked(alloc, lines.as_slice(), &bookings) {
-        Ok(rows) => Ok(rows),
-        Err(_) => Err(ViewFault::Memory),
-    }
+    let rows = lines_booked(alloc, lines.as_slice(), &bookings)?;
+    Ok(rows)
 }
 
 // The lines of a batch, by what it took and brought.

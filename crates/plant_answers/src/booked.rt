@@ -30,10 +30,8 @@ pub(crate) fn edges_between<V: Worklists>(
         → IfOk result (λ v. v.items ≡ edges_between (V.state view.old).movements nodes.now)) }
 {
     let bookings = bookings_around(alloc, view, nodes)?;
-    match sums_of(alloc, bookings.as_slice()) {
-        Ok(rows) => Ok(rows),
-        Err(_) => Err(ViewFault::Memory),
-    }
+    let rows = sums_of(alloc, bookings.as_slice())?;
+    Ok(rows)
 }
 
 // ---- bookings

@@ -52,10 +52,8 @@ fn genealogy_answer<V: Worklists>(
         (DecisionInvariant (V.state view.old)
         → IfOk result (λ a. a ≡ A.Edges (genealogy_around (V.state view.old) direction start.now))) }
 {
-    match genealogy_around(alloc, view, direction, *start) {
-        Ok(genealogy) => Ok(Answer::Edges(genealogy)),
-        Err(fault) => Err(fault),
-    }
+    let genealogy = genealogy_around(alloc, view, direction, *start)?;
+    Ok(Answer::Edges(genealogy))
 }
 
 fn genealogy_around<V: Worklists>(

@@ -55,10 +55,8 @@ fn open_batch<V: View>(
         (IfOk result (λ row. row ≡ open_batch (V.state view.old) batch.now)) }
 {
     let lines = lookup::control_lines(view, batch.batch.id)?;
-    match phases_among(alloc, lines.as_slice()) {
-        Ok(phases) => Ok(opened(batch, phases.as_slice())),
-        Err(_) => Err(ViewFault::Memory),
-    }
+    let phases = phases_among(alloc, lines.as_slice())?;
+    Ok(opened(batch, phases.as_slice()))
 }
 
 // The phases among the lines, in their order.

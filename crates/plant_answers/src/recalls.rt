@@ -67,8 +67,6 @@ fn nodes_reached<V: View>(
     ensures { ReadOnly V.Edges view.old view.new
         (IfOk result (λ nodes. nodes.items ≡ reached_list (edges_of (V.state view.old)) lot)) }
 {
-    match reached(alloc, view, lot) {
-        Ok(nodes) => Ok(nodes),
-        Err(fault) => Err(ViewFault::from(fault)),
-    }
+    let nodes = reached(alloc, view, lot)?;
+    Ok(nodes)
 }

@@ -64,8 +64,6 @@ pub(crate) fn trace<V: View>(
     ensures { ReadOnly V.Edges view.old view.new
         (IfOk result (λ nodes. nodes.items ≡ trace_of (V.state view.old) direction start)) }
 {
-    match closure(alloc, view, start, direction) {
-        Ok(nodes) => Ok(nodes),
-        Err(fault) => Err(ViewFault::from(fault)),
-    }
+    let nodes = closure(alloc, view, start, direction)?;
+    Ok(nodes)
 }

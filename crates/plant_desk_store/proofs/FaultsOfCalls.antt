@@ -1,5 +1,5 @@
 -- What is so of what a call below came to, once the desk or an adoption reports it.
-use Rattle.std.proofs.Common.{◌≡◌, ◌≢◌, ◌≤◌, ◌<◌, ℕ, ℤ, pos, nat_lt, Option, None, Some, Result, Ok, Err, IfOk, IfErr, IfSome, sym, subst, refl, inl, inr, arith, ◌↔◌}
+use Rattle.std.proofs.Common.{◌≡◌, ◌≢◌, ◌≤◌, ◌<◌, ℕ, ℤ, pos, nat_lt, Option, None, Some, Result, Ok, Err, IfOk, IfSome, sym, subst, refl, inl, inr, arith, ◌↔◌}
 use Rattle.std.proofs.lemmas.Bool.{cases_Bool}
 use Rattle.std.proofs.lemmas.Bool.Decides.{nat_tests}
 use lib.IntN.{negsuc}
@@ -11,12 +11,9 @@ use Rattle.plant_tables.specs.declared.finding.FoundTables.TheVariants as tables
 use Rattle.plant_migrate.proofs.KnownVersion.{version_number}
 use Rattle.sql_tables.specs.{Fault}
 use Rattle.sql_tables.specs.declared.fault.Fault.TheVariants as below
-use Rattle.plant_view.specs.{ViewFault}
-use Rattle.plant_view.specs.declared.fault.ViewFault.TheVariants as view
 use Rattle.plant_check_rules.specs.declared.rule.Rule.TheVariants as rule
-use Rattle.plant_questions.specs.{DeskFault}
-use Rattle.plant_questions.specs.declared.reply.DeskFault.TheVariants.{Store, Shut}
-use Rattle.plant_desk_store.specs.{desk_fault, looked_up, rows_to_test, rows_to_adopt, schema_found}
+use Rattle.plant_questions.specs.declared.reply.DeskFault.TheVariants.{Shut}
+use Rattle.plant_desk_store.specs.{desk_fault, rows_to_test, rows_to_adopt, schema_found}
 use Rattle.plant_desk_store.specs.declared.adopting.AdoptFault.{AdoptFault}
 use Rattle.plant_desk_store.specs.declared.adopting.AdoptFault.TheVariants as fault
 
@@ -24,24 +21,6 @@ use Rattle.plant_desk_store.specs.declared.adopting.AdoptFault.TheVariants as fa
 pub unshut : (f : Fault) → desk_fault f ≢ Shut
 unshut below.Store same = absurd (cc)
 unshut below.Memory same = absurd (cc)
-
--- ---- look-ups
-
-module _ {A : Type 0} (r : Result A (ViewFault Fault)) (reported : Result A DeskFault) (is : reported ≡ looked_up r) where
-  of_ok : (P : A → Type 0) (q : Result A (ViewFault Fault)) → IfOk q P → IfOk (looked_up q) P
-  of_ok P (Ok a) h = h
-  of_ok P (Err f) h = tt
-
-  never_shut : (q : Result A (ViewFault Fault)) → IfErr (looked_up q) (λ f. f ≢ Shut)
-  never_shut (Ok a) = tt
-  never_shut (Err (view.View f)) = unshut f
-  never_shut (Err view.Memory) = λ e. absurd (cc)
-
-  pub looked_up_if : (P : A → Type 0) → IfOk r P → IfOk reported P
-  looked_up_if P h = subst (λ q. IfOk q P) (sym is) (of_ok P r h)
-
-  pub looked_up_open : IfErr reported (λ f. f ≢ Shut)
-  looked_up_open = subst (λ q. IfErr q (λ f. f ≢ Shut)) (sym is) (never_shut r)
 
 -- ---- rows
 
@@ -54,12 +33,6 @@ pub adopted_rows : (P : Loaded → Type 0) (r : Result (Option Loaded) Fault) (x
 adopted_rows P (Ok (Some y)) x is h = let same : y ≡ x = cc in subst P same h
 adopted_rows P (Ok None) x is h = absurd (cc)
 adopted_rows P (Err f) x is h = absurd (cc)
-
--- no fault of a reading or of a test is that of a desk that is shut
-pub untested_unshut : (r : Result (Option Loaded) Fault) (f : DeskFault) → Err f ≡ rows_to_test r → f ≢ Shut
-untested_unshut (Ok (Some y)) f is = absurd (cc)
-untested_unshut (Ok None) f is = λ shut. (let same : f ≡ Store = cc in let both : Store ≡ Shut = cc in absurd (cc))
-untested_unshut (Err g) f is = let same : desk_fault g ≡ f = cc in subst (λ x. x ≢ Shut) same (unshut g)
 
 -- a fault of the reading names the first rule, where a table isn't declared as its definition says, or is none that names one
 pub unread_rows : (P : AdoptFault → Type 0) (r : Result (Option Loaded) Fault) (f : AdoptFault) → Err f ≡ rows_to_adopt r → (r ≡ Ok None → P (fault.Damaged rule.Tables)) → P fault.Store → P fault.Memory → P f

@@ -1,11 +1,10 @@
 -- Look-ups over a store that represents a state are honest, and show that state.
-use Rattle.std.proofs.Common.{◌≡◌, ◌∙◌, Bool, false, Option, None, IfSome, IsTrue, sym, subst, arith}
-use Rattle.std.proofs.lemmas.Bool.{false≢true}
+use Rattle.std.proofs.Common.{◌≡◌, ◌∙◌, Bool, false, IsTrue, sym, subst, arith}
 use Rattle.sqlite.specs.Effect.{Database}
 use Rattle.sqlite.specs.State as store
 use Rattle.sqlite.specs.State.{HasCleanDisk}
-use Rattle.plant_base.specs.{State, newest_schema, Position}
-use Rattle.plant_view.specs.{tables_of, position_of}
+use Rattle.plant_base.specs.{State, newest_schema}
+use Rattle.plant_view.specs.{tables_of}
 use Rattle.plant_invariant.specs.StateInvariant.{StateInvariant}
 use Rattle.plant_tables.specs.{HoldsTables}
 use Rattle.plant_keyed.specs.{IsHonest, PreservesFrame, IsCacheOf, CacheStaysValid, LookupCache, honest_before, abstraction}
@@ -43,10 +42,3 @@ honest_at old mid new f g h x y z s first second recalls stays clean unfailed is
       showed = here;
       shows = shown_mid;
     }
-
--- a cache of nothing is true of every state
-pub unread_is : (s : State) (c : LookupCache) → c.position ≡ None → c.edges.are_read ≡ false → IsCacheOf s c
-unread_is s c none unread = record {
-  position = subst (λ (o : Option Position). IfSome o (λ p. p ≡ position_of s)) (sym none) tt;
-  edges = λ read. absurd (false≢true (sym unread ∙ read));
-}

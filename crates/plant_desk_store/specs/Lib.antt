@@ -13,7 +13,7 @@ pub mod DeskStates
 pub mod Checks
 pub use Adopting.{AdoptedFrom, Adopts, AreMade, BrokenBy, HoldsValidState, IsAdopted, IsFirstBroken, IsNewlyOpened, IsRaised, IsRefusedBy, IsRisingAt, IsUnraised, NamesFirst, ShowsUnchanged, ValidStateSurvives}
 pub use Calls.{HasAdopted, HasIndexed, HasRefused, IsAccounted}
-pub use Faults.{adopt_fault, desk_fault, looked_up, rows_to_adopt, rows_to_test, schema_found}
+pub use Faults.{adopt_fault, desk_fault, rows_to_adopt, rows_to_test, schema_found}
 pub use Headline.{AreStandingIn, HasOpenableCrashState, IsAnsweredIn, IsAtState, IsFoundAt, IsKeptAt, IsLotIn, IsSoAt, IsTraceIn, SaysOf}
 pub use DeskLaws.{IsAdoptable, IsOpenedAfter, MarksAreReached, ValidIsAdoptedAgain}
 pub use KeptCrashStates.{kept_crash_states}

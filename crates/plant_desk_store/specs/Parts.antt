@@ -34,6 +34,14 @@ pub record OnlyReads (old new : store.State) : Type 0 where
   pub kept : HasCleanDisk new → Keeps old new
   pub crash : Survives old new (λ _. ⊥)
 
+-- Look-ups came to what is right at the state that was shown, and to what is so of each outcome.
+pub record HasLookedUp {A : Type 0} (is_right : State → A → Type 0) (is_formed : A → Type 0) (old new : store.State) (r : Result A DeskFault) : Type 0 where
+  pub reads : OnlyReads old new
+  pub right : HasCleanDisk new → (s : State) → ShowsState old s → IfOk r (is_right s)
+  pub formed : IfOk r is_formed
+  pub is_live : HasCleanDisk new → OnOk r (IsTrue new.is_open)
+  pub unshut : IfErr r (λ f. f ≢ Shut)
+
 -- A command was decided by look-ups.
 pub record HasDecided (old new : store.State) (e : Envelope) (r : Result Decided DeskFault) : Type 0 where
   pub reads : OnlyReads old new

@@ -105,10 +105,9 @@ fn adopt_on<S: Alter>(alloc: Global, connection: &mut Connection<S>) -> Result<(
         (state S.Store connection.new)) (λ fault. HasRefused fault (state S.Store connection.old)
         (state S.Store connection.new)) }
 {
-    match schema_found(found(alloc, connection)) {
-        Ok(None) => make_opening(connection),
-        Ok(Some(schema)) => adopt_tables(alloc, connection, schema),
-        Err(fault) => Err(fault),
+    match schema_found(found(alloc, connection))? {
+        None => make_opening(connection),
+        Some(schema) => adopt_tables(alloc, connection, schema),
     }
 }
 
@@ -174,10 +173,8 @@ fn check_tables<S: Alter>(
 ) -> Result<DeskRows, AdoptFault>
     ensures { HasChecked schema (state S.Store connection.old) (state S.Store connection.new) result }
 {
-    match rows_to_adopt(Loaded::read(alloc, connection, schema)) {
-        Ok(loaded) => check_loaded(alloc, loaded, schema),
-        Err(fault) => Err(fault),
-    }
+    let loaded = rows_to_adopt(Loaded::read(alloc, connection, schema))?;
+    check_loaded(alloc, loaded, schema)
 }
 
 /// Tests whether the rows that were loaded of the tables of a schema are those of a valid state.

@@ -1,6 +1,6 @@
 //! Decisions, checks and answers by look-ups: of a store only the rows are read that a command or a question names.
 
-ghost use Rattle.std.specs.Prelude.{◌≡◌, ◌≤◌, IfOk, OnOk, IsTrue};
+ghost use Rattle.std.specs.Prelude.{◌≡◌, ◌≤◌, ⊤, IfOk, OnOk, IsTrue};
 ghost use Rattle.sqlite.specs.Held.{state};
 ghost use Rattle.sqlite.specs.State.{HasCleanDisk};
 ghost use Rattle.plant_base.specs.{State, newest_schema, greatest_seq};
@@ -9,7 +9,7 @@ ghost use Rattle.plant_rules.specs.{checked};
 ghost use Rattle.plant_answers.specs.{answer};
 ghost use Rattle.plant_keyed.specs.{PreservesFrame, IsCacheOf};
 ghost use Rattle.plant_desk_store.specs.Lookups.{IsDecidedAt};
-ghost use Rattle.plant_desk_store.specs.Parts.{HasDecided, HasForeseen, HasAnswered};
+ghost use Rattle.plant_desk_store.specs.Parts.{HasDecided, HasForeseen, HasAnswered, HasLookedUp};
 ghost use Rattle.plant_desk_store.specs.DeskStates.{ShowsState};
 
 use crate::faults::looked_up;
@@ -18,6 +18,7 @@ use plant_base::Envelope;
 use plant_keyed::{Keyed, LookupCache};
 use plant_questions::{Answer, DeskFault, Question};
 use plant_rules::{Checked, check, decide};
+use plant_trace::Edges;
 use plant_view::{Decision, ViewFault};
 use sql_tables::Fault;
 use sqlite::{Alter, Connection};
@@ -42,43 +43,7 @@ pub(crate) fn decide_on<S: Alter>(
     ensures { HasDecided (state S.Store connection.old) (state S.Store connection.new) envelope.now
         result }
 {
-    let mut cache = LookupCache::unread(alloc);
-    let mut view = Keyed::new(alloc, connection, &mut cache);
-    looked_up(decide_over(alloc, &mut view, envelope))
-}
-
-/// Decides a command by look-ups. `View` where one of them fails, with its fault; `Memory` where there is none for what is
-/// made of their rows.
-fn decide_over<S: Alter>(
-    alloc: Global,
-    view: &mut Keyed<'_, S>,
-    envelope: &Envelope,
-) -> Result<Decided, ViewFault<Fault>>
-    ensures same_reference { view.new.conn.ghost_name ≡ view.old.conn.ghost_name }
-    ensures frame { PreservesFrame (state S.Store view.old.conn.now) (state S.Store view.new.conn.now)
-        view.old.has_failed view.new.has_failed }
-    ensures decided { HasCleanDisk (state S.Store view.new.conn.now) → (s : State)
-        → ShowsState (state S.Store view.old.conn.now) s → IsCacheOf s view.old.cache.now
-        → IfOk result (IsDecidedAt s envelope.now) }
-    ensures one_batch { IfOk result (λ d. PutsOneBatch d.decision) }
-    ensures small { IfOk result (λ d. d.seq ≤ greatest_seq) }
-    ensures is_live { HasCleanDisk (state S.Store view.new.conn.now)
-        → OnOk result (IsTrue (state S.Store view.new.conn.now).is_open) }
-{
-    // A position that was read shows that the connection is open.
-    let seq = match view.read_position() {
-        Ok(position) => position.seq,
-        Err(fault) => return Err(ViewFault::View(fault)),
-    };
-    let decision = match decide(alloc, view, envelope) {
-        Ok(decision) => decision,
-        Err(fault) => return Err(fault),
-    };
-    // That no decision is made after a look-up failed isn't a clause of `decide`.
-    if view.has_failed {
-        return Err(ViewFault::View(Fault::Store));
-    }
-    Ok(Decided { seq, decision })
+    over_view(alloc, connection, &Deciding { envelope })
 }
 
 /// Says what would become of a command over the tables of a store, by the rows that it names. Store where a look-up fails,
@@ -91,38 +56,7 @@ pub(crate) fn check_on<S: Alter>(
     ensures { HasForeseen (state S.Store connection.old) (state S.Store connection.new) envelope.now
         result }
 {
-    let mut cache = LookupCache::unread(alloc);
-    let mut view = Keyed::new(alloc, connection, &mut cache);
-    looked_up(check_over(alloc, &mut view, envelope))
-}
-
-/// Says what would become of a command by look-ups. The faults are those of [`decide_over`].
-fn check_over<S: Alter>(
-    alloc: Global,
-    view: &mut Keyed<'_, S>,
-    envelope: &Envelope,
-) -> Result<Checked, ViewFault<Fault>>
-    ensures same_reference { view.new.conn.ghost_name ≡ view.old.conn.ghost_name }
-    ensures frame { PreservesFrame (state S.Store view.old.conn.now) (state S.Store view.new.conn.now)
-        view.old.has_failed view.new.has_failed }
-    ensures checks { HasCleanDisk (state S.Store view.new.conn.now) → (s : State)
-        → ShowsState (state S.Store view.old.conn.now) s → IsCacheOf s view.old.cache.now
-        → IfOk result (λ c. c ≡ checked s envelope.now) }
-{
-    // A position that was read shows that the connection is open.
-    let _position = match view.read_position() {
-        Ok(position) => position,
-        Err(fault) => return Err(ViewFault::View(fault)),
-    };
-    let checked = match check(alloc, view, envelope) {
-        Ok(checked) => checked,
-        Err(fault) => return Err(fault),
-    };
-    // That nothing is said after a look-up failed isn't a clause of `check`.
-    if view.has_failed {
-        return Err(ViewFault::View(Fault::Store));
-    }
-    Ok(checked)
+    over_view(alloc, connection, &Checking { envelope })
 }
 
 /// Answers a question over the tables of a store: a trace reads the edges that it follows, or all of them once where they
@@ -135,36 +69,148 @@ pub(crate) fn answer_on<S: Alter>(
     ensures { HasAnswered (state S.Store connection.old) (state S.Store connection.new) question.now
         result }
 {
-    let mut cache = LookupCache::unread(alloc);
-    let mut view = Keyed::new(alloc, connection, &mut cache);
-    looked_up(answer_over(alloc, &mut view, question))
+    over_view(alloc, connection, &Asking { question })
 }
 
-/// Answers a question by look-ups. The faults are those of [`decide_over`].
-fn answer_over<S: Alter>(
+/// What is looked up in the rows of a store: a decision, a check or an answer.
+trait OverView {
+    ghost use Rattle.std.specs.Prelude.{◌≡◌, ◌≤◌, IfOk};
+    ghost use Rattle.sqlite.specs.Held.{state};
+    ghost use Rattle.plant_base.specs.{State, greatest_seq};
+    ghost use Rattle.plant_trace.specs.ReadOnly.{ReadOnly};
+    ghost use Rattle.plant_view.specs.DecisionInvariant.{DecisionInvariant};
+    ghost use Rattle.plant_keyed.specs.{abstraction};
+
+    /// What it comes to, where no look-up fails.
+    type Outcome: Drop;
+
+    /// What is right at a state.
+    ghost is_right: { State → Self → Self.Outcome → Type 0 };
+
+    /// What is so of each outcome, also where the look-ups aren't honest.
+    ghost is_formed: { Self.Outcome → Type 0 };
+
+    /// The outcome by look-ups over a view, where so many commands were accepted before.
+    fn look_up<'k, S: Alter>(
+        &self,
+        alloc: Global,
+        view: &mut Keyed<'k, S>,
+        seq: u64,
+    ) -> Result<Self::Outcome, ViewFault<Fault>>
+        ensures right { ReadOnly ⟦<Keyed<'k, S> as Edges>⟧ view.old view.new
+            (DecisionInvariant (abstraction (state S.Store view.old.conn.now).now)
+            → seq ≡ (abstraction (state S.Store view.old.conn.now).now).seq
+            → IfOk result (is_right (abstraction (state S.Store view.old.conn.now).now) self.now)) }
+        ensures formed { seq ≤ greatest_seq → IfOk result is_formed };
+}
+
+/// The decision of a command, as it is looked up.
+#[derive(Drop)]
+struct Deciding<'a> {
+    envelope: &'a Envelope,
+}
+
+impl<'a> OverView for Deciding<'a> {
+    type Outcome = Decided;
+
+    ghost is_right = { λ s it d. IsDecidedAt s it.envelope.now d };
+
+    ghost is_formed = { λ d. PutsOneBatch d.decision × (d.seq ≤ greatest_seq) };
+
+    fn look_up<'k, S: Alter>(
+        &self,
+        alloc: Global,
+        view: &mut Keyed<'k, S>,
+        seq: u64,
+    ) -> Result<Decided, ViewFault<Fault>> {
+        let decision = decide(alloc, view, self.envelope)?;
+        Ok(Decided { seq, decision })
+    }
+}
+
+/// The check of a command, as it is looked up.
+#[derive(Drop)]
+struct Checking<'a> {
+    envelope: &'a Envelope,
+}
+
+impl<'a> OverView for Checking<'a> {
+    type Outcome = Checked;
+
+    ghost is_right = { λ s it c. c ≡ checked s it.envelope.now };
+
+    ghost is_formed = { λ _. ⊤ };
+
+    fn look_up<'k, S: Alter>(
+        &self,
+        alloc: Global,
+        view: &mut Keyed<'k, S>,
+        _seq: u64,
+    ) -> Result<Checked, ViewFault<Fault>> {
+        check(alloc, view, self.envelope)
+    }
+}
+
+/// The answer to a question, as it is looked up.
+#[derive(Drop)]
+struct Asking<'a> {
+    question: &'a Question,
+}
+
+impl<'a> OverView for Asking<'a> {
+    type Outcome = Answer;
+
+    ghost is_right = { λ s it a. a ≡ answer newest_schema s it.question.now };
+
+    ghost is_formed = { λ _. ⊤ };
+
+    fn look_up<'k, S: Alter>(
+        &self,
+        alloc: Global,
+        view: &mut Keyed<'k, S>,
+        _seq: u64,
+    ) -> Result<Answer, ViewFault<Fault>> {
+        answer(alloc, view, self.question)
+    }
+}
+
+/// The outcome over the tables of a store. Store where a look-up fails, Memory where there is none. Nothing is changed.
+fn over_view<T: OverView, S: Alter>(
+    alloc: Global,
+    connection: &mut Connection<S>,
+    asked: &T,
+) -> Result<T::Outcome, DeskFault>
+    ensures { HasLookedUp (λ s. T.is_right s asked.now) T.is_formed (state S.Store connection.old)
+        (state S.Store connection.new) result }
+{
+    let mut cache = LookupCache::unread(alloc);
+    let mut view = Keyed::new(alloc, connection, &mut cache);
+    looked_up(outcome_over(alloc, &mut view, asked))
+}
+
+/// The outcome by look-ups. `View` where one of them fails, with its fault; `Memory` where there is none for what is made of
+/// their rows.
+fn outcome_over<T: OverView, S: Alter>(
     alloc: Global,
     view: &mut Keyed<'_, S>,
-    question: &Question,
-) -> Result<Answer, ViewFault<Fault>>
+    asked: &T,
+) -> Result<T::Outcome, ViewFault<Fault>>
     ensures same_reference { view.new.conn.ghost_name ≡ view.old.conn.ghost_name }
     ensures frame { PreservesFrame (state S.Store view.old.conn.now) (state S.Store view.new.conn.now)
         view.old.has_failed view.new.has_failed }
-    ensures answers { HasCleanDisk (state S.Store view.new.conn.now) → (s : State)
+    ensures right { HasCleanDisk (state S.Store view.new.conn.now) → (s : State)
         → ShowsState (state S.Store view.old.conn.now) s → IsCacheOf s view.old.cache.now
-        → IfOk result (λ a. a ≡ answer newest_schema s question.now) }
+        → IfOk result (T.is_right s asked.now) }
+    ensures formed { IfOk result T.is_formed }
+    ensures is_live { HasCleanDisk (state S.Store view.new.conn.now)
+        → OnOk result (IsTrue (state S.Store view.new.conn.now).is_open) }
 {
     // A position that was read shows that the connection is open.
-    let _position = match view.read_position() {
-        Ok(position) => position,
-        Err(fault) => return Err(ViewFault::View(fault)),
-    };
-    let answer = match answer(alloc, view, question) {
-        Ok(answer) => answer,
-        Err(fault) => return Err(fault),
-    };
-    // That nothing is answered after a look-up failed isn't a clause of `answer`.
+    let position = view.read_position().map_err(ViewFault::View)?;
+    let outcome = asked.look_up(alloc, view, position.seq)?;
+    // That nothing is said after a look-up failed isn't a clause of `look_up`.
     if view.has_failed {
         return Err(ViewFault::View(Fault::Store));
     }
-    Ok(answer)
+    Ok(outcome)
 }

@@ -22,10 +22,8 @@ pub(crate) fn verify_on<S: Alter>(
 ) -> Result<Option<Rule>, DeskFault>
     ensures { HasTested (state S.Store connection.old) (state S.Store connection.new) result }
 {
-    match rows_to_test(Loaded::read(alloc, connection, NEWEST_SCHEMA)) {
-        Ok(loaded) => broken_rule(alloc, loaded),
-        Err(fault) => Err(fault),
-    }
+    let loaded = rows_to_test(Loaded::read(alloc, connection, NEWEST_SCHEMA))?;
+    broken_rule(alloc, loaded)
 }
 
 // The first rule that loaded rows break. The only error is that memory was refused.

@@ -240,10 +240,8 @@ fn recalled(
     ensures seen { are_seen direction edges.now ≡ true → IfOk result (λ found. IsSome found) }
 {
     if are_seen(edges, direction) {
-        match edges.next(alloc, *node) {
-            Ok(nodes) => Ok(Some(nodes)),
-            Err(_) => Err(AllocError),
-        }
+        let nodes = edges.next(alloc, *node)?;
+        Ok(Some(nodes))
     } else {
         Ok(None)
     }

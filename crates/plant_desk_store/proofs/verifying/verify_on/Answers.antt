@@ -8,15 +8,15 @@ use Rattle.plant_tables.specs.{AreLoaded}
 use Rattle.plant_questions.specs.declared.reply.DeskFault.TheVariants.{Shut}
 use Rattle.plant_check_laws.proofs.InvariantImpliesChecksPass.{read_valid}
 use Rattle.plant_invariant_tables.proofs.TablesHaveValidValues.{newest_known}
-use Rattle.plant_desk_store.proofs.FaultsOfCalls.{tested_rows, unshut, untested_unshut}
+use Rattle.plant_desk_store.proofs.FaultsOfCalls.{tested_rows, unshut}
 use Rattle.plant_desk_store.proofs.verifying.verify_on.Goals as goal
 
-pub returns-in-Ok : goal.returns-in-Ok
-returns-in-Ok g c =
+pub returns : goal.returns
+returns g c =
     let old = state g.S.Store c.args.connection.now in
     let new = state g.S.Store c.read.new.conn in
-    let x = c.in-Ok.loaded in
-    let is = c.in-Ok.ensures in
+    let x = c.in_ok-loaded.loaded in
+    let is = c.in_ok-loaded.ensures in
     let did = c.broken_rule in
     let loaded : HasCleanDisk new → AreLoaded newest_schema old.now x = λ clean. tested_rows (AreLoaded newest_schema old.now) c.read.result x is (c.read.ensures.rows clean) in
     record {
@@ -29,11 +29,3 @@ returns-in-Ok g c =
           IfOk-weaker did.result _ _ (λ broken reported. reported ∙ none) did.ensures.broken;
       unshut = IfErr-weaker did.result _ _ (λ f memory. subst (λ x. x ≢ Shut) (sym memory) (unshut fault.Memory)) did.ensures.memory;
     }
-
-pub returns-in-Err : goal.returns-in-Err
-returns-in-Err g c = record {
-  reads = record { rests = c.read.ensures.mode; kept = c.read.ensures.kept; crash = c.read.ensures.crash };
-  tested = λ clean. tt;
-  unbroken = λ clean s represents. tt;
-  unshut = untested_unshut c.read.result c.in-Err.fault c.in-Err.ensures;
-}

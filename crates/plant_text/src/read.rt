@@ -152,7 +152,7 @@ fn value_of(alloc: Global, bytes: &[u8]) -> Result<Value, Fault>
 /// The line is a JSON text (RFC 8259) of 262,144 bytes at most, in UTF-8, as serde_json reads it; of members with one name the last
 /// counts. An object with `do` is a command where it has the members that each command has (of which the note and the reference may be
 /// left out), those of its word and no other, and in its list objects with exactly the members of their kind; which members these are, and
-/// what each may be, is in the tables of `plant_message_schema`. Another with `ask` is a question: exactly `{"ask":"desk"}`;
+/// what each may be, is in the tables of `plant_json_in`. Another with `ask` is a question: exactly `{"ask":"desk"}`;
 /// `{"ask":"lot","lot":ID}` and likewise with `order`, `batch` and `recall`; `{"ask":"back","lot":ID}` or
 /// `{"ask":"back","batch":ID}` and likewise with `forward`; `{"ask":"moment"}`; or one for a page of a list, with its word and what it is of, and
 /// with the id that it goes on from where one is given. `{"ask":"check","command":OBJECT}` asks what would become of a command, and is taken

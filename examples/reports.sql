@@ -1,8 +1,8 @@
 -- Reports over a desk's file, for sqlite3 while no program has it open. docs/FORMATS.md, "The tables of a file", says what each column is.
 --
---     sqlite3 -header -column plant.db ".parameter set :today '2027-03-01'" ".read reports.sql"
+--     sqlite3 -header -column plant.db ".parameter set :today \"'2027-03-01'\"" ".read reports.sql"
 --
--- :today is the day from which orders are due; without it no order is listed.
+-- :today is the day from which orders are due, within both kinds of quotes, of which the shell of sqlite3 takes one away; without it no order is listed.
 
 -- Stock by material and place: what is free, and what is on hold or recalled.
 SELECT lot.def AS material, definition.unit AS unit, sublot.place AS place,

@@ -1,18 +1,18 @@
 #!/usr/bin/env python3
-"""The desk's commands, described once; writes the regions of files that repeat the description.
+"""The desk's commands, described once; writes the files that repeat the description.
 
-    make/commands.py          writes each region anew
-    make/commands.py --check  ends with status 1 where a region isn't what the description gives
+    make/commands.py          writes each file anew
+    make/commands.py --check  ends with status 1 where a file isn't what the description gives
 
-make/regions.py says what a region is, and make/command_regions.py what each repeats. What a command does is written by hand, and of one that has a
-list what the list asks for.
+make/templates/commands has the templates of the files, make/regions.py says how they are read, and make/command_files.py what they name. What a
+command does is written by hand, and of one that has a list what the list asks for.
 """
 from __future__ import annotations
 
 import dataclasses
 import sys
 
-import command_regions
+import command_files
 import regions
 from regions import camel
 
@@ -145,7 +145,7 @@ COMMANDS = [
 
 
 def main() -> int:
-    return regions.run("make/commands.py", __doc__, "commands", command_regions.regions(COMMANDS))
+    return regions.run("make/commands.py", __doc__, "commands", command_files.files(COMMANDS))
 
 
 if __name__ == "__main__":

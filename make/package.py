@@ -27,9 +27,23 @@ from helps import Wrong
 TOP = pathlib.Path(__file__).resolve().parent.parent
 BESIDE = TOP / "make" / "packaged"
 
-# The programs, and those of them that have no words.
+# The programs that are built.
 PROGRAMS = ("desk", "order_check", "line_check", "desk_check", "genealogy_picture")
-ALONE = PROGRAMS[1:]
+
+# The scripts, by the names under which they are installed.
+SCRIPTS = {"desk-backup": BESIDE / "desk_backup.py", "desk-watch": BESIDE / "desk_watch.py"}
+
+# What has no words of its own.
+ALONE = (*PROGRAMS[1:], *SCRIPTS)
+
+# The interpreter of the scripts.
+PYTHON = "python3 (>= 3.9)"
+
+# The units.
+UNITS = ("desk@.service", "desk-backup@.service", "desk-backup@.timer")
+
+# What dpkg runs of the package for Debian.
+MAINTAINER = ("postinst", "prerm", "postrm")
 
 # Where documents and examples stand.
 DOC = "share/doc/desk"
@@ -104,7 +118,7 @@ class Elf:
 
 
 def depends(programs: Iterable[pathlib.Path]) -> str:
-    """The line of the control file on which packages the programs stand, none where they need none."""
+    """The line of the control file on which packages the programs and the scripts stand."""
     read = [Elf(it) for it in programs]
     wanted = {it for program in read for it in program.libraries()}
     unknown = sorted(wanted.difference(LIBRARIES))
@@ -114,7 +128,7 @@ def depends(programs: Iterable[pathlib.Path]) -> str:
     versions = [it for program in read for it in program.versions()]
     if "libc6" in packages and versions:
         packages["libc6"] = f" (>= {'.'.join(map(str, max(versions)))})"
-    return f"Depends: {', '.join(it + packages[it] for it in sorted(packages))}\n" if packages else ""
+    return f"Depends: {', '.join([*(it + packages[it] for it in sorted(packages)), PYTHON])}\n"
 
 
 def version_of(program: pathlib.Path) -> str:
@@ -154,6 +168,7 @@ def documents() -> dict[str, File]:
 def tree(programs: Programs, version: str) -> dict[str, File]:
     """All files of a package by their places, each with its bytes and its mode."""
     whole, words = helps.helps_of(programs["desk"])
+    programs = {**programs, **SCRIPTS}
     files = {f"bin/{name}": (path.read_bytes(), 0o755) for name, path in programs.items()}
     files.update(pages(programs, version, whole, words))
     files.update(documents())
@@ -162,7 +177,7 @@ def tree(programs: Programs, version: str) -> dict[str, File]:
         "share/bash-completion/completions/desk": completions.bash(whole, words),
         "share/fish/vendor_completions.d/desk.fish": completions.fish(whole, words),
         "share/zsh/vendor-completions/_desk": completions.zsh(whole, words),
-        "lib/systemd/system/desk@.service": (BESIDE / "desk@.service").read_text(),
+        **{f"lib/systemd/system/{it}": (BESIDE / it).read_text() for it in UNITS},
         f"{DOC}/desk.conf": (BESIDE / "desk.conf").read_text(),
         f"{DOC}/copyright": (BESIDE / "copyright").read_text(),
     }
@@ -215,6 +230,7 @@ def debian(programs: Programs, version: str, files: Mapping[str, File]) -> bytes
     files = {f"usr/{name}": it for name, it in files.items()}
     sums = "".join(f"{hashlib.md5(files[it][0]).hexdigest()}  {it}\n" for it in sorted(files))
     about = {"control": (control(programs, version, files).encode(), 0o644), "md5sums": (sums.encode(), 0o644)}
+    about.update({it: ((BESIDE / "debian" / it).read_bytes(), 0o755) for it in MAINTAINER})
     members = [("debian-binary", b"2.0\n"), ("control.tar.gz", packed(about, "./")), ("data.tar.gz", packed(files, "./"))]
     return b"!<arch>\n" + b"".join(member(*it) for it in members)
 

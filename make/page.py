@@ -1,119 +1,199 @@
 #!/usr/bin/env python3
-"""Keeps the page that the desk serves and its Content-Security-Policy together.
+"""Makes the sources of crate desk_page of the files of page/: the resources that the desk serves as its page.
 
-    make/page.py                    prints the policy of the page
-    make/page.py --check            says whether the policy in the sources is that of the page; status 1 where it isn't
-    make/page.py --write            writes the policy of the page into the sources
-    make/page.py --take FILE        takes a file as the page, and writes its policy
-    make/page.py --print            prints the page
+    make/page.py --check            says whether the sources are what page/ gives; status 1 where they aren't
+    make/page.py --write            writes the sources
+    make/page.py --print PATH       prints the resource at a path: /, /desk.css, /desk.js or /views.js
 
-The page is the raw byte literal PAGE of crates/desk_page/src/page.rt, and the policy the constant POLICY of policy.rt next to it. The policy lets
-a browser run the one script and use the one style of the page, known by their checksums, and nothing else.
+/ is page/index.html, which names the other resources. A script is modules of page/ joined in the order of SCRIPTS: each imports from those before
+it alone, and all that they declare has names of its own. Each resource has an entity tag, which changes with its bytes.
 """
 from __future__ import annotations
 
 import argparse
-import base64
+import dataclasses
 import hashlib
 import pathlib
 import re
 import sys
 
-SOURCES = pathlib.Path(__file__).resolve().parent.parent / "crates/desk_page/src"
-PAGE = re.compile(r'(pub const PAGE: &\[u8\] = br##")(.*?)("##;)', re.S)
-POLICY = re.compile(r'(pub const POLICY: &str =\s*")([^"]*)(";)')
+TOP = pathlib.Path(__file__).resolve().parent.parent
+PAGE, SOURCES = TOP / "page", TOP / "crates/desk_page/src"
 
-# The most bytes of a page and of its policy.
-LARGEST_PAGE, LONGEST_POLICY = 120_000, 400
+# The modules of each script. Those of the first two lines are pure: they touch neither the page nor the desk.
+SCRIPTS = {
+    "desk.js": (
+        "amounts", "moments", "ids", "addresses", "csv", "cursors", "recipes", "records", "words", "scans",
+        "elements", "store", "who", "focus", "scanner", "parts", "questions", "frame", "saved", "lots", "forms", "book",
+    ),
+    "views.js": ("genealogy", "record", "stands", "planner", "shift", "warehouse", "quality", "start"),
+}
+
+# What is in index.html for the scripts while they are modules of their own.
+MODULE = '<script type="module" src="start.js"></script>\n'
+
+IMPORT = re.compile(r'^import \{([^}]*)\} from "\./(\w+)\.js";\n', re.M)
+COMMENT = re.compile(r"^ *//.*\n", re.M)
+DECLARED = re.compile(r"^(?:export )?(?:async )?(?:const|let|function|class) (\w+)", re.M)
+
+# The most bytes of a resource, and the most lines of a module.
+LARGEST_RESOURCE, LONGEST_MODULE = 120_000, 400
+
+SOURCE = '''//! %(about)s, as it is sent. make/page.py writes this file of what is in page/.
+
+/// Its bytes: %(kind)s in ASCII.
+pub const %(name)s: &[u8] = br##"%(text)s"##;
+
+/// Its entity tag.
+pub const %(name)s_TAG: &str = "\\"%(tag)s\\"";
+'''
+
+
+@dataclasses.dataclass(frozen=True)
+class Resource:
+    """What a browser loads by itself: its path, and what it is, in its source."""
+
+    path: str
+    source: str
+    about: str
+    kind: str
+
+    @property
+    def text(self) -> str:
+        """Its bytes."""
+        if self.path == "/":
+            text = page_text()
+        elif self.path == "/desk.css":
+            text = ascii_text("desk.css")
+        else:
+            text = joined_script(self.path[1:])
+        if len(text) > LARGEST_RESOURCE:
+            raise WrongPage(f"{self.path} has {len(text)} bytes, and may have {LARGEST_RESOURCE}")
+        return text
+
+    @property
+    def made(self) -> str:
+        """Its source."""
+        text = self.text
+        tag = hashlib.sha256(text.encode()).hexdigest()[:32]
+        return SOURCE % {"about": self.about, "kind": self.kind, "name": self.source.upper(), "text": text, "tag": tag}
+
+
+RESOURCES = (
+    Resource("/", "page", "The page", "HTML"),
+    Resource("/desk.css", "style", "The style of the page", "CSS"),
+    Resource("/desk.js", "script", "What the views of the page share", "JavaScript"),
+    Resource("/views.js", "views", "The views of the page", "JavaScript"),
+)
 
 
 class WrongPage(Exception):
     """Why a page can't be served."""
 
 
-def element(page: str, tag: str) -> str:
-    """Returns what stands in the one element of a tag."""
-    found: list[str] = re.findall(rf"<{tag}\b[^>]*>(.*?)</{tag}>", page, re.S)
-    if len(found) != 1:
-        raise WrongPage(f"the page has {len(found)} elements {tag}, and has to have one")
-    return found[0]
-
-
-def checksum(text: str) -> str:
-    """Returns the checksum of a script or a style as a policy names it."""
-    return "sha256-" + base64.b64encode(hashlib.sha256(text.encode()).digest()).decode()
-
-
-def policy_of(page: str) -> str:
-    """Returns the policy of a page."""
-    rules = {
-        "default-src": "'none'",
-        "script-src": f"'{checksum(element(page, 'script'))}'",
-        "style-src": f"'{checksum(element(page, 'style'))}'",
-        "connect-src": "'self'",
-        "img-src": "data:",
-        "base-uri": "'none'",
-        "form-action": "'none'",
-        "frame-ancestors": "'none'",
-    }
-    return "; ".join(f"{name} {value}" for name, value in rules.items())
-
-
-def checked(page: bytes) -> tuple[str, str]:
-    """Returns a page that can stand in the literal, and its policy."""
+def ascii_text(name: str) -> str:
+    """Returns the text of a file of page/, which can stand in a source."""
+    content = (PAGE / name).read_bytes()
     try:
-        text = page.decode("ascii")
+        text = content.decode("ascii")
     except UnicodeDecodeError as error:
-        raise WrongPage(f"byte {error.start} of the page isn't ASCII") from error
+        raise WrongPage(f"byte {error.start} of page/{name} isn't ASCII") from error
     if '"##' in text:
-        raise WrongPage('the page has "## in it, which ends the literal')
+        raise WrongPage(f'page/{name} has "## in it, which ends the literal')
     if "\r" in text:
-        raise WrongPage("the page has a CR in it")
-    if len(text) > LARGEST_PAGE:
-        raise WrongPage(f"the page has {len(text)} bytes, and may have {LARGEST_PAGE}")
-    policy = policy_of(text)
-    if len(policy) > LONGEST_POLICY:
-        raise WrongPage(f"the policy has {len(policy)} bytes, and may have {LONGEST_POLICY}")
-    return text, policy
+        raise WrongPage(f"page/{name} has a CR in it")
+    return text
 
 
-def constant(file: str, pattern: re.Pattern[str]) -> str:
-    """Returns the text of a constant in a source."""
-    found = pattern.search((SOURCES / file).read_text())
-    if not found:
-        raise WrongPage(f"{file} doesn't have the constant in the form that this tool knows")
-    return found.group(2)
+def check_modules() -> None:
+    """Refuses a module that SCRIPTS doesn't name, and one that isn't there."""
+    there, named = {it.stem for it in PAGE.glob("*.js")}, {it for modules in SCRIPTS.values() for it in modules}
+    for name in sorted(there ^ named):
+        raise WrongPage(f"page/{name}.js is {'not among the SCRIPTS of make/page.py' if name in there else 'not there'}")
 
 
-def put(file: str, pattern: re.Pattern[str], text: str) -> None:
-    """Writes a constant into a source."""
-    source = (SOURCES / file).read_text()
-    (SOURCES / file).write_text(pattern.sub(lambda it: it.group(1) + text + it.group(3), source, count=1))
+def check_imports(name: str, text: str, exported: dict[str, set[str]]) -> None:
+    """Refuses a module that imports what no earlier one exports."""
+    for names, module in IMPORT.findall(text):
+        if module not in exported:
+            raise WrongPage(f"page/{name}.js imports from {module}, which isn't before it")
+        for it in sorted({it.strip() for it in names.split(",") if it.strip()} - exported[module]):
+            raise WrongPage(f"page/{name}.js imports {it}, which {module} doesn't export")
+    rest = re.search(r"^import .*", IMPORT.sub("", text), re.M)
+    if rest:
+        raise WrongPage(f"page/{name}.js has an import of another form: {rest.group()}")
+
+
+def exports(text: str) -> set[str]:
+    """Returns the names that a module exports."""
+    return set(re.findall(r"^export (?:async )?(?:const|let|function|class) (\w+)", text, re.M))
+
+
+def checked_modules() -> dict[str, str]:
+    """Returns the text of each module, in their order."""
+    check_modules()
+    texts, homes, exported = dict[str, str](), dict[str, str](), dict[str, set[str]]()
+    for name in (it for modules in SCRIPTS.values() for it in modules):
+        text = ascii_text(f"{name}.js")
+        if text.count("\n") > LONGEST_MODULE:
+            raise WrongPage(f"page/{name}.js has {text.count(chr(10))} lines, and may have {LONGEST_MODULE}")
+        check_imports(name, text, exported)
+        exported[name] = exports(text)
+        for it in DECLARED.findall(text):
+            if it in homes:
+                raise WrongPage(f"page/{name}.js and page/{homes[it]}.js both declare {it}")
+            homes[it] = name
+        texts[name] = text
+    return texts
+
+
+def joined_script(script: str) -> str:
+    """Returns the modules of a script as one, without the lines that are comments or empty. What a module exports is there for the later ones."""
+    texts = checked_modules()
+    parts = [re.sub(r"^export ", "", COMMENT.sub("", IMPORT.sub("", texts[name])), flags=re.M) for name in SCRIPTS[script]]
+    return re.sub(r"\n{2,}", "\n", "\n".join(['"use strict";', *parts]))
+
+
+def page_text() -> str:
+    """Returns the page, with the scripts in the place of the module that begins."""
+    page = ascii_text("index.html")
+    if page.count(MODULE) != 1:
+        raise WrongPage(f"page/index.html has {MODULE.strip()} {page.count(MODULE)} times")
+    return page.replace(MODULE, "".join(f'<script defer src="/{name}"></script>\n' for name in SCRIPTS))
+
+
+def sources() -> dict[pathlib.Path, str]:
+    """Returns the sources that page/ gives."""
+    return {SOURCES / f"{it.source}.rt": it.made for it in RESOURCES}
+
+
+def resource(path: str) -> str:
+    """Returns the text of the resource at a path."""
+    for it in RESOURCES:
+        if it.path == path:
+            return it.text
+    raise WrongPage(f"no resource is at {path}")
 
 
 def main() -> int:
-    parser = argparse.ArgumentParser(description="Keeps the page that the desk serves and its policy together.")
-    what = parser.add_mutually_exclusive_group()
-    what.add_argument("--check", action="store_true", help="says whether the policy in the sources is that of the page")
-    what.add_argument("--write", action="store_true", help="writes the policy of the page into the sources")
-    what.add_argument("--take", metavar="FILE", type=pathlib.Path, help="takes a file as the page, and writes its policy")
-    what.add_argument("--print", action="store_true", help="prints the page")
+    parser = argparse.ArgumentParser(description="Makes the sources of crate desk_page of the files of page/.")
+    what = parser.add_mutually_exclusive_group(required=True)
+    what.add_argument("--check", action="store_true", help="says whether the sources are what page/ gives")
+    what.add_argument("--write", action="store_true", help="writes the sources")
+    what.add_argument("--print", metavar="PATH", help="prints the resource at a path")
     words = parser.parse_args()
     try:
-        page, policy = checked(words.take.read_bytes() if words.take else constant("page.rt", PAGE).encode())
-        if words.take:
-            put("page.rt", PAGE, page)
-        if words.take or words.write:
-            put("policy.rt", POLICY, policy)
-        if words.check and constant("policy.rt", POLICY) != policy:
-            raise WrongPage("the policy isn't that of the page: make/page.py --write")
+        made = sources()
+        for file, text in made.items():
+            if words.check and file.read_text() != text:
+                raise WrongPage(f"{file.name} isn't what page/ gives: make/page.py --write")
+            if words.write:
+                file.write_text(text)
+        if words.print:
+            print(resource(words.print), end="")
     except (OSError, WrongPage) as error:
         print(error, file=sys.stderr)
         return 1
-    if words.print:
-        print(page, end="")
-    elif not words.check and not words.take and not words.write:
-        print(policy)
     return 0
 
 

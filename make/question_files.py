@@ -429,8 +429,8 @@ use Rattle.std.specs.Prelude.{{⊤}}
 use Rattle.{SCHEMA}.specs.{{ListKind, QuestionKind, Topic, or_malformed, is_reported, question_members, question_by, Means, Values, field_in, fields_in, may_in}}
 use {declared}.fields.Field.{{Field}}
 use {declared}.fields.Field.TheVariants as field
-use {declared}.members.Rule.{{Rule}}
-use {declared}.members.Rule.TheVariants as rule
+use {declared}.members.MemberRule.{{MemberRule}}
+use {declared}.members.MemberRule.TheVariants as rule
 use {declared}.question_tables.ListKind.TheVariants as k
 use {declared}.question_tables.NodeKind.TheVariants as node
 use {declared}.question_tables.QuestionKind.TheVariants as q
@@ -441,11 +441,11 @@ use Rattle.{SCHEMA}.proofs.FieldsAreTyped.{{Good}}
 abbrev pub Make : QuestionKind → List Field → Type 0
 Make kind fields = Good is_reported (λ x. ⊤) (or_malformed (question_by kind fields))
 
-whole : (list : ListKind) (r : Rule) → Make (q.List list) (field.Absent ∷ []) → ((x : Means r) → Make (q.List list) (field_in r x ∷ [])) → (o : Option (Means r)) → Make (q.List list) (may_in false r o ∷ [])
+whole : (list : ListKind) (r : MemberRule) → Make (q.List list) (field.Absent ∷ []) → ((x : Means r) → Make (q.List list) (field_in r x ∷ [])) → (o : Option (Means r)) → Make (q.List list) (may_in false r o ∷ [])
 whole list r none some None = none
 whole list r none some (Some x) = some x
 
-of_one : (list : ListKind) (of : Field) (r : Rule) → Make (q.List list) (of ∷ field.Absent ∷ []) → ((x : Means r) → Make (q.List list) (of ∷ field_in r x ∷ [])) → (o : Option (Means r)) → Make (q.List list) (of ∷ may_in false r o ∷ [])
+of_one : (list : ListKind) (of : Field) (r : MemberRule) → Make (q.List list) (of ∷ field.Absent ∷ []) → ((x : Means r) → Make (q.List list) (of ∷ field_in r x ∷ [])) → (o : Option (Means r)) → Make (q.List list) (of ∷ may_in false r o ∷ [])
 of_one list of r none some None = none
 of_one list of r none some (Some x) = some x
 

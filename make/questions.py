@@ -149,7 +149,8 @@ def lacking() -> list[str]:
     paths = {path for path, _ in question_files.routes(described())}
     formats = (TOP / "docs/FORMATS.md").read_text(encoding="utf-8")
     schemas = {it[4:] for it in json.loads((TOP / "docs/schema.json").read_text(encoding="utf-8"))["$defs"] if it.startswith("ask_")}
-    served = {*json.loads((TOP / "docs/openapi.json").read_text(encoding="utf-8"))["paths"]} - {"/"}
+    described_paths = json.loads((TOP / "docs/openapi.json").read_text(encoding="utf-8"))["paths"]
+    served = {it for it in described_paths if it.startswith("/v1/")}
     in_formats = {re.sub(r"\{(\w+)\}", lambda it: it[1].upper(), path) for path in paths if "{above}" not in path}
     return [
         *(f"docs/schema.json and the description differ in the question {it}" for it in sorted(schemas ^ words)),

@@ -18,8 +18,8 @@ from typing import NamedTuple
 
 READING = "docs/READING.md"
 LAW = ("plant_desk_store.specs.Headline", "Headline")
-CONTRACTS = ["HasAdopted", "HasRefused", "HasExecuted", "HasForetold", "HasAsked", "HasRun", "HasVerified", "HasIndexed"]
-CALLS = "plant_desk_store.specs.Calls"
+CONTRACTS = ["HasAdopted", "HasRefused", "HasExecuted", "HasCheckedCommand", "HasAsked", "HasRun", "HasVerified", "HasIndexed"]
+CALLS = "plant_desk_store.specs.CallContracts"
 
 HEAD = """# What to read to believe the main theorem
 
@@ -28,8 +28,8 @@ The main theorem is `Headline`, the clause of `headline_law` of plant_desk_store
 that it builds on; lines are those of the definitions with their comments. The other definitions of a file belong to other contracts. The words for a
 store, such as `HasCleanDisk`, `IsDatabase` and `may_leave`, are the kit's (specs of sqlite). Made by make/reading_list.py.
 
-Not listed are the relations `HasAdopted`, `HasRefused`, `HasExecuted`, `HasForetold`, `HasAsked`, `HasRun`, `HasVerified` and `HasIndexed` of
-plant_desk_store/specs/Calls: the law supposes them of each call of a desk, and the call ensures them word for word (`Desk::adopt`, `Desk::run`,
+Not listed are the relations `HasAdopted`, `HasRefused`, `HasExecuted`, `HasCheckedCommand`, `HasAsked`, `HasRun`, `HasVerified` and `HasIndexed` of
+plant_desk_store/specs/CallContracts: the law supposes them of each call of a desk, and the call ensures them word for word (`Desk::adopt`, `Desk::run`,
 `Desk::verify`, `Desk::add_indexes`, `execute_with_outcome`, `check_with_outcome`, `ask_with_outcome`). Nor is how columns are decoded (the fields
 `read` of `Kind` and `Columns`), of which the law doesn't speak.
 """

@@ -165,6 +165,7 @@ def replies() -> dict[str, Schema]:
         "fault": exact(fault=number(1, 3)),
         "reply": one_of(ref("accepted"), ref("refusal"), ref("fault")),
         "status": exact(status=words(400, 403, 404, 405, 411, 413, 431, 501)),
+        "ahead": exact(ahead=number(1, 1_000_000), status=words(400)),
         "csv_fault": exact(csv=words(*CSV_FAULTS), row=number(0, 1001)),
     }
 
@@ -219,6 +220,9 @@ CAUSES = {
     503: "The store failed, or memory was refused",
 }
 
+# The resources of the page, each with its media type.
+RESOURCES = {"/": "text/html; charset=utf-8", "/desk.css": "text/css", "/desk.js": "text/javascript", "/views.js": "text/javascript"}
+
 # Fields of the head of an import.
 FIELDS: list[tuple[str, bool, str, Schema]] = [
     ("Desk-At", True, "the moment of the import", {"type": "string", "pattern": "^[0-9]{1,12}$"}),
@@ -264,8 +268,9 @@ def responses() -> dict[str, Schema]:
     for it in CAUSES:
         schema = {409: ref("refusal"), 503: ref("fault")}.get(it, ref("status"))
         found.update(refusing(it, f"of_{it}", schema))
-    found.update(refusing(400, "of_400_command", one_of(ref("status"), ref("refusal"))))
-    found.update(refusing(400, "of_400_orders", one_of(ref("status"), ref("csv_fault"))))
+    found.update(refusing(400, "of_400_command", one_of(ref("status"), ref("ahead"), ref("refusal"))))
+    found.update(refusing(400, "of_400_check", one_of(ref("status"), ref("ahead"))))
+    found.update(refusing(400, "of_400_orders", one_of(ref("status"), ref("ahead"), ref("csv_fault"))))
     found.update(refusing(404, "of_404_question", one_of(ref("status"), ref("refusal"))))
     return found
 
@@ -297,6 +302,18 @@ def asked(path: str, word: str, defs: Mapping[str, Schema], schema: Schema, kind
     return found
 
 
+def resource(path: str, kind: str, defs: Mapping[str, Schema]) -> Schema:
+    """A resource of the page, which a client that has it as it is doesn't get again."""
+    found = asked(path, "desk", defs, {"type": "string"}, kind)
+    named: Schema = {"name": "If-None-Match", "in": "header", "required": False, "description": "the ETag of what the client has", "schema": {"type": "string"}}
+    tag: Schema = {"headers": {"ETag": {"description": "changes with the bytes", "schema": {"type": "string"}}}}
+    for it in found.values():
+        answers = it["responses"]
+        it["parameters"] = [named]
+        it["responses"] = {"200": {**answers.pop("200"), **tag}, "304": {"description": "The client has it as it is", **tag}, **answers}
+    return found
+
+
 def posted(
     name: str, about: str, taken: Schema, answered: Schema,
     parameters: Sequence[Schema] = (), conflicts: Iterable[int] = (409,), **names: str,
@@ -314,10 +331,10 @@ def paths_of(defs: Mapping[str, Schema]) -> dict[str, Schema]:
     found = {path: asked(path, word, defs, ref(f"answer_{word}")) for path, word in questions.items()}
     text = {"type": "string"}
     found["/v1/batches/{batch}/record"] = asked("/v1/batches/{batch}/record", "batch", defs, text, "text/plain")
-    found["/"] = asked("/", "desk", defs, text, "text/html; charset=utf-8")
+    found.update({path: resource(path, kind, defs) for path, kind in RESOURCES.items()})
     fields = [{"name": name, "in": "header", "required": needed, "description": about, "schema": schema} for name, needed, about, schema in FIELDS]
     found["/v1/commands"] = posted("commands", "The command was accepted", body(ref("command")), ref("accepted"), of_400="of_400_command")
-    found["/v1/check"] = posted("check", "What would become of it", body({"type": "object"}), ref("answer_check"), conflicts=())
+    found["/v1/check"] = posted("check", "What would become of it", body({"type": "object"}), ref("answer_check"), conflicts=(), of_400="of_400_check")
     file = body({"type": "string", "maxLength": 262144}, "text/csv")
     found["/v1/orders"] = posted("orders", "The orders were imported", file, ref("accepted"), fields, of_400="of_400_orders")
     return dict(sorted(found.items()))
@@ -331,7 +348,7 @@ def version() -> str:
 
 def openapi_of(schema: Schema) -> Schema:
     """The description of the HTTP of a desk."""
-    about = "What `desk serve` answers on 127.0.0.1. FORMATS.md says what members mean. The path / is served with --page alone."
+    about = "What `desk serve` answers on 127.0.0.1. FORMATS.md says what members mean. Paths outside /v1/ are served with --page alone."
     described: Schema = with_places({
         "openapi": "3.1.0",
         "info": {"title": "Desk", "version": version(), "description": about},

@@ -1,10 +1,10 @@
 #!/usr/bin/env python3
-"""The desk's tables, described once; writes the regions of files that repeat the description.
+"""The desk's tables, described once; writes the files that repeat the description.
 
-    make/tables.py          writes each region anew
-    make/tables.py --check  ends with status 1 where a region isn't what the description gives
+    make/tables.py          writes each file anew
+    make/tables.py --check  ends with status 1 where a file isn't what the description gives
 
-make/regions.py says what a region is; make/table_regions.py, make/schema_regions.py and make/line_regions.py say what each repeats. What isn't
+make/templates/tables has the templates of the files, make/regions.py says how they are read, and make/table_files.py what they name. What isn't
 alike for each table is written by hand.
 """
 from __future__ import annotations
@@ -13,10 +13,8 @@ import dataclasses
 import sys
 from collections.abc import Sequence
 
-import line_regions
 import regions
-import schema_regions
-import table_regions
+import table_files
 from regions import camel
 
 # ---- kinds of columns
@@ -109,13 +107,13 @@ def columns_of(text: str) -> list[Column]:
 
 @dataclasses.dataclass(frozen=True)
 class Taken:
-    """A change that takes rows away: the constant of its text, the columns that are given, and the table after whose change it comes."""
+    """A change that takes rows away: the constant of its text, the columns that are given, and what keeps the other rows."""
 
     change: str
     fields: str
     constant: str
     columns: str
-    after: str
+    less: str
     doc: str = ""
 
 
@@ -256,7 +254,7 @@ TABLES = [
     Table(
         "hold", "lot:id id:id at:moment by_who=by:text note:text", "The holds of lots.",
         unique=["lot id"], base_values=True,
-        taken=Taken("Unhold", "lot hold", "DELETE_HOLD", "lot id", after="receipt"),
+        taken=Taken("Unhold", "lot hold", "DELETE_HOLD", "lot id", less="without_hold"),
     ),
     Table(
         "edge", "kind:edge_kind a=from:id b=to:id", "Edges of the genealogy.",
@@ -276,7 +274,7 @@ TABLES = [
     Table(
         "mark", "recall:id kind:mark_kind id:id", "The marks on what open recalls reach.",
         unique=["recall kind id"], schema=4, in_state=False, made="marks_in k s.recalls s.movements",
-        taken=Taken("Unmark", "recall", "DELETE_MARKS", "recall", after="mark", doc="Takes all marks of a recall away."),
+        taken=Taken("Unmark", "recall", "DELETE_MARKS", "recall", less="without_marks", doc="Takes all marks of a recall away."),
     ),
 ]
 
@@ -291,6 +289,8 @@ class Index:
     name: str
     columns: str
     doc: str
+    # The first schema that has it.
+    schema: int = 4
 
     @property
     def table(self) -> str:
@@ -298,10 +298,10 @@ class Index:
 
 
 INDEXES = [
-    Index("batch_event_by_batch", "batch", "the events of a batch"),
-    Index("movement_by_lot", "lot seq line", "the bookings that name a lot first, in their order"),
-    Index("movement_by_batch", "batch", "the bookings for a batch"),
-    Index("edge_by_end", "kind b a", "the edges that lead to a node, in the order of those that they come from"),
+    Index("batch_event_by_batch", "batch", "the events of a batch", schema=2),
+    Index("movement_by_lot", "lot seq line", "the bookings that name a lot first, in their order", schema=2),
+    Index("movement_by_batch", "batch", "the bookings for a batch", schema=2),
+    Index("edge_by_end", "kind b a", "the edges that lead to a node, in the order of those that they come from", schema=2),
     Index("mark_by_node", "kind id", "the marks on a lot or batch"),
     Index("definition_by_class", "class id", "the definitions of a class, by their ids"),
     Index("job_by_state", "state id", "the orders in a state, by their ids"),
@@ -363,13 +363,8 @@ def described() -> Desk:
     return Desk(TABLES, INDEXES, LOOKUPS)
 
 
-def regions_of(desk: Desk) -> list[regions.Region]:
-    """All regions."""
-    return [region for part in (table_regions, schema_regions, line_regions) for region in part.regions(desk)]
-
-
 def main() -> int:
-    return regions.run("make/tables.py", __doc__, "tables", regions_of(described()))
+    return regions.run("make/tables.py", __doc__, "tables", table_files.files(described()))
 
 
 if __name__ == "__main__":

@@ -30,9 +30,6 @@ sys.path.insert(0, str(TOP))
 
 from tests.support import browser, seeds  # noqa: E402  (the folder above is on the path now)
 
-# The modules whose tests want a browser.
-IN_A_BROWSER = ("tests.test_browser", "tests.test_cross_site")
-
 
 @dataclasses.dataclass
 class Unit:
@@ -147,9 +144,9 @@ def main() -> int:
     if loader.errors:
         sys.exit("\n".join(map(str, loader.errors)))
     at_once = len(os.sched_getaffinity(0))
-    units = units_of(classes_of(suite))
-    without = browser.ensure() if any(it.module in IN_A_BROWSER for it in units) else None
-    ended = run_all(units, words.patterns, at_once)
+    classes = classes_of(suite)
+    without = browser.ensure() if any(getattr(it, "IN_A_BROWSER", False) for it in classes) else None
+    ended = run_all(units_of(classes), words.patterns, at_once)
     print_ended(ended)
     left_out = print_left_out(ended, without)
     tests, cases = sum(it.tests() for it in ended), sum(it.cases() for it in ended)

@@ -73,10 +73,17 @@ class Journeys(BrowserTestCase):
         self.check_verified("the file", self.served.file, number)
 
     def send(self, tab: Tab, **fields: str | int) -> None:
-        """Fills a form that is open and sends it by Enter."""
+        """Fills a form that is open and presses its button by Enter."""
         for name, value in fields.items():
             tab.fill(name, value)
+        tab.run("document.querySelector('dialog[open] .end button:last-child').focus()")
         tab.key("Enter")
+
+    def choose(self, tab: Tab, lot: str) -> None:
+        """Types a lot into the form that is open, and waits until it is chosen."""
+        tab.fill("from", lot)
+        tab.key("Enter")
+        tab.has(f"{lot.upper()}/", "document.querySelector('dialog .said')")
 
     def test_order_file_is_taken_in_whole_or_not_at_all(self) -> None:
         self.serve()
@@ -115,7 +122,11 @@ class Journeys(BrowserTestCase):
         self.check_booked(tab, "Batch B-4: start.", 36)
         tab.click("Consume")
         self.check("the amount that is left", tab.value("amount"), "60")
+        self.choose(tab, "d-1")
         self.send(tab, amount=1000)
+        tab.has("Asked 60 kg, booked 0 kg: this makes 1 000 kg, 16 times what was asked.")
+        tab.until("performance.now() > openForm().notBefore", "the time in which the question isn't answered yet")
+        tab.key("Enter")
         tab.has("There is less than that in this part of the lot. (TooLittle)")
         self.send(tab, amount=60, note="of the morning")
         self.check_booked(tab, "60 kg of D-1 consumed.", 37)
@@ -124,7 +135,7 @@ class Journeys(BrowserTestCase):
         tab.click("Produce")
         self.send(tab, place="SHOP")
         self.check_booked(tab, "100 pcs as BREAD-B-4 produced.", 39)
-        tab.click("Now complete")
+        tab.click("Finish: complete")
         self.check_booked(tab, "Batch B-4 is complete.", 40)
         tab.click("Close")
         tab.click("Close it", within="document.getElementById('dialog')")
@@ -156,15 +167,15 @@ class Journeys(BrowserTestCase):
         tab.has("H-2", "document.querySelector('[data-row=\"D-1.H-2\"]')")
         tab.has("too wet", "document.querySelector('[data-row=\"35\"]')")
         for held in ("F-2.H-1", "D-1.H-2"):
-            tab.has("Let go", f"document.querySelector('[data-row=\"{held}\"]')")
+            tab.has("Take the hold off", f"document.querySelector('[data-row=\"{held}\"]')")
         self.go(tab, "shift/B-3")
         tab.click("Consume")
         tab.has("All DOUGH in stock is on hold or recalled.")
         self.go(tab, "quality/lot/D-1")
-        tab.click("Let go", row="H-2")
+        tab.click("Take the hold off", row="H-2")
         tab.fill("note", "dry again")
         tab.key("Enter")
-        self.check_booked(tab, "Hold H-2 of D-1 is taken away.", 36)
+        self.check_booked(tab, "Hold H-2 is taken off D-1.", 36)
         tab.has("No hold is on it.")
         self.check("whether the lot is held", self.served.ask("/lots/D-1")["held"], False)
         self.end(tab, 36)
@@ -190,7 +201,7 @@ class Journeys(BrowserTestCase):
             box = f"document.querySelector('[aria-label=\"Choose {part} for a merge\"]')"
             tab.until(f"{box} && ({box}.checked || {box}.click() || {box}.checked)", f"the box of {part}")
         tab.click("Merge\u2026")
-        self.send(tab, new="F-6", place="A1", part1=10)
+        self.send(tab, new="F-6", place="A1", **{"F-3/0": 10})
         self.check_booked(tab, "Merged as F-6.", 38)
         stocks = {it: self.served.ask(f"/lots/{it}")["stock"] for it in ("F-1", "F-3", "F-5", "F-6")}
         self.check("the stocks", stocks, {"F-1": 50, "F-3": 40, "F-5": 20, "F-6": 40})
@@ -217,7 +228,7 @@ class Journeys(BrowserTestCase):
         tab.run(TWO_FRAMES)
         self.check_true("nothing is said against a form that would be taken", said not in tab.text(form))
         self.check("the number behind checks", self.served.ask("/desk")["seq"], MORNINGS)
-        tab.key("Enter")
+        self.send(tab)
         self.check_booked(tab, "6 kg as F-5 received.", 35)
         self.end(tab, 35)
 
@@ -229,8 +240,7 @@ class Journeys(BrowserTestCase):
         tab.fill("lot", "f-1")
         tab.fill("amount", 5)
         tab.until("lostChecks === 1", "a check")
-        tab.fill("lot", "f-5")
-        tab.key("Enter")
+        self.send(tab, lot="f-5")
         self.check_booked(tab, "5 kg as F-5 received.", 35)
         self.end(tab, 35)
 
@@ -271,7 +281,7 @@ class Journeys(BrowserTestCase):
         tab.click("Abort")
         self.send(tab, note="no power")
         self.check_booked(tab, "Batch B-2: abort.", 35)
-        tab.click("Now aborted")
+        tab.click("Finish: aborted")
         self.check_booked(tab, "Batch B-2 is aborted.", 36)
         tab.click("Reset")
         tab.has("What was booked on it stays booked.")
@@ -374,15 +384,31 @@ class Journeys(BrowserTestCase):
         self.desk.run("run", file.name, told=json.dumps(command).encode() + b"\n")
         return file
 
-    def test_clock_that_is_behind_takes_the_moment_of_the_desk(self) -> None:
+    def check_device(self, back: int, said: str) -> None:
+        """Books by a device whose clock is so many seconds behind, and sees that the booking has the machine's time."""
         self.serve()
-        tab = self.open("shift/B-2", CLOCK_BACK % 86_400)
-        tab.has("ahead:")
+        tab = self.open("shift/B-2", CLOCK_BACK % back)
+        tab.has(f"This device's clock is {said} that of the desk's machine.")
+        tab.click("Pause")
+        self.check_booked(tab, "Batch B-2: pause.", 35)
+        at = self.served.ask("/moment")["at"]
+        self.check_true(f"{said}: the moment of the booking, {at}", abs(at - time.time()) < 60)
+        self.end(tab, 35)
+
+    def test_device_whose_clock_is_behind_books_with_the_machines_time(self) -> None:
+        self.check_device(365 * 86_400, "365 days behind")
+
+    def test_device_whose_clock_is_ahead_books_with_the_machines_time(self) -> None:
+        self.check_device(-365 * 86_400, "365 days ahead of")
+
+    def test_moment_of_the_desk_that_is_later_is_taken(self) -> None:
+        self.serve()
+        tab = self.open("shift/B-2")
         tab.click("Pause")
         self.check_booked(tab, "Batch B-2: pause.", 35)
         before = self.served.ask("/moment")["at"]
         self.served.told(at=before + 3600, by="ben", do="unhold", lot="F-2", hold="H-1")
-        tab.click("Now paused")
+        tab.click("Finish: paused")
         self.check_booked(tab, "Batch B-2 is paused.", 37)
         self.check("the moment of the last booking", self.served.ask("/moment")["at"], before + 3600)
         self.end(tab, 37)
@@ -426,7 +452,7 @@ class Journeys(BrowserTestCase):
         tab.run(f"(() => {{ {opened % 'The first'} dialog.close(); {opened % 'The second'} }})()")
         tab.run(TWO_FRAMES)
         self.check("the form that is open", tab.run("[dialog.open, dialog.querySelector('h2').innerText]"), [True, "The second"])
-        self.check("where the keyboard is", tab.run("document.activeElement.name"), "note")
+        self.check("where the keyboard is", tab.run("document.activeElement.innerText"), "Send")
         tab.run("dialog.close(); dispatchEvent(new KeyboardEvent('keydown', {key: '2'}));")
         tab.has("No batch is open.")
         self.end(tab, 0)

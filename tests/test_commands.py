@@ -17,10 +17,10 @@ WEIGH = '    Command("weigh", "lot:id sub:sub amount:amount version:version phas
 class CommandsTestCase(RegionsTestCase):
     """A test case over a copy of the files."""
 
-    TOOLS = ("make/commands.py", "make/command_regions.py", "make/regions.py")
+    TOOLS = ("make/commands.py", "make/command_files.py", "make/regions.py")
 
     def described(self, tool: types.ModuleType) -> Sequence[Any]:
-        regions: Sequence[Any] = tool.command_regions.regions(tool.COMMANDS)
+        regions: Sequence[Any] = tool.command_files.files(tool.COMMANDS)
         return regions
 
     def add_weigh(self) -> None:
@@ -38,10 +38,10 @@ class Files(CommandsTestCase):
 class Changes(CommandsTestCase):
     """What the tool finds and writes."""
 
-    def test_changed_region_is_found_and_written_anew(self) -> None:
-        self.check_found_and_written_anew("crates/plant_json_in/src/words.rt", '"add_class" => ', '"make_class" => ')
+    def test_changed_file_is_found_and_written_anew(self) -> None:
+        self.check_found_and_written_anew("crates/plant_json_in/src/command_tables.rt", '"add_class" => ', '"make_class" => ')
 
-    def test_another_command_changes_regions_alone(self) -> None:
+    def test_another_command_changes_what_is_generated_alone(self) -> None:
         before = self.texts()
         self.add_weigh()
         self.check_regions_alone(before, [])
@@ -50,21 +50,21 @@ class Changes(CommandsTestCase):
         self.add_weigh()
         self.written()
         self.check_lines([
-            ("crates/plant_base/src/command.rt", "    Weigh(Weigh),"),
-            ("crates/plant_base/src/command.rt",
+            ("crates/plant_base/src/commands.rt", "    Weigh(Weigh),"),
+            ("crates/plant_base/src/commands.rt",
              "            Command::Weigh(c) => c.sub <= GREATEST_SUBLOT && is_version(c.version) && is_phase_number(c.phase) && is_command_word(c.word),"),
             ("crates/plant_base/src/lines.rt",
              r'        write!(f, "weigh\n{lot}\n{sub}\n{amount}\n{version}\n{phase}\n{word}\n{unit}\n{place}\n")'),
-            ("crates/plant_base/specs/WellFormedCommands.antt", "HasBodyValues (body.Weigh c) = "
+            ("crates/plant_base/specs/EachCommand.antt", "HasBodyValues (body.Weigh c) = "
              "IsTrue (is_id c.lot) × IsTrue (is_amount c.amount) × IsTrue (is_unit c.unit) × IsTrue (is_text c.place)"),
-            ("crates/plant_base/proofs/ContentReadBack.antt", f"    weigh_in ls{')' * len(self.tool.COMMANDS)}"),
-            ("crates/plant_base/proofs/ContentReadBack.antt", "body_back (body.Weigh c) v n = λ i. body.Weigh (record { lot = c.lot;"
+            ("crates/plant_base/proofs/CommandsReadBack.antt", f"    weigh_in ls{')' * len(self.tool.COMMANDS)}"),
+            ("crates/plant_base/proofs/CommandsReadBack.antt", "body_back (body.Weigh c) v n = λ i. body.Weigh (record { lot = c.lot;"
              " sub = short_back c.sub n.0 i; amount = amount_back c.amount v.1 i; version = short_back c.version n.1 i;"
              " phase = byte_back c.phase n.2 i; word = word_back c.word i; unit = c.unit; place = c.place })"),
-            ("crates/plant_json_in/specs/Plain.antt", "goods_of c.Weigh (field.Id lot ∷ field.Number sub ∷ field.Amount amount"
+            ("crates/plant_json_in/specs/Plain.antt", "goods_of k.Weigh (field.Id lot ∷ field.Number sub ∷ field.Amount amount"
              " ∷ field.Number version ∷ field.Small phase ∷ field.Word word ∷ field.Unit unit ∷ field.Text place ∷ [])"
              " = Some (body.Weigh (record { lot = lot; sub = sub; amount = amount; version = version; phase = phase; word = word; unit = unit; place = place }))"),
-            ("crates/line_check/specs/Words.antt", f"place_of_command c.Weigh = {len(self.tool.COMMANDS)}"),
+            ("crates/line_check/specs/CommandWords.antt", f"place_of_command k.Weigh = {len(self.tool.COMMANDS)}"),
             ("crates/plant_rules/src/commands.rt", "        Command::Weigh(c) => decide_weigh(alloc, view, seq, stamp, c),"),
         ])
 

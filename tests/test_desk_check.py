@@ -432,6 +432,10 @@ class Causes(FileCheckTestCase):
             self.check(f"the desk where the disk tells {name}", (ended.status, ended.errors), (3, b"fault: store\n"))
             self.check_usable(f"a disk that tells {name}, and isn't tried", "disk.db", env=room)
             self.check_cause(f"a disk that tells {name}", "disk.db", cause, opens=True, words=["--room"], env=room)
+        for pieces in (1, 6, 255):
+            short = faults.stopped_file("-room", pieces, errno.ENOSPC)
+            self.check_cause(f"a disk with room for {pieces} pieces of a megabyte's 256", "disk.db", "full", opens=True, words=["--room"], env=short)
+        self.check("what is left next to it", sorted(it.name for it in self.folder.glob("disk.db-*room")), [])
 
     def test_folder_of_a_group_is_told_where_it_is_tried(self) -> None:
         if os.geteuid() != 0:

@@ -1,6 +1,8 @@
 """The examples beside the documents: the reports by SQL over a desk's file, and the client in Python over a desk that is served."""
 from __future__ import annotations
 
+import re
+import shutil
 import subprocess
 import sys
 
@@ -12,7 +14,7 @@ from tests.support.program import TOP
 EXAMPLES = TOP / "examples"
 
 # The reports over the mornings of the examples, by the words with which the comment above each begins.
-REPORTS = {
+REPORTS: dict[str, list[sqlite.Row]] = {
     "Stock by material": [
         ("BREAD", "pcs", "SHOP", 196, 0), ("DOUGH", "kg", "C1", 176, 0), ("FLOUR", "kg", "A1", 100, 0), ("FLOUR", "kg", "A2", 0, 400),
         ("YEAST", "g", "COLD", 14_000, 0),
@@ -42,6 +44,23 @@ class Reports(DeskTestCase):
             for begin, wanted in REPORTS.items():
                 self.check(begin, [store.execute(it, {"today": "2027-03-01"}).fetchall() for it in texts[begin]], [wanted])
         self.check("how many reports there are", len(parts), len(REPORTS) + 1)
+
+    def test_printed_lines_give_the_reports(self) -> None:
+        """Has bash do the very line of EXAMPLES, and that of the head of the reports, each where it is to be typed."""
+        if shutil.which("sqlite3") is None:
+            self.skipTest("there is no sqlite3")
+        told = (EXAMPLES / "mornings.jsonl").read_bytes()
+        shutil.copytree(EXAMPLES, self.folder / "examples")
+        for document, folder in ((TOP / "docs/EXAMPLES.md", self.folder), (EXAMPLES / "reports.sql", self.folder / "examples")):
+            self.desk.run("run", str(folder / "plant.db"), told=told)
+            lines = re.findall(r"^(?:--     )?(sqlite3 -header .*)$", document.read_text(), re.M)
+            self.check(f"the lines of {document.name}", len(lines), 1)
+            ran = subprocess.run(["bash", "-c", lines[0]], cwd=folder, stdin=subprocess.DEVNULL, capture_output=True, text=True, timeout=60)
+            self.check(f"the status of {lines[0]}, and its errors", (ran.returncode, ran.stderr), (0, ""))
+            rows = [line.split() for line in ran.stdout.splitlines()]
+            for begin, wanted in REPORTS.items():
+                missing = [it for it in wanted if " ".join(str(part) for part in it if part is not None).split() not in rows]
+                self.check(f"{begin} by the line of {document.name}", missing, [])
 
 
 class Client(DeskTestCase):

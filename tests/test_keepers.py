@@ -105,10 +105,10 @@ class Questions(KeeperTestCase):
         status, answers, errors = self.desk.run("run", "twenty.db", told=told)
         self.check("a desk over a file", (status, answers[:len(wanted)], errors), (1, wanted, b""))
         self.check("its answers", answers.count(b"\n"), wanted.count(b"\n") + len(questions))
-        self.check_raised_file(questions, answers.splitlines(keepends=True)[wanted.count(b"\n"):])
+        self.check_migrated_file(questions, answers.splitlines(keepends=True)[wanted.count(b"\n"):])
         self.check("the keeper of lists", self.lists.run(told=told), (1, answers, b""))
 
-    def check_raised_file(self, questions: Sequence[str], answers: Sequence[bytes]) -> None:
+    def check_migrated_file(self, questions: Sequence[str], answers: Sequence[bytes]) -> None:
         """Takes the file back to the first schema, and asks what was known there: it has no recalls, so that none reaches a lot, and no receipts."""
         sqlite.changed(self.folder / "twenty.db", sqlite.TO_SCHEMA_1)
         lasting = [(question, answer) for question, answer in zip(questions, answers) if "recall" not in question and '"commands"' not in question]

@@ -253,7 +253,7 @@ class Chains(LimitTestCase):
 class LargeDesk(LimitTestCase):
     """A desk of 150,000 movements and 20,000 edges, many of one lot and of one batch."""
 
-    def test_large_desk_is_verified_traced_and_raised_from_the_first_schema(self) -> None:
+    def test_large_desk_is_verified_traced_and_migrated_from_the_first_schema(self) -> None:
         file, fan = "large.db", [f"T-{it}" for it in range(NODES)]
         first = [*PLANNED, receive("F-1", LARGE_BOOKINGS, "FLOUR"), *begin_batch("B-1", 1)]
         self.check_lines("a large desk begins", file, b"".join(map(line, first)), replies(1, len(first)))

@@ -181,7 +181,7 @@ class Page(OriginTestCase):
             "X-Frame-Options: DENY",
             "X-Content-Type-Options: nosniff",
         ])
-        self.check("the policy", [it.partition(" ")[0] for it in fields[5:]], ["Content-Security-Policy:"])
+        self.check("the rest", [it.partition(" ")[0] for it in fields[5:]], ["Content-Security-Policy:", "ETag:", "Cache-Control:"])
         self.check_true("nothing from outside", fields[5].startswith("Content-Security-Policy: default-src 'none'; "))
         self.check("a HEAD", silent, (status, fields, b""))
 

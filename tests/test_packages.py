@@ -13,6 +13,7 @@ import os
 import pathlib
 import re
 import shutil
+import stat
 import subprocess
 import tarfile
 from typing import Any
@@ -30,7 +31,12 @@ PLAIN = {"PATH": "/usr/bin:/bin", "LC_ALL": "C"}
 BASH = 'source "$0"; COMP_WORDS=("$@"); COMP_CWORD=$(($# - 1)); _desk; printf "%s\\n" "${COMPREPLY[@]}"'
 
 # Programs that have no words, each with an option of its help.
-ALONE = [("order_check", "--version"), ("line_check", "--schema"), ("desk_check", "--json"), ("genealogy_picture", "--dot")]
+ALONE = [("order_check", "--version"), ("line_check", "--schema"), ("desk_check", "--json"), ("genealogy_picture", "--dot"), ("desk-backup", "--keep"),
+         ("desk-watch", "--max-age")]
+
+# The scripts of a package, and all that it installs to be run.
+SCRIPTS = {"desk-backup": TOP / "make/packaged/desk_backup.py", "desk-watch": TOP / "make/packaged/desk_watch.py"}
+INSTALLED = (*PACKED, *SCRIPTS)
 
 # The documents of a package.
 DOC = "share/doc/desk"
@@ -169,10 +175,14 @@ class Packages(PackageTestCase):
     def test_both_packages_hold_one_tree(self) -> None:
         """The same stands in both, but for README, which stands on top of the archive as well."""
         self.check("the members", list(self.parts), ["debian-binary", "control.tar.gz", "data.tar.gz"])
+        scripts = {it.name: it.read_bytes() for it in (TOP / "make/packaged/debian").iterdir()}
+        modes = {it: stat.S_IMODE((self.place / "control" / it).stat().st_mode) for it in scripts}
+        self.check("what dpkg runs", {it: (self.place / "control" / it).read_bytes() for it in scripts}, scripts)
+        self.check("its modes", modes, {it: 0o755 for it in ("postinst", "prerm", "postrm")})
         self.check("dpkg-deb", self.unpacked, (0, "", ""))
         with_readme = {**self.files, "README.md": self.files[f"{DOC}/README.md"]}
         self.check_true("one tree in both", files_of(self.tops["tar"]) == with_readme)
-        for name, program in self.programs.items():
+        for name, program in {**self.programs, **SCRIPTS}.items():
             self.check_true(f"{name} is the built one", self.files[f"bin/{name}"][0] == program.read_bytes())
 
     def test_debian_is_told_the_version_the_sums_and_the_c_library(self) -> None:
@@ -183,16 +193,16 @@ class Packages(PackageTestCase):
         sums = {place: checksum for checksum, place in (it.split("  ") for it in lines)}
         self.check("the sums", sums, {f"usr/{it}": hashlib.md5(content).hexdigest() for it, (content, _) in self.files.items()})
         if self.has("ldd", "what the package for Debian depends on"):
-            self.check("Depends", fields.get("Depends"), self.wanted_of_debian())
+            self.check("Depends", fields.get("Depends"), f"{self.wanted_of_debian()}, python3 (>= 3.9)")
 
-    def wanted_of_debian(self) -> str | None:
+    def wanted_of_debian(self) -> str:
         """Returns the package of the C library in the least version that holds all that the programs ask it for, as ldd finds that."""
         found = []
         for program in self.programs.values():
             own = ran("ldd", "-v", program, env=PLAIN)[1].partition("Version information:\n")[2].split("\n\t/")[0]
             self.check(f"other libraries of {program.name}", re.findall(r"^\t\t(?!lib[cm]\.|ld-linux)\S+", own, re.M), [])
             found += re.findall(r"\(GLIBC_([\d.]+)\)", own)
-        return f"libc6 (>= {max(found, key=lambda it: [int(part) for part in it.split('.')])})" if found else None
+        return f"libc6 (>= {max(found, key=lambda it: [int(part) for part in it.split('.')])})"
 
     def test_no_file_names_a_place_of_this_machine(self) -> None:
         """Looks for places of this machine in all files but the programs."""
@@ -248,7 +258,7 @@ class Texts(PackageTestCase):
 
     def test_pages_are_set_without_a_warning_and_name_each_word_and_option(self) -> None:
         """Sets the page of each program by groff, which has to find nothing wrong."""
-        for name in PACKED:
+        for name in INSTALLED:
             source = gzip.decompress(self.files[f"share/man/man1/{name}.1.gz"][0]).decode()
             text = source.replace("\\-", "-")
             if self.has("groff", "how groff sets the pages of the manual"):
@@ -261,7 +271,7 @@ class Texts(PackageTestCase):
 
     def test_examples_of_the_manual_run_as_printed(self) -> None:
         """Runs what each page has to be typed, one block after the other, but for what serves without an end."""
-        for name in PACKED:
+        for name in INSTALLED:
             folder = self.folder / name
             folder.mkdir()
             examples = (TOP / f"make/packaged/manual/{name}.txt").read_text().partition("\nFILES\n")[0]
@@ -294,7 +304,7 @@ class Texts(PackageTestCase):
     def test_options_of_programs_without_words_are_completed(self) -> None:
         share = self.tops["deb"] / "share"
         for program, known in ALONE:
-            options = long_options(ran(program, "--help", executable=self.programs[program])[1])
+            options = long_options(ran(program, "--help", executable={**self.programs, **SCRIPTS}[program])[1])
             self.check_true(f"the options of {program}", known in options)
             for shell, place, form in (
                 ("bash", f"bash-completion/completions/{program}", r"[' ]{option}[' ]"),
@@ -315,7 +325,7 @@ class Texts(PackageTestCase):
         """Has systemd look at the unit with the unpacked program in the place of the installed one, and gives that program its words."""
         text = self.files["lib/systemd/system/desk@.service"][0].decode()
         [line] = re.findall(r"^ExecStart=(.*)$", text, re.M)
-        settings = [re.findall(r"\b([A-Z]+)=(\d+)", it) for it in (text, self.files[f"{DOC}/desk.conf"][0].decode())]
+        settings = [re.findall(r"\b(PORT|COUNT)=(\d+)", it) for it in (text, self.files[f"{DOC}/desk.conf"][0].decode())]
         self.check("PORT and COUNT", settings, [[("PORT", "8080"), ("COUNT", "1000000")]] * 2)
         for name, value in settings[0]:
             line = line.replace("${%s}" % name, value)
@@ -324,9 +334,23 @@ class Texts(PackageTestCase):
         words = line.replace("/var/lib/desk/%i.db", "nowhere/plant.db").split()[1:]
         found = ran(self.tops["deb"] / "bin/desk", *words, cwd=self.folder, env=PLAIN)
         self.check("the words of the unit, over a file in no folder", found, (3, "", "fault: store\n"))
-        self.check("what the unit gives as it stops", re.findall(r"^ExecStopPost=(.*)$", text, re.M), ["-/usr/bin/desk verify /var/lib/desk/%i.db"])
-        unit = self.folder / "desk@.service"
-        unit.write_text(re.sub("=(-?)/usr/bin/desk ", rf"=\1{self.tops['deb']}/bin/desk ", text))
-        if self.has("systemd-analyze", "what systemd finds in the unit"):
+        self.check("what the unit does last", re.findall(r"^ExecStopPost=(.*)$", text, re.M)[1:], ["-/usr/bin/desk verify /var/lib/desk/%i.db"])
+        self.check_unit("desk@.service", text)
+
+    def test_units_of_backups_are_sound_and_their_words_are_understood(self) -> None:
+        text = self.files["lib/systemd/system/desk-backup@.service"][0].decode()
+        [line] = re.findall(r"^ExecStart=(.*)$", text, re.M)
+        self.check("the words of the unit", line, "/usr/bin/desk-backup /var/lib/desk/%i.db ${BACKUP} --keep ${KEEP}")
+        words = ["nowhere/plant.db", str(self.folder), "--keep", "48"]
+        found = ran(self.tops["deb"] / "bin/desk-backup", *words, cwd=self.folder, env=PLAIN)
+        self.check("the words of the unit, over no file", found, (3, "", "desk-backup: nowhere/plant.db is no file\n"))
+        for it in ("desk-backup@.service", "desk-backup@.timer"):
+            self.check_unit(it, self.files[f"lib/systemd/system/{it}"][0].decode())
+
+    def check_unit(self, name: str, text: str) -> None:
+        """Has systemd look at a unit with the unpacked programs in the place of the installed ones."""
+        unit = self.folder / name
+        unit.write_text(re.sub("=(-?)/usr/bin/(desk|desk-backup) ", rf"=\1{self.tops['deb']}/bin/\2 ", text))
+        if self.has("systemd-analyze", "what systemd finds in the units"):
             status, _, errors = ran("systemd-analyze", "--man=no", "verify", unit)
-            self.check("the unit", (status, [it for it in errors.splitlines() if "desk@" in it]), (0, []))
+            self.check(name, (status, [it for it in errors.splitlines() if "desk" in it]), (0, []))

@@ -11,7 +11,7 @@ import subprocess
 import sys
 from collections.abc import Iterator, Sequence
 
-from tests.support import Json, scenarios, sessions
+from tests.support import Json, pages, scenarios, sessions
 from tests.support.cases import DeskTestCase, ProgramTestCase
 from tests.support.commands import EACH_COMMAND, line
 from tests.support.http import Server, posted
@@ -284,7 +284,7 @@ class Http(DeskTestCase):
         """Asks each path with all that may be in it: it is 404 by its form exactly where a parameter breaks its schema."""
         with self.serve() as server:
             for path, methods in OPENAPI["paths"].items():
-                if "get" not in methods or path == "/":
+                if "get" not in methods or path in pages.resources():
                     continue
                 statuses = set()
                 for place, is_path in filled(path):
@@ -319,7 +319,7 @@ class Http(DeskTestCase):
     def test_paths_have_the_methods_that_are_described_and_no_others(self) -> None:
         source = (TOP / "crates/plant_http_requests/src/route_table.rt").read_text()
         routes = set(re.findall(r'"(/v1/[^"]*)"', source))
-        self.check("paths", set(OPENAPI["paths"]), {*routes, "/"})
+        self.check("paths", set(OPENAPI["paths"]), {*routes, *pages.resources()})
         with self.serve("--page") as server:
             for path, methods in OPENAPI["paths"].items():
                 place = next(it for it, is_path in filled(path) if is_path)
@@ -348,4 +348,8 @@ class Http(DeskTestCase):
                         asked = "get" if wanted == "405" and method == "head" else method
                         status, _ = self.check_answer(f"{word} {place}", path, asked, server.answered(text))
                         self.check(f"{word} {place}, {text[-40:]!r}", status, wanted)
-            self.check_answer("/", "/", "get", server.answered(request("GET", "/")))
+            for path in pages.resources():
+                status, _ = self.check_answer(path, path, "get", server.answered(request("GET", path)))
+                self.check(path, status, "200")
+                kept = server.answered(request("GET", path, "If-None-Match: *")).partition(b"\r\n")[0]
+                self.check(f"{path}, which the client has", (kept, "304" in OPENAPI["paths"][path]["get"]["responses"]), (b"HTTP/1.1 304 Not Modified", True))

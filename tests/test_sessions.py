@@ -274,7 +274,7 @@ class References(DeskTestCase):
 class Files(DeskTestCase):
     """The file of a desk: its schemas, its indexes, its size and its tables."""
 
-    def test_older_schema_is_raised_and_keeps_its_edges(self) -> None:
+    def test_older_schema_is_migrated_and_keeps_its_edges(self) -> None:
         session, file = sessions.whole_batch(), self.folder / "older.db"
         self.desk.run("run", file.name, told=session.told)
         edges = sqlite.edges(file)
@@ -285,7 +285,7 @@ class Files(DeskTestCase):
         self.check_verified("the first schema", file.name, session.count())
         self.check("edges that were raised", sqlite.edges(file), edges)
 
-    def test_older_schema_of_five_million_commands_is_raised_and_keeps_its_rows(self) -> None:
+    def test_older_schema_of_five_million_commands_is_migrated_and_keeps_its_rows(self) -> None:
         """Raises the good desk from each older schema by a verification: its rows have small numbers, or the last of them great ones."""
         file = self.folder / "raised.db"
         self.desk.run("init", "first.db")

@@ -6,7 +6,7 @@ For each size a desk of so many movements is made in a file, by receipts, scraps
 commands of each kind are given to one run of the desk, each after the reply to the one before it. What is told of a kind is its commands
 a second and the middle time of one. As many receipts as movements stand in the file, or as SIZE says behind a `/`, as in 1000/1000000;
 scraps and splits are given with and without references in turn, and the scraps once more, as repeats. Beside it stand peers that take the
-same lines from a pipe, make the same look-ups and writes in the same tables of a copy of the file, commit each command durably before
+same lines from a pipe, make the same lookups and writes in the same tables of a copy of the file, commit each command durably before
 they answer it, and know no rules but those of stock: peer.py, in Python over the standard library's sqlite3, and peer.c, which is left
 out where gcc or sqlite3.h isn't there. Each is run three times: over a rollback journal, which is SQLite's default; over a log written
 ahead; and over such a log with a second sync at each commit, as the desk's commits have. With `memory` the desk and the peers keep their

@@ -1,6 +1,6 @@
 #!/usr/bin/env bash
 # Commands a second of one run over a file, each given after the reply to the one before it, at some sizes of the desk, beside programs
-# in Python and in C that do the same look-ups and writes over sqlite3; the number behind each of these is what part of its commands a
+# in Python and in C that do the same lookups and writes over sqlite3; the number behind each of these is what part of its commands a
 # second the desk does. Wants the built program (make desk), or another one as PROGRAM. Usage:
 # bench/commands/commands.sh [PROGRAM [FOLDER [COMMANDS [SIZE ..]]]], by default build/desk build 500 1000 10000; a SIZE is so many
 # movements, with as many receipts or with those behind a `/`, as 1000/1000000. The files are in FOLDER: over a disk its syncs are most of

@@ -1,5 +1,5 @@
 /* A peer of the desk in measurements, in C: takes lines of commands as the desk does, over a copy of its file, and makes the
- * same look-ups and writes by SQLite, with statements that are prepared once. Each command is committed durably before it
+ * same lookups and writes by SQLite, with statements that are prepared once. Each command is committed durably before it
  * is answered: with `journal` as SQLite does it where it isn't told otherwise (a rollback journal, synchronous=FULL), with
  * `wal` over a log written ahead, with `twice` likewise, and each commit syncs a second time, what it wrote to a file
  * beside, as the desk's commits sync twice. With `memory` the file is copied into a store in memory, and nothing is written

@@ -1,4 +1,4 @@
-"""A peer of the desk in measurements: takes lines of commands as the desk does, over a copy of its file, and makes the same look-ups and
+"""A peer of the desk in measurements: takes lines of commands as the desk does, over a copy of its file, and makes the same lookups and
 writes by the standard library's sqlite3.
 
     peer.py FILE journal|wal|twice|memory

@@ -6,6 +6,7 @@ import contextlib
 import fcntl
 import json
 import os
+import pathlib
 import select
 import shutil
 import subprocess
@@ -34,6 +35,9 @@ TOLD, SAYS = 3, 4
 
 # The keys that have a name: their code and their text.
 KEYS = {"Enter": (13, "\r"), "Escape": (27, ""), "Tab": (9, ""), " ": (32, " "), "ArrowDown": (40, "")}
+
+# How many seconds lie between the keys of a person who types quickly, and between those of a scanner.
+PERSON, SCANNER = 0.08, 0.005
 
 # By what name a reader of the screen calls the element that has the keyboard.
 NAME_OF_FOCUS = """(() => {
@@ -125,12 +129,16 @@ class Browser:
         one, self.rest = self.rest.split(b"\0", 1)
         return json.loads(one)
 
+    def send(self, method: str, session: str | None = None, **parameters: Json) -> int:
+        """Calls a method of DevTools, and returns the number of the call, whose result isn't waited for."""
+        self.number += 1
+        message = {"id": self.number, "method": method, "params": parameters, **({"sessionId": session} if session else {})}
+        os.write(self.writer, json.dumps(message).encode() + b"\0")
+        return self.number
+
     def call(self, method: str, session: str | None = None, **parameters: Json) -> Json:
         """Calls a method of DevTools, and returns its result. What happens meanwhile is kept in `events`."""
-        self.number += 1
-        own = self.number
-        message = {"id": own, "method": method, "params": parameters, **({"sessionId": session} if session else {})}
-        os.write(self.writer, json.dumps(message).encode() + b"\0")
+        own = self.send(method, session, **parameters)
         until = time.monotonic() + LIMIT
         while True:
             said = self.next_message(until)
@@ -160,6 +168,7 @@ class Tab:
 
     def __init__(self, browser: Browser, url: str, script: str | None, width: int, height: int) -> None:
         self.browser = browser
+        self.pressed = time.time()
         self.context = browser.call("Target.createBrowserContext")["browserContextId"]
         self.target = browser.call("Target.createTarget", url="about:blank", browserContextId=self.context)["targetId"]
         self.session = browser.call("Target.attachToTarget", targetId=self.target, flatten=True)["sessionId"]
@@ -252,7 +261,7 @@ class Tab:
 
     def fill(self, name: str, value: str | int) -> None:
         """Writes into a field of the form that is open, or into the one of this id, in the place of what stands there."""
-        found = f"(document.querySelector('dialog[open] [name={name}]') || document.getElementById('{name}'))"
+        found = f"(document.querySelector('dialog[open] [name=\"{name}\"]') || document.getElementById('{name}'))"
         code = f"(() => {{ const e = {found}; if (!e) return false; e.focus(); if (e.select) e.select(); return document.activeElement === e; }})()"
         self.until(code, f"the field {name}")
         if self.run("document.activeElement.tagName === 'SELECT' || document.activeElement.type === 'date'"):
@@ -263,7 +272,7 @@ class Tab:
 
     def value(self, name: str) -> str:
         """Returns what stands in a field of the form that is open."""
-        field = f"document.querySelector('dialog[open] [name={name}]')"
+        field = f"document.querySelector('dialog[open] [name=\"{name}\"]')"
         self.until(f"{field} !== null", f"the field {name}")
         value: str = self.run(f"{field}.value")
         return value
@@ -273,18 +282,31 @@ class Tab:
         it = self.call("Runtime.evaluate", expression=f"document.getElementById('{field}')")
         self.call("DOM.setFileInputFiles", files=[str(path)], objectId=it["result"]["objectId"])
 
-    def key(self, key: str, repeats: int = 0) -> None:
-        """Presses a key, which may be kept down so that it repeats."""
+    def key(self, key: str, repeats: int = 0, after: float = PERSON) -> None:
+        """Presses a key, which may be kept down so that it repeats, so many seconds after the one before it."""
+        for parameters in self.strokes(key, repeats, max(time.time(), self.pressed + after)):
+            self.call("Input.dispatchKeyEvent", **parameters)
+
+    def strokes(self, key: str, repeats: int, moment: float) -> list[dict[str, Json]]:
+        """Returns the events of a key at a moment. What a page is told of the time between keys is that between these moments."""
         code, text = KEYS[key] if key in KEYS else (ord(key.upper()), key)
         rest = {"key": key, "windowsVirtualKeyCode": code, "nativeVirtualKeyCode": code}
-        for count in range(repeats + 1):
-            self.call("Input.dispatchKeyEvent", type="keyDown" if text else "rawKeyDown", text=text, autoRepeat=count > 0, **rest)
-        self.call("Input.dispatchKeyEvent", type="keyUp", **rest)
+        kind, self.pressed = "keyDown" if text else "rawKeyDown", moment
+        down = [{"type": kind, "text": text, "autoRepeat": count > 0, "timestamp": moment, **rest} for count in range(repeats + 1)]
+        return [*down, {"type": "keyUp", "timestamp": moment, **rest}]
 
     def type(self, text: str) -> None:
-        """Types a text, a key for each letter."""
+        """Types a text as a person does, a key for each letter."""
         for it in text:
             self.key(it)
+
+    def scan(self, code: str) -> None:
+        """Types a code and Enter as a scanner does."""
+        moment = max(time.time(), self.pressed + PERSON)
+        for count, key in enumerate([*code, "Enter"]):
+            for parameters in self.strokes(key, 0, moment + count * SCANNER):
+                self.browser.send("Input.dispatchKeyEvent", self.session, **parameters)
+        self.run("true")
 
     def tab_to(self, text: str, at_most: int = 80) -> None:
         """Presses Tab until the keyboard is at an element of this text or label."""
@@ -305,6 +327,11 @@ class Tab:
         data = self.call("Page.captureScreenshot", format="png", **more)["data"]
         with open(path, "wb") as it:
             it.write(base64.b64decode(data))
+
+    def printed(self, path: File) -> None:
+        """Prints the page to a file, as PDF."""
+        data = self.call("Page.printToPDF", printBackground=True, preferCSSPageSize=True)["data"]
+        pathlib.Path(path).write_bytes(base64.b64decode(data))
 
     def errors(self) -> list[str]:
         """Returns what the console of the page tells of errors, but for requests that were refused or not answered, as tests want them."""

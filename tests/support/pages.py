@@ -31,14 +31,9 @@ KEPT = """localStorage.getItem("desk.operator") || localStorage.setItem("desk.op
 page_tool = loaded("make/page.py")
 
 
-def page() -> str:
-    """Returns the page as text."""
-    return str(page_tool.constant("page.rt", page_tool.PAGE))
-
-
-def policy() -> str:
-    """Returns the policy of the page, computed of it."""
-    return str(page_tool.policy_of(page()))
+def resources() -> dict[str, str]:
+    """Returns the text of each resource of the page, by its path."""
+    return {it.path: str(it.text) for it in page_tool.RESOURCES}
 
 
 def mornings(now: int) -> bytes:
@@ -63,7 +58,7 @@ class ServedDesk:
 
     def __init__(self, desk: Program, file: File) -> None:
         self.desk, self.file = desk, file
-        self.server = Server(desk, file, CONNECTIONS, "--page")
+        self.server = Server(desk, file, CONNECTIONS, "--page", "--ahead", "0")
         self.url = f"http://127.0.0.1:{self.server.port}/"
 
     def ask(self, path: str) -> Json:
@@ -91,7 +86,7 @@ class ServedDesk:
 
     def start_again(self, file: File | None = None) -> None:
         """Starts the desk again at the port that it had, or another desk there, whose file is given."""
-        self.server = Server(self.desk, file or self.file, CONNECTIONS, "--page", port=self.server.port)
+        self.server = Server(self.desk, file or self.file, CONNECTIONS, "--page", "--ahead", "0", port=self.server.port)
 
     def end(self) -> None:
         """Ends the desk."""
@@ -101,6 +96,7 @@ class ServedDesk:
 class BrowserTestCase(DeskTestCase):
     """A test case with a browser. Where there is none its tests are left out, and the module says so."""
 
+    IN_A_BROWSER = True
     IN_MEMORY = True
     NAMES: tuple[str, ...] = ()
 

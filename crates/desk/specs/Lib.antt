@@ -1,3 +1,3 @@
 pub mod Served
-pub mod Worked
-pub use Worked.{exit_status}
+pub mod WorkContracts
+pub use WorkContracts.{exit_status}

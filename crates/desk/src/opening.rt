@@ -3,12 +3,12 @@ ghost use Rattle.std.specs.Prelude.{◌≡◌, ◌≢◌};
 ghost use Rattle.sqlite.specs.Steps.{over_memory};
 ghost use Rattle.desk_file.specs.{in_memory};
 ghost use Rattle.desk_program.specs.{after_closing};
-ghost use Rattle.desk.specs.Worked.{ExitsOver};
+ghost use Rattle.desk.specs.WorkContracts.{ExitsOver};
 
 use crate::working::do_work;
 use desk_cli::{Task, Words, Work};
 use desk_file::{Ended, StoreWork, Worked, work_over};
-use desk_program::{Fault, Performed, after_closing, write_opening, write_outcome};
+use desk_program::{Performed, ProgramFault, after_closing, write_opening, write_outcome};
 use sqlite::{Alter, Connection, FileFrom, FileStore, Start};
 use sqlite_trees::store::Store;
 
@@ -17,9 +17,9 @@ use sqlite_trees::store::Store;
 struct DeskWork(Work);
 
 impl StoreWork for DeskWork {
-    ghost use Rattle.desk.specs.Worked.{WorkGives};
+    ghost use Rattle.desk.specs.WorkContracts.{WorkGives};
 
-    type Outcome = Result<bool, Fault>;
+    type WorkOutcome = Result<bool, ProgramFault>;
 
     ghost gives = { λ work before done after. WorkGives work.0 before done after };
 
@@ -27,7 +27,7 @@ impl StoreWork for DeskWork {
         self,
         rt: &HostRuntime,
         connection: Connection<S>,
-    ) -> Worked<Result<bool, Fault>, S> {
+    ) -> Worked<Result<bool, ProgramFault>, S> {
         let Performed {
             outcome,
             connection,
@@ -55,8 +55,8 @@ pub(crate) fn perform_over<S: Start>(rt: &HostRuntime, words: &Words<'_>, start:
     }
 }
 
-/// What came of the work whose file was closed after it, or couldn't be.
-fn outcome_of(ended: Ended<Result<bool, Fault>>) -> Result<bool, Fault>
+/// The outcome of the work whose file was closed after it, or couldn't be.
+fn outcome_of(ended: Ended<Result<bool, ProgramFault>>) -> Result<bool, ProgramFault>
     ensures { result ≡ after_closing ended.outcome ended.is_closed }
 {
     after_closing(ended.outcome, ended.is_closed)

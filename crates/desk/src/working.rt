@@ -4,17 +4,17 @@ ghost use Rattle.sqlite.specs.Effect.{Database};
 ghost use Rattle.sqlite.specs.Held.{state};
 ghost use Rattle.sqlite.specs.State.{HasCleanDisk};
 ghost use Rattle.desk.specs.Served.{outcome_of};
-ghost use Rattle.desk.specs.Worked.{DeskServes, IsProfileOf, ServingGives, WorkGives};
+ghost use Rattle.desk.specs.WorkContracts.{DeskServes, IsProfileOf, IsTermsOf, ServingGives, WorkGives};
 ghost use Rattle.desk_program.specs.{WasHonest};
 ghost use Rattle.desk_server.specs.{EndsServing, IsSameStore, ServesAtMost};
 ghost use Rattle.plant_desk_store.specs.{HasForeignTables, KeepsForeignTables};
-ghost use Rattle.plant_http_requests.specs.{Profile};
+ghost use Rattle.plant_http_requests.specs.{Terms};
 
 use desk_cli::{Hosts, Serving, Work};
-use desk_program::{Fault, Performed, adopt, perform_task, performed_of};
+use desk_program::{Performed, ProgramFault, adopt, perform_task, performed_of};
 use desk_server::{AccessLog, ServingFault, listen_at, local_at, serve_listener};
 use plant_desk_store::Desk;
-use plant_http_requests::Profile;
+use plant_http_requests::{Profile, Terms};
 use sqlite::{Alter, Connection};
 use std::io;
 use std::net::TcpListener;
@@ -81,14 +81,14 @@ fn serve_desk<S: Alter + Drop>(
 }
 
 /// The outcome of the requests that were served, of which none counts as a refusal, or the fault that ended it.
-fn outcome_of(served: Result<(), ServingFault>) -> Result<bool, Fault>
+fn outcome_of(served: Result<(), ServingFault>) -> Result<bool, ProgramFault>
     ensures { result ≡ outcome_of served }
 {
     match served {
         Ok(()) => Ok(false),
-        Err(ServingFault::Store) => Err(Fault::Store),
-        Err(ServingFault::Net) => Err(Fault::Net),
-        Err(ServingFault::Memory) => Err(Fault::Memory),
+        Err(ServingFault::Store) => Err(ProgramFault::Store),
+        Err(ServingFault::Net) => Err(ProgramFault::Net),
+        Err(ServingFault::Memory) => Err(ProgramFault::Memory),
     }
 }
 
@@ -113,6 +113,17 @@ fn profile_of(page: &Option<Hosts>) -> Profile<'_>
     }
 }
 
+/// By what requests are judged, but for the time of each.
+fn terms_of(serving: &Serving) -> Terms<'_>
+    ensures { IsTermsOf serving.now result }
+{
+    Terms {
+        profile: profile_of(&serving.page),
+        most_ahead: serving.most_ahead,
+        now: None,
+    }
+}
+
 /// Notes that the port is listened on: with the address of the web page, and else where requests are noted.
 fn note_listening(rt: &HostRuntime, serving: &Serving, log: AccessLog<'_>) {
     let port = serving.port;
@@ -131,8 +142,8 @@ fn serve_at<S: Alter + Drop>(
 ) -> Result<(), ServingFault>
     requires { desk.old.is_shut ≡ false }
     ensures ends { EndsServing desk.new.is_shut result }
-    ensures serves { (profile : Profile) × IsProfileOf serving.page profile
-        × ServesAtMost S.Store profile serving.count desk.old desk.new }
+    ensures serves { (terms : Terms) × IsTermsOf serving terms
+        × ServesAtMost S.Store terms serving.count desk.old desk.new }
     ensures same { IsSameStore S.Store desk.old desk.new }
     ensures honest { WasHonest (state S.Store desk.old.connection) (state S.Store desk.new.connection) }
 {
@@ -141,15 +152,15 @@ fn serve_at<S: Alter + Drop>(
     if listening.is_ok() {
         note_listening(rt, &serving, log);
     }
-    let profile = profile_of(&serving.page);
-    serve_listening(rt, listening, profile, serving.count, desk, log)
+    let terms = terms_of(&serving);
+    serve_listening(rt, listening, terms, serving.count, desk, log)
 }
 
 /// Serves the connections that come in where a port is listened on. The fault of one that isn't is handed on.
 fn serve_listening<S: Alter + Drop>(
     rt: &HostRuntime,
     listening: Result<TcpListener, ServingFault>,
-    profile: Profile<'_>,
+    terms: Terms<'_>,
     count: u32,
     desk: &mut Desk<S>,
     log: AccessLog<'_>,
@@ -159,11 +170,11 @@ fn serve_listening<S: Alter + Drop>(
     ensures fault { IfErr listening (λ fault. result ≡ Err fault) }
     ensures unchanged { OnErr listening (desk.new ≡ desk.old) }
     ensures same { IsSameStore S.Store desk.old desk.new }
-    ensures serves { ServesAtMost S.Store profile.entry count desk.old desk.new }
+    ensures serves { ServesAtMost S.Store terms.entry count desk.old desk.new }
     ensures honest { WasHonest (state S.Store desk.old.connection) (state S.Store desk.new.connection) }
 {
     match listening {
-        Ok(listener) => serve_listener(rt, &listener, profile, count, desk, log),
+        Ok(listener) => serve_listener(rt, &listener, terms, count, desk, log),
         Err(fault) => Err(fault),
     }
 }

@@ -3,7 +3,7 @@ use Rattle.std.proofs.Common.{◌≡◌, ◌∙◌, ◌<◌, ◌≤◌, ℕ, ℤ
 use Rattle.sqlite.specs.Effect.{Database}
 use Rattle.sqlite.specs.State as store
 use Rattle.sqlite.specs.State.{IsUnchanged}
-use Rattle.sql_tables.specs.{Keeps, Fault, AreFree, IsFree}
+use Rattle.sql_tables.specs.{Keeps, StoreFault, AreFree, IsFree}
 use Rattle.plant_base.specs.{newest_schema}
 use Rattle.plant_tables.specs.{IsVersion, FoundTables, Loaded}
 use Rattle.plant_tables.proofs.OneVersion.{one_version}
@@ -80,7 +80,7 @@ held_before old mid tables.NoMeta h still same by = by
 held_before old mid (tables.Version v) h still same by = subst (λ db. IsHeldBy db (tables.Version v) h) (same v refl).0.now_is by
 
 -- the same of what a reading came to, where nothing was changed before it
-pub all_held : (old mid : store.State) (t : FoundTables) (r : Result Held Fault) → (t ≡ tables.Nothing) ↔ AreFree desk_table_defs old.now.schema
+pub all_held : (old mid : store.State) (t : FoundTables) (r : Result Held StoreFault) → (t ≡ tables.Nothing) ↔ AreFree desk_table_defs old.now.schema
     → (t ≢ tables.Nothing → ¬ All (IsFree old.now.schema) desk_table_defs) → ((n : ℤ) → (t ≡ tables.Version n) ↔ IsVersion old.now n)
     → (t ≡ tables.Nothing → mid.now ≡ old.now) → ((n : ℤ) → t ≡ tables.Version n → IsUnchanged old mid) → IfOk r (IsHeldBy mid.now t) → IfOk r (IsHeldIn old.now)
 all_held old mid t (Ok h) nothing taken version still same by = held_of old.now t h nothing taken version (held_before old mid t h still same by)
@@ -116,10 +116,10 @@ first_damaged db (file_report.Desk summary barred findings) reported =
     by_first db reported.loaded barred (first_rule findings) reported.rows (first_found reported.loaded findings reported.reported.breaks)
 
 -- the same of what a reading came to
-pub all_reported_on : (db : Database) (h : Held) (r : Result FileReport Fault) → IsHeldIn db h → IfOk r (IsReportOf h) → IfOk r (IsFileReportOf db)
+pub all_reported_on : (db : Database) (h : Held) (r : Result FileReport StoreFault) → IsHeldIn db h → IfOk r (IsReportOf h) → IfOk r (IsFileReportOf db)
 all_reported_on db h (Ok s) held reported = reported_on db h s held reported
 all_reported_on db h (Err f) held reported = tt
 
-pub all_damaged : (db : Database) (h : Held) (r : Result FileReport Fault) → IsHeldIn db h → IfOk r (IsReportOf h) → IfOk r (λ s. IfSome (first_reported s) (IsDamaged db))
+pub all_damaged : (db : Database) (h : Held) (r : Result FileReport StoreFault) → IsHeldIn db h → IfOk r (IsReportOf h) → IfOk r (λ s. IfSome (first_reported s) (IsDamaged db))
 all_damaged db h (Ok s) held reported = first_damaged db s (reported_on db h s held reported)
 all_damaged db h (Err f) held reported = tt

@@ -1,4 +1,4 @@
 pub mod FileReportIsRight
-pub mod SentencesInSequence
+pub mod SentencesConcatenate
 mod OutcomeHasNoFloats
-mod EachDataReported
+mod JsonListReported

@@ -4,22 +4,22 @@ use Rattle.serde_json.specs.Data.{Data}
 use Rattle.serde_json.specs.View.{items_of}
 use Rattle.serde_json.specs.Written.{has_float, items_have_float}
 use Rattle.plant_check_rules.specs.{Rule}
-use Rattle.plant_check.specs.{Column, Finding, Key, RowFault, Tested}
-use Rattle.plant_requirements.specs.declared.fault.Key.TheVariants as key
+use Rattle.plant_check.specs.{Column, Finding, RowKey, RowFault, Tested}
+use Rattle.plant_requirements.specs.declared.fault.RowKey.TheVariants as key
 use Rattle.plant_check.specs.declared.finding.Findings.{Findings}
 use Rattle.plant_check.specs.declared.finding.Findings.TheVariants as findings
 use Rattle.desk_check.specs.{key_data, column_data, row_data, broken_data, found_data, each_data, findings_data, desk_data, file_report_data, index_data, taken_data, sentence_data, open_error_data, outcome_data, found_in}
 use Rattle.desk_check.specs.declared.barred.DeskIndex.{DeskIndex}
 use Rattle.desk_check.specs.declared.open_error.OpenError.{OpenError}
-use Rattle.desk_check.specs.declared.outcome.Outcome.{Outcome}
-use Rattle.desk_check.specs.declared.file_report.DeskSummary.{DeskSummary}
+use Rattle.desk_check.specs.declared.outcome.CheckOutcome.{CheckOutcome}
+use Rattle.desk_check.specs.declared.file_report.FileSummary.{FileSummary}
 use Rattle.desk_check.specs.declared.file_report.FileReport.{FileReport}
 use Rattle.desk_check.specs.declared.file_report.FileReport.TheVariants as file_report
 
 neither : (a b : Bool) → a ≡ false → b ≡ false → (a || b) ≡ false
 neither a b e f = rw (e, f) refl
 
-of_key : (k : Key) → has_float (key_data k) ≡ false
+of_key : (k : RowKey) → has_float (key_data k) ≡ false
 of_key (key.Id id) = refl
 of_key _ = refl
 
@@ -74,5 +74,5 @@ of_open_error : (o : Option OpenError) (reported : Option (List ℕ)) → has_fl
 of_open_error None reported = refl
 of_open_error (Some o) reported = rw (of_sentence reported) refl
 
-pub of_outcome : (o : Outcome) (reported : Option (List ℕ)) → has_float (outcome_data o reported) ≡ false
+pub of_outcome : (o : CheckOutcome) (reported : Option (List ℕ)) → has_float (outcome_data o reported) ≡ false
 of_outcome o reported = rw (of_file_report o.file_report, of_open_error o.open_error reported, of_taken o.file_report) refl

@@ -49,6 +49,6 @@ abbrev pub first_barred : Schema → ℕ → List DeskIndex → Option DeskIndex
 first_barred there schema [] = None
 first_barred there schema (i ∷ is) = if is_barred there schema i then Some i else first_barred there schema is
 
--- the first index that can't be made as tables of this schema are raised, 0 meaning none
+-- the first index that can't be made as tables of this schema are migrated, 0 meaning none
 abbrev pub barred_index : Schema → ℕ → Option DeskIndex
 barred_index there schema = first_barred there schema all_indexes

@@ -16,14 +16,14 @@ use Rattle.desk_check.specs.Barred.{barred_index}
 use Rattle.desk_check.specs.declared.barred.DeskIndex.{DeskIndex}
 use Rattle.desk_check.specs.declared.file_report.Held.{Held}
 use Rattle.desk_check.specs.declared.file_report.Held.TheVariants as held
-use Rattle.desk_check.specs.declared.file_report.DeskSummary.{DeskSummary}
+use Rattle.desk_check.specs.declared.file_report.FileSummary.{FileSummary}
 use Rattle.desk_check.specs.declared.file_report.FileReport.{FileReport}
 use Rattle.desk_check.specs.declared.file_report.FileReport.TheVariants as file_report
 
 -- ---- what is held
 
 -- there is something of the desk, of a version that is known, whose tables are declared as their definitions say, these are all of its rows, and this is
--- the first index that can't be made as they are raised
+-- the first index that can't be made as they are migrated
 pub record HoldsRows (db : Database) (x : Loaded) (barred : Option DeskIndex) : Type 0 where
   pub version : ℕ
   pub taken : ¬ All (IsFree db.schema) desk_table_defs
@@ -61,7 +61,7 @@ IsHeldBy db (tables.Version v) h = IsReadAs db v h
 
 -- ---- the report
 
-abbrev pub summary_of : Option Meta → Loaded → DeskSummary
+abbrev pub summary_of : Option Meta → Loaded → FileSummary
 summary_of meta x = record {
   schema = option_map_or (λ m. m.schema) meta 0;
   seq = option_map_or (λ m. m.position.seq) meta 0;
@@ -73,7 +73,7 @@ summary_of meta x = record {
 }
 
 -- the position of the desk of these rows, and each rule that they break
-pub record IsDesk (x : Loaded) (summary : DeskSummary) (found : Findings) : Type 0 where
+pub record IsDesk (x : Loaded) (summary : FileSummary) (found : Findings) : Type 0 where
   pub represents : summary ≡ summary_of (only_meta (contents_loaded x 0)) x
   pub breaks : AreFindingsOf x found
 
@@ -91,7 +91,7 @@ IsReportOf held.Lacking s = s ≡ file_report.Lacking None
 IsReportOf (held.Tables x barred) s = ReportsDesk x barred s
 
 -- the database has such rows
-pub record HoldsDesk (db : Database) (summary : DeskSummary) (barred : Option DeskIndex) (found : Findings) : Type 0 where
+pub record HoldsDesk (db : Database) (summary : FileSummary) (barred : Option DeskIndex) (found : Findings) : Type 0 where
   pub loaded : Loaded
   pub rows : HoldsRows db loaded barred
   pub reported : IsDesk loaded summary found

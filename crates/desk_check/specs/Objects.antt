@@ -4,8 +4,8 @@ use Rattle.serde_json.specs.Data.{Data, Members, null, boolean, number, unsigned
 use Rattle.serde_json.specs.View.{items_of}
 use Rattle.plant_check_rules.specs.{rule_number, Rule}
 use Rattle.plant_check_rules.specs.declared.rule.Rule.TheVariants as rule
-use Rattle.plant_check.specs.{rule_text, column_name, table_name, found_text, wanted_text, Column, Finding, Key, RowFault, Tested}
-use Rattle.plant_requirements.specs.declared.fault.Key.TheVariants as key
+use Rattle.plant_check.specs.{rule_text, column_name, table_name, found_text, wanted_text, Column, Finding, RowKey, RowFault, Tested}
+use Rattle.plant_requirements.specs.declared.fault.RowKey.TheVariants as key
 use Rattle.plant_check.specs.declared.finding.Findings.{Findings}
 use Rattle.plant_check.specs.declared.finding.Findings.TheVariants as findings
 use Rattle.desk_check.specs.Barred.{index_name}
@@ -14,8 +14,8 @@ use Rattle.desk_check.specs.Reports.{found_in}
 use Rattle.desk_check.specs.declared.barred.DeskIndex.{DeskIndex}
 use Rattle.desk_check.specs.declared.bound.Binder.{Binder}
 use Rattle.desk_check.specs.declared.open_error.OpenError.{OpenError}
-use Rattle.desk_check.specs.declared.outcome.Outcome.{Outcome}
-use Rattle.desk_check.specs.declared.file_report.DeskSummary.{DeskSummary}
+use Rattle.desk_check.specs.declared.outcome.CheckOutcome.{CheckOutcome}
+use Rattle.desk_check.specs.declared.file_report.FileSummary.{FileSummary}
 use Rattle.desk_check.specs.declared.file_report.FileReport.{FileReport}
 use Rattle.desk_check.specs.declared.file_report.FileReport.TheVariants as file_report
 
@@ -28,7 +28,7 @@ list ds = array (items_of ds)
 -- ---- rows
 
 -- the values of a key, in the order of its columns; or the position of the row
-abbrev pub key_data : Key → Data
+abbrev pub key_data : RowKey → Data
 key_data (key.Id id) = list (string id ∷ [])
 key_data (key.Number n) = list (count n ∷ [])
 key_data (key.Ids a b) = list (string a ∷ string b ∷ [])
@@ -75,7 +75,7 @@ findings_data (findings.Rows t) = list (each_data t t.rules.items)
 
 -- ---- the desk
 
-abbrev pub desk_data : DeskSummary → Findings → Data
+abbrev pub desk_data : FileSummary → Findings → Data
 desk_data s found = object
     (member (codes "at") (count s.at)
     (member (codes "batches") (count s.batches)
@@ -123,7 +123,7 @@ open_error_data (Some o) reported = object
     (member (codes "error") (sentence_data reported)
     (member (codes "says") (string (cause_text o)) no_members))))
 
-abbrev pub outcome_data : Outcome → Option (List ℕ) → Data
+abbrev pub outcome_data : CheckOutcome → Option (List ℕ) → Data
 outcome_data o reported = object
     (member (codes "desk") (file_report_data o.file_report)
     (member (codes "obstacle") (open_error_data o.open_error reported)

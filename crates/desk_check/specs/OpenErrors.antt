@@ -5,8 +5,8 @@ use Rattle.std.specs.declared.io.ErrorKind.TheVariants as kind
 use Rattle.sqlite.specs.declared.error.Error.{Error}
 use Rattle.sqlite.specs.declared.error.Error.TheVariants.{SqliteFailure}
 use Rattle.sqlite.specs.declared.error.ErrorCode.TheVariants as code
-use Rattle.sql_tables.specs.{Fault}
-use Rattle.sql_tables.specs.declared.fault.Fault.TheVariants as fault
+use Rattle.sql_tables.specs.{StoreFault}
+use Rattle.sql_tables.specs.declared.fault.StoreFault.TheVariants as fault
 use Rattle.desk_check.specs.declared.open_error.OpenError.{OpenError}
 use Rattle.desk_check.specs.declared.open_error.OpenError.TheVariants as open_error
 
@@ -123,7 +123,7 @@ abbrev pub open_error_of : Error → OpenError
 open_error_of (SqliteFailure code.OutOfMemory) = open_error.Memory
 open_error_of e = open_error.Closed e
 
-abbrev pub open_error_in : Fault → OpenError
+abbrev pub open_error_in : StoreFault → OpenError
 open_error_in fault.Store = open_error.Failed
 open_error_in fault.Memory = open_error.Memory
 

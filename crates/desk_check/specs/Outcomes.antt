@@ -1,4 +1,4 @@
--- What came of a check, and its exit status.
+-- The outcome of a check, and its exit status.
 use Rattle.std.specs.Prelude.{◌≡◌, ℕ, List, [], ◌∷◌, ◌++◌, codes, Bool, true, false, Option, Some, None, Result, Ok, Err}
 use Rattle.std.specs.Io.KnownBytes.{Appends}
 use Rattle.serde_json.specs.Written.{compact_text}
@@ -12,12 +12,12 @@ use Rattle.desk_check.specs.Reports.{file_report_text, open_error_text}
 use Rattle.desk_check.specs.declared.barred.DeskIndex.{DeskIndex}
 use Rattle.desk_check.specs.declared.open_error.OpenError.{OpenError}
 use Rattle.desk_check.specs.declared.open_error.OpenError.TheVariants as open_error
-use Rattle.desk_check.specs.declared.outcome.Outcome.{Outcome}
+use Rattle.desk_check.specs.declared.outcome.CheckOutcome.{CheckOutcome}
 use Rattle.desk_check.specs.declared.file_report.FileReport.{FileReport}
 use Rattle.desk_check.specs.declared.file_report.FileReport.TheVariants as file_report
 
 -- why a file doesn't open, or what it holds and what else keeps the desk from it
-abbrev pub outcome_of : Result FileReport OpenError → Option OpenError → Outcome
+abbrev pub outcome_of : Result FileReport OpenError → Option OpenError → CheckOutcome
 outcome_of (Err o) hindered = record { open_error = Some o; file_report = None }
 outcome_of (Ok s) hindered = record { open_error = hindered; file_report = Some s }
 
@@ -55,7 +55,7 @@ abbrev pub status_by_open_error : Option OpenError → Option FileReport → ℕ
 status_by_open_error None held = held_status held
 status_by_open_error (Some o) held = open_error_status o
 
-abbrev pub outcome_status : Outcome → ℕ
+abbrev pub outcome_status : CheckOutcome → ℕ
 outcome_status o = status_by_open_error o.open_error o.file_report
 
 -- ---- sentences
@@ -79,14 +79,14 @@ abbrev pub WritesOpening : Option OpenError → Option (List ℕ) → Option (Li
 WritesOpening o old new = (sentence : List ℕ) × IsFirstSentence o sentence × Appends old new (sentence ++ opening_text o)
 
 -- and then what it holds
-abbrev pub WritesSentences : Outcome → Option (List ℕ) → Option (List ℕ) → Type 0
+abbrev pub WritesSentences : CheckOutcome → Option (List ℕ) → Option (List ℕ) → Type 0
 WritesSentences o old new = (sentence : List ℕ) × IsFirstSentence o.open_error sentence × Appends old new (sentence ++ opening_text o.open_error ++ held_text o.file_report)
 
 -- the same as one object, in a line
-abbrev pub WritesObject : Outcome → Option (List ℕ) → Option (List ℕ) → Type 0
+abbrev pub WritesObject : CheckOutcome → Option (List ℕ) → Option (List ℕ) → Type 0
 WritesObject o old new = (words : Option (List ℕ)) × HasWordsOf o.open_error words × Appends old new (with_lf (compact_text (outcome_data o words)))
 
 -- the one or the other
-abbrev pub WritesOutcome : Bool → Outcome → Option (List ℕ) → Option (List ℕ) → Type 0
+abbrev pub WritesOutcome : Bool → CheckOutcome → Option (List ℕ) → Option (List ℕ) → Type 0
 WritesOutcome true o old new = WritesObject o old new
 WritesOutcome false o old new = WritesSentences o old new

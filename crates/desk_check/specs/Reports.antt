@@ -12,17 +12,17 @@ use Rattle.desk_check.specs.OpenErrors.{cause_text, advice_text}
 use Rattle.desk_check.specs.declared.barred.DeskIndex.{DeskIndex}
 use Rattle.desk_check.specs.declared.bound.Binder.{Binder}
 use Rattle.desk_check.specs.declared.open_error.OpenError.{OpenError}
-use Rattle.desk_check.specs.declared.file_report.DeskSummary.{DeskSummary}
+use Rattle.desk_check.specs.declared.file_report.FileSummary.{FileSummary}
 use Rattle.desk_check.specs.declared.file_report.FileReport.{FileReport}
 use Rattle.desk_check.specs.declared.file_report.FileReport.TheVariants as file_report
 
 abbrev pub rule_line : Rule → List ℕ
 rule_line r = codes "Rule " ++ (decimal (rule_number r) ++ (codes " is broken: " ++ (rule_text r ++ codes ".")))
 
-abbrev pub summary_text : DeskSummary → List ℕ
+abbrev pub summary_text : FileSummary → List ℕ
 summary_text s = codes "It holds a desk of schema " ++ decimal s.schema ++ codes " and " ++ decimal s.seq ++ codes " commands, the last at " ++ decimal s.at ++ codes "."
 
-abbrev pub counts_text : DeskSummary → List ℕ
+abbrev pub counts_text : FileSummary → List ℕ
 counts_text s =
     codes "Orders: " ++ decimal s.orders ++ codes ", batches: " ++ decimal s.batches ++ codes ", lots: " ++ decimal s.lots
     ++ codes ", movements: " ++ decimal s.movements ++ codes "."
@@ -79,7 +79,7 @@ abbrev pub bound_text : Option Binder → List ℕ
 bound_text None = []
 bound_text (Some b) = with_lf (binder_text b)
 
-abbrev pub desk_text : DeskSummary → List ℕ
+abbrev pub desk_text : FileSummary → List ℕ
 desk_text s = with_lf (summary_text s) ++ with_lf (counts_text s)
 
 abbrev pub file_report_text : FileReport → List ℕ

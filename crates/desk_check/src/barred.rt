@@ -122,7 +122,7 @@ fn first_barred(there: &Schema, schema: u64, indexes: &[DeskIndex]) -> Option<De
     None
 }
 
-/// The first index that can't be made as tables of this schema are raised, 0 meaning none, since something bears its name.
+/// The first index that can't be made as tables of this schema are migrated, 0 meaning none, since something bears its name.
 pub(crate) fn barred_index(there: &Schema, schema: u64) -> Option<DeskIndex>
     ensures { result ≡ spec.barred_index there.now schema }
 {

@@ -167,7 +167,7 @@ fn hindered(
     hindrance(writable && log.writable, grows, logs)
 }
 
-/// What keeps the desk from a file where nothing was found to: whether a page can be written next to it, where that is tried.
+/// What keeps the desk from a file where nothing was found to: whether a megabyte can be written next to it, where that is tried.
 fn tried(
     rt: &HostRuntime,
     real: &str,

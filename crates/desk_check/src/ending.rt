@@ -2,7 +2,7 @@
 ghost use Rattle.std.specs.Prelude.{◌≡◌, Some};
 ghost use Rattle.desk_check.specs.Endings.{status_of, report_error_text};
 
-use crate::outcome::Outcome;
+use crate::outcome::CheckOutcome;
 use std::fmt;
 
 /// Why the report of a check isn't whole.
@@ -26,7 +26,7 @@ impl fmt::Display for ReportError {
 }
 
 /// The exit status of a check of this outcome, which was reported whole or not.
-pub(crate) fn status_of(outcome: &Outcome, reported: &Result<(), ReportError>) -> u8
+pub(crate) fn status_of(outcome: &CheckOutcome, reported: &Result<(), ReportError>) -> u8
     ensures { result ≡ status_of outcome.now reported.now }
 {
     match reported {

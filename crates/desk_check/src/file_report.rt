@@ -13,7 +13,7 @@ use crate::bound::Binder;
 use plant_base::{Meta, NEWEST_SCHEMA};
 use plant_check::{Findings, test_loaded};
 use plant_tables::{FoundTables, Loaded, found, only_meta};
-use sql_tables::Fault;
+use sql_tables::StoreFault;
 use sqlite::{Alter, Connection};
 use std::alloc::{AllocError, Global};
 
@@ -27,13 +27,13 @@ pub(crate) enum Held {
     /// Some, but table meta has no schema, or not all of its tables are declared as their definitions say, or one of a
     /// later schema exists.
     Lacking,
-    /// Those of a schema, with all their rows; and the first index that can't be made as they are raised, where there is one.
+    /// Those of a schema, with all their rows; and the first index that can't be made as they are migrated, where there is one.
     Tables(Loaded, Option<DeskIndex>),
 }
 
 /// The desk's position, and how much it holds.
 #[derive(Clone, Copy, Debug, PartialEq, Eq)]
-pub(crate) struct DeskSummary {
+pub(crate) struct FileSummary {
     /// The schema of its tables, how many commands were accepted, and the moment of the last.
     pub(crate) schema: u64,
     pub(crate) seq: u64,
@@ -54,16 +54,16 @@ pub(crate) enum FileReport {
     /// It holds some of a desk's tables: not all are there that its schema asks for, or they aren't declared as their
     /// definitions say; and why one isn't, where that is known.
     Lacking(Option<Binder>),
-    /// It holds a desk, which breaks these rules; and this index can't be made as it is raised, where there is such.
+    /// It holds a desk, which breaks these rules; and this index can't be made as it is migrated, where there is such.
     Desk {
-        summary: DeskSummary,
+        summary: FileSummary,
         barred: Option<DeskIndex>,
         findings: Findings,
     },
 }
 
 /// What a store holds of a desk's tables. Store where the store fails, Memory where there is none. Nothing is changed.
-fn held_in<S: Alter>(alloc: Global, connection: &mut Connection<S>) -> Result<Held, Fault>
+fn held_in<S: Alter>(alloc: Global, connection: &mut Connection<S>) -> Result<Held, StoreFault>
     ensures held { HasCleanDisk (state S.Store connection.new)
         → IfOk result (IsHeldIn (state S.Store connection.old).now) }
     ensures kept { HasCleanDisk (state S.Store connection.new)
@@ -82,7 +82,7 @@ fn held_by<S: Alter>(
     alloc: Global,
     connection: &mut Connection<S>,
     tables: FoundTables,
-) -> Result<Held, Fault>
+) -> Result<Held, StoreFault>
     ensures held { HasCleanDisk (state S.Store connection.new)
         → IfOk result (IsHeldBy (state S.Store connection.old).now tables) }
     ensures kept { HasCleanDisk (state S.Store connection.new)
@@ -102,7 +102,7 @@ fn read_version<S: Alter>(
     alloc: Global,
     connection: &mut Connection<S>,
     version: i64,
-) -> Result<Held, Fault>
+) -> Result<Held, StoreFault>
     ensures held { HasCleanDisk (state S.Store connection.new)
         → IfOk result (IsReadAs (state S.Store connection.old).now version) }
     ensures kept { HasCleanDisk (state S.Store connection.new)
@@ -111,7 +111,7 @@ fn read_version<S: Alter>(
 {
     match u64::try_from(version) {
         Ok(schema) => read_schema(alloc, connection, schema),
-        Err(_) => Err(Fault::Store),
+        Err(_) => Err(StoreFault::Store),
     }
 }
 
@@ -121,7 +121,7 @@ fn read_schema<S: Alter>(
     alloc: Global,
     connection: &mut Connection<S>,
     schema: u64,
-) -> Result<Held, Fault>
+) -> Result<Held, StoreFault>
     ensures held { HasCleanDisk (state S.Store connection.new)
         → IfOk result (IsReadAt (state S.Store connection.old).now schema) }
     ensures kept { HasCleanDisk (state S.Store connection.new)
@@ -132,22 +132,21 @@ fn read_schema<S: Alter>(
         return Ok(Held::Newer(schema));
     }
     let barred = barred_index(connection.schema(), schema);
-    match Loaded::read(alloc, connection, schema) {
-        Ok(None) => Ok(Held::Lacking),
-        Ok(Some(loaded)) => Ok(Held::Tables(loaded, barred)),
-        Err(fault) => Err(fault),
+    match Loaded::read(alloc, connection, schema)? {
+        None => Ok(Held::Lacking),
+        Some(loaded) => Ok(Held::Tables(loaded, barred)),
     }
 }
 
 /// The position of the desk of these rows, by table meta, and how many rows it has of some tables.
-fn summary_by(meta: &Option<Meta>, loaded: &Loaded) -> DeskSummary
+fn summary_by(meta: &Option<Meta>, loaded: &Loaded) -> FileSummary
     ensures { result ≡ summary_of meta.now loaded.now }
 {
     let orders = loaded.rows(5).len();
     let batches = loaded.rows(6).len();
     let lots = loaded.rows(9).len();
     let movements = loaded.rows(11).len();
-    DeskSummary {
+    FileSummary {
         schema: meta.map_or(0, |meta| meta.schema),
         seq: meta.map_or(0, |meta| meta.position.seq),
         at: meta.map_or(0, |meta| meta.position.at.get()),
@@ -177,7 +176,7 @@ fn report_on_rows(
 }
 
 /// The report on a store that holds this. The only fault is that memory was refused.
-fn file_report_of(alloc: Global, held: &Held) -> Result<FileReport, Fault>
+fn file_report_of(alloc: Global, held: &Held) -> Result<FileReport, StoreFault>
     ensures { IfOk result (IsReportOf held.now) }
 {
     match held {
@@ -186,7 +185,7 @@ fn file_report_of(alloc: Global, held: &Held) -> Result<FileReport, Fault>
         Held::Lacking => Ok(FileReport::Lacking(None)),
         Held::Tables(loaded, barred) => match report_on_rows(alloc, loaded, *barred) {
             Ok(file_report) => Ok(file_report),
-            Err(_) => Err(Fault::Memory),
+            Err(_) => Err(StoreFault::Memory),
         },
     }
 }
@@ -198,7 +197,7 @@ fn file_report_of(alloc: Global, held: &Held) -> Result<FileReport, Fault>
 pub(crate) fn report_on_store<S: Alter>(
     alloc: Global,
     connection: &mut Connection<S>,
-) -> Result<FileReport, Fault>
+) -> Result<FileReport, StoreFault>
     ensures reported { HasCleanDisk (state S.Store connection.new)
         → IfOk result (IsFileReportOf (state S.Store connection.old).now) }
     ensures first { HasCleanDisk (state S.Store connection.new)

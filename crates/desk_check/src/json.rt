@@ -13,11 +13,11 @@ ghost use Rattle.desk_check.specs.Outcomes.{WritesObject};
 use crate::barred::DeskIndex;
 use crate::bound::Binder;
 use crate::ending::ReportError;
-use crate::file_report::{DeskSummary, FileReport};
+use crate::file_report::{FileReport, FileSummary};
 use crate::open_error::OpenError;
-use crate::outcome::Outcome;
+use crate::outcome::CheckOutcome;
 use crate::report::write_report;
-use plant_check::{Column, Findings, Key, RowFault, Tested, rule_text};
+use plant_check::{Column, Findings, RowFault, RowKey, Tested, rule_text};
 use plant_check_rules::Rule;
 use serde_json::{Value, json};
 use sqlite::Error;
@@ -25,19 +25,19 @@ use std::alloc::{AllocError, Global};
 use std::io::Write;
 
 /// The values of a key, in the order of its columns; or the position of the row.
-fn key_value(alloc: Global, key: Key) -> Result<Value, AllocError>
+fn key_value(alloc: Global, key: RowKey) -> Result<Value, AllocError>
     ensures { IfOk result (λ v. view v ≡ spec.key_data key) }
 {
     match key {
-        Key::Id(id) => json!(in alloc; [(id.as_str())]),
-        Key::Number(number) => json!(in alloc; [number]),
-        Key::Ids(a, b) => json!(in alloc; [(a.as_str()), (b.as_str())]),
-        Key::Numbers(m, n) => json!(in alloc; [m, n]),
-        Key::IdNumber(id, n) => json!(in alloc; [(id.as_str()), n]),
-        Key::IdNumbers(id, m, n) => json!(in alloc; [(id.as_str()), m, n]),
-        Key::NumberIds(n, a, b) => json!(in alloc; [n, (a.as_str()), (b.as_str())]),
-        Key::IdNumberId(a, n, b) => json!(in alloc; [(a.as_str()), n, (b.as_str())]),
-        Key::Place(place) => json!(in alloc; {"place": place}),
+        RowKey::Id(id) => json!(in alloc; [(id.as_str())]),
+        RowKey::Number(number) => json!(in alloc; [number]),
+        RowKey::Ids(a, b) => json!(in alloc; [(a.as_str()), (b.as_str())]),
+        RowKey::Numbers(m, n) => json!(in alloc; [m, n]),
+        RowKey::IdNumber(id, n) => json!(in alloc; [(id.as_str()), n]),
+        RowKey::IdNumbers(id, m, n) => json!(in alloc; [(id.as_str()), m, n]),
+        RowKey::NumberIds(n, a, b) => json!(in alloc; [n, (a.as_str()), (b.as_str())]),
+        RowKey::IdNumberId(a, n, b) => json!(in alloc; [(a.as_str()), n, (b.as_str())]),
+        RowKey::Place(place) => json!(in alloc; {"place": place}),
     }
 }
 
@@ -79,7 +79,7 @@ fn broken_value(alloc: Global, rule: Rule, row: &Option<RowFault>) -> Result<Val
 }
 
 /// A list of this one.
-#[tactic(auto, using(crate::proofs::EachDataReported::listed))]
+#[tactic(auto, using(crate::proofs::JsonListReported::listed))]
 fn alone(alloc: Global, value: Value) -> Result<Value, AllocError>
     ensures { IfOk result (λ v. view v ≡ spec.list (view value ∷ [])) }
 {
@@ -128,7 +128,7 @@ fn each_value(alloc: Global, tested: &Tested, rules: &[Rule]) -> Result<Vec<Valu
     Ok(list)
 }
 
-#[tactic(auto, using(crate::proofs::EachDataReported::listed))]
+#[tactic(auto, using(crate::proofs::JsonListReported::listed))]
 fn findings_value(alloc: Global, findings: &Findings) -> Result<Value, AllocError>
     ensures { IfOk result (λ v. view v ≡ spec.findings_data findings.now) }
 {
@@ -145,7 +145,7 @@ fn findings_value(alloc: Global, findings: &Findings) -> Result<Value, AllocErro
 
 fn desk_value(
     alloc: Global,
-    summary: &DeskSummary,
+    summary: &FileSummary,
     findings: &Findings,
 ) -> Result<Value, AllocError>
     ensures { IfOk result (λ v. view v ≡ spec.desk_data summary.now findings.now) }
@@ -252,7 +252,7 @@ fn open_error_value(alloc: Global, open_error: &Option<OpenError>) -> Result<Val
     }
 }
 
-fn outcome_value(alloc: Global, outcome: &Outcome) -> Result<Value, AllocError>
+fn outcome_value(alloc: Global, outcome: &CheckOutcome) -> Result<Value, AllocError>
     ensures { IfOk result (λ v. (words : Option (List ℕ)) × HasWordsOf outcome.now.open_error words
         × (view v ≡ spec.outcome_data outcome.now words)) }
 {
@@ -263,7 +263,7 @@ fn outcome_value(alloc: Global, outcome: &Outcome) -> Result<Value, AllocError>
     json!(in alloc; {"desk": desk, "obstacle": open_error, "opens": opens, "taken": taken})
 }
 
-fn object_text(alloc: Global, outcome: &Outcome) -> Result<String, AllocError>
+fn object_text(alloc: Global, outcome: &CheckOutcome) -> Result<String, AllocError>
     ensures { IfOk result (λ text. (words : Option (List ℕ)) × HasWordsOf outcome.now.open_error words
         × (string_bytes text ≡ compact_text (spec.outcome_data outcome.now words))) }
 {
@@ -275,7 +275,7 @@ fn object_text(alloc: Global, outcome: &Outcome) -> Result<String, AllocError>
 pub(crate) fn write_object<W: Write>(
     alloc: Global,
     writer: &mut W,
-    outcome: &Outcome,
+    outcome: &CheckOutcome,
 ) -> Result<(), ReportError>
     ensures { OnOk result (WritesObject outcome.now (W.contents writer.old) (W.contents writer.new)) }
 {

@@ -1,5 +1,5 @@
 //! Reports whether a file opens as a desk's, what it holds, and which rows break a rule. It makes nothing and changes nothing,
-//! but for a page that is written next to the file and removed again where `--room` asks for it.
+//! but for a megabyte that is written next to the file and removed again where `--room` asks for it.
 #![tactic(auto)]
 
 mod barred;
@@ -29,7 +29,7 @@ fn main(rt: HostRuntime) -> ExitCode {
     ExitCode::from(status)
 }
 
-/// Checks the file that the arguments of the command line name, reports what came of it, and gives the exit status.
+/// Checks the file that the arguments of the command line name, reports the outcome, and gives the exit status.
 fn check_named(rt: &HostRuntime) -> Result<u8, WordsFault> {
     let arguments = read_arguments(rt)?;
     let texts = texts_of(rt.alloc(), arguments.as_slice())?;

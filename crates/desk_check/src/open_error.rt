@@ -2,7 +2,7 @@
 ghost use Rattle.std.specs.Prelude.{◌≡◌};
 ghost use Rattle.desk_check.specs.OpenErrors as spec;
 
-use sql_tables::Fault;
+use sql_tables::StoreFault;
 use sqlite::{Error, ErrorCode};
 use std::io::{self, ErrorKind};
 
@@ -205,12 +205,12 @@ pub(crate) fn open_error_of(error: Error) -> OpenError
 }
 
 /// The obstacle that a fault of a store in memory is.
-pub(crate) fn open_error_in(fault: Fault) -> OpenError
+pub(crate) fn open_error_in(fault: StoreFault) -> OpenError
     ensures { result ≡ spec.open_error_in fault }
 {
     match fault {
-        Fault::Store => OpenError::Failed,
-        Fault::Memory => OpenError::Memory,
+        StoreFault::Store => OpenError::Failed,
+        StoreFault::Memory => OpenError::Memory,
     }
 }
 

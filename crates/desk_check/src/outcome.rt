@@ -1,4 +1,4 @@
-//! What came of a check.
+//! The outcome of a check.
 ghost use Rattle.std.specs.Prelude.{◌≡◌, None, OnOk};
 ghost use Rattle.std.specs.Io.KnownBytes.{Appends};
 ghost use Rattle.desk_check.specs.Outcomes as spec;
@@ -15,23 +15,26 @@ use plant_check::Findings;
 use std::alloc::Global;
 use std::io::Write;
 
-/// What came of a check: why the file doesn't open, and what it holds, where that could be read.
+/// The outcome of a check: why the file doesn't open, and what it holds, where that could be read.
 #[derive(Drop)]
-pub(crate) struct Outcome {
+pub(crate) struct CheckOutcome {
     pub(crate) open_error: Option<OpenError>,
     pub(crate) file_report: Option<FileReport>,
 }
 
 /// The outcome of a check whose bytes were surveyed so, of a file from which else this keeps the desk.
-fn outcome_of(reported_on: Result<FileReport, OpenError>, hindered: Option<OpenError>) -> Outcome
+fn outcome_of(
+    reported_on: Result<FileReport, OpenError>,
+    hindered: Option<OpenError>,
+) -> CheckOutcome
     ensures { result ≡ spec.outcome_of reported_on hindered }
 {
     match reported_on {
-        Err(open_error) => Outcome {
+        Err(open_error) => CheckOutcome {
             open_error: Some(open_error),
             file_report: None,
         },
-        Ok(file_report) => Outcome {
+        Ok(file_report) => CheckOutcome {
             open_error: hindered,
             file_report: Some(file_report),
         },
@@ -40,7 +43,7 @@ fn outcome_of(reported_on: Result<FileReport, OpenError>, hindered: Option<OpenE
 
 /// Checks a file, and whether the disk has room, where that is to be tried by a page that is written next to it. Nothing
 /// else is made or written.
-pub(crate) fn check_file(rt: &HostRuntime, file: &str, tries_room: bool) -> Outcome {
+pub(crate) fn check_file(rt: &HostRuntime, file: &str, tries_room: bool) -> CheckOutcome {
     match copy_file(rt, file, tries_room) {
         Err(open_error) => outcome_of(Err(open_error), None),
         Ok(copied) => outcome_of(
@@ -109,7 +112,7 @@ fn open_error_status(open_error: OpenError) -> u8
     }
 }
 
-impl Outcome {
+impl CheckOutcome {
     /// The exit status: 4 for want of memory, 3 where the file doesn't open or its desk breaks a rule or is of a later program, 1
     /// where it opens and holds no desk, and else 0.
     pub(crate) fn status(&self) -> u8
@@ -161,7 +164,7 @@ fn write_held<W: Write>(
 fn write_sentences<W: Write>(
     alloc: Global,
     writer: &mut W,
-    outcome: &Outcome,
+    outcome: &CheckOutcome,
 ) -> Result<(), ReportError>
     ensures { OnOk result (spec.WritesSentences outcome.now (W.contents writer.old) (W.contents writer.new)) }
 {
@@ -174,7 +177,7 @@ pub(crate) fn write_outcome<W: Write>(
     alloc: Global,
     writer: &mut W,
     json: bool,
-    outcome: &Outcome,
+    outcome: &CheckOutcome,
 ) -> Result<(), ReportError>
     ensures { OnOk result (spec.WritesOutcome json outcome.now (W.contents writer.old) (W.contents writer.new)) }
 {

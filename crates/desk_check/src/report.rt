@@ -10,7 +10,7 @@ ghost use Rattle.desk_check.specs.Reports as spec;
 use crate::barred::DeskIndex;
 use crate::bound::Binder;
 use crate::ending::ReportError;
-use crate::file_report::{DeskSummary, FileReport};
+use crate::file_report::{FileReport, FileSummary};
 use crate::open_error::OpenError;
 use plant_check::{Findings, RowFault, Tested, rule_text};
 use plant_check_rules::Rule;
@@ -59,7 +59,7 @@ impl fmt::Display for BrokenRule {
     }
 }
 
-impl fmt::Display for DeskSummary {
+impl fmt::Display for FileSummary {
     ghost output = { λ summary. Some (spec.summary_text summary) };
 
     fn fmt<W: fmt::Write>(&self, f: &mut fmt::Formatter<W>) -> fmt::Result {
@@ -75,7 +75,7 @@ impl fmt::Display for DeskSummary {
 
 /// How many rows a desk has of some tables.
 #[derive(Clone, Copy)]
-struct Counts(DeskSummary);
+struct Counts(FileSummary);
 
 impl fmt::Display for Counts {
     ghost output = { λ reported. Some (spec.counts_text reported.0) };
@@ -296,7 +296,7 @@ fn write_lacking<W: Write>(
 fn write_summary<W: Write>(
     alloc: Global,
     writer: &mut W,
-    summary: &DeskSummary,
+    summary: &FileSummary,
 ) -> Result<(), ReportError>
     ensures { OnOk result (Appends (W.contents writer.old) (W.contents writer.new)
         (spec.desk_text summary.now)) }

@@ -1,34 +1,39 @@
-//! A page that is written next to a file: only a write shows whether the disk has room for it.
+//! A megabyte that is written next to a file: only a write shows whether the disk has room for it.
 use crate::open_error::{OpenError, open_error_of_sibling};
 use std::fs::{self, File};
 use std::io::{self, Write};
 
-/// A page of the log with its head.
-const A_PAGE: [u8; 4120] = [0; 4120];
+/// What is written at once.
+const A_PIECE: [u8; 4096] = [0; 4096];
 
-/// Writes a page to the disk.
-fn write_page(file: &mut File) -> io::Result<()> {
-    file.write_all(&A_PAGE)?;
+/// How many pieces are written: a megabyte. A booking needs 15 to 23 kB, in the log and the file.
+const PIECES: u32 = 256;
+
+/// Writes the pieces to the disk.
+fn write_pieces(file: &mut File) -> io::Result<()> {
+    for _ in 0..PIECES {
+        file.write_all(&A_PIECE)?;
+    }
     file.sync_all()
 }
 
-/// Makes a file of this name, writes a page to it, and removes it again; that the page can't be written is reported first.
+/// Makes a file of this name, writes a megabyte to it, and removes it again; that it can't be written is reported first.
 /// Where something of this name is there, that stays as it is.
-fn make_page(rt: &HostRuntime, name: &str) -> io::Result<()> {
+fn take_room(rt: &HostRuntime, name: &str) -> io::Result<()> {
     let mut file = File::create_new(rt, name)?;
-    let written = write_page(&mut file);
+    let written = write_pieces(&mut file);
     let removed = fs::remove_file(rt, name);
     written?;
     removed
 }
 
-/// What keeps a page from being written next to a file, where something does.
+/// What keeps a megabyte from being written next to a file, where something does.
 pub(crate) fn tried_sibling(rt: &HostRuntime, file: &str) -> Option<OpenError> {
     let number = libc::getpid();
     let Ok(name) = format!(in rt.alloc(); "{file}-{number}-room") else {
         return Some(OpenError::Memory);
     };
-    match make_page(rt, name.as_str()) {
+    match take_room(rt, name.as_str()) {
         Ok(()) => None,
         Err(error) => Some(open_error_of_sibling(error.kind())),
     }

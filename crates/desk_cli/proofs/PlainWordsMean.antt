@@ -107,9 +107,9 @@ serve_port_rows : (name file : Text) → begins_with_dash file ≡ false → sub
 unfolding clap_on_literals
 serve_port_rows name file h = rw (not_dashes file h, not_long file h, not_short file h) (refl {a = Some (codes "serve", rows_of_serve file (unset (codes "log") ∷ unset (codes "page") ∷ []))})
 
-serve_port : (name file : Text) → begins_with_dash file ≡ false → Mean (name ∷ codes "serve" ∷ file ∷ codes "8080" ∷ codes "1000" ∷ []) (file, work.Serve (record { port = 8080; count = 1000; is_logged = false; page = None }))
+serve_port : (name file : Text) → begins_with_dash file ≡ false → Mean (name ∷ codes "serve" ∷ file ∷ codes "8080" ∷ codes "1000" ∷ []) (file, work.Serve (record { port = 8080; count = 1000; is_logged = false; page = None; most_ahead = None }))
 unfolding work_in number_in
-serve_port name file h = by_rows (name ∷ codes "serve" ∷ file ∷ codes "8080" ∷ codes "1000" ∷ []) (rows_of_serve file (unset (codes "log") ∷ unset (codes "page") ∷ [])) (file, work.Serve (record { port = 8080; count = 1000; is_logged = false; page = None })) (serve_port_taken name file h) (serve_port_rows name file h) refl
+serve_port name file h = by_rows (name ∷ codes "serve" ∷ file ∷ codes "8080" ∷ codes "1000" ∷ []) (rows_of_serve file (unset (codes "log") ∷ unset (codes "page") ∷ [])) (file, work.Serve (record { port = 8080; count = 1000; is_logged = false; page = None; most_ahead = None })) (serve_port_taken name file h) (serve_port_rows name file h) refl
 
 serve_logged_taken : (name file : Text) → begins_with_dash file ≡ false → fault_of the_program (name ∷ codes "serve" ∷ file ∷ codes "8080" ∷ codes "1000" ∷ codes "--log" ∷ []) ≡ []
 unfolding clap_on_literals
@@ -119,9 +119,9 @@ serve_logged_rows : (name file : Text) → begins_with_dash file ≡ false → s
 unfolding clap_on_literals
 serve_logged_rows name file h = rw (not_dashes file h, not_long file h, not_short file h) (refl {a = Some (codes "serve", rows_of_serve file (given (codes "log") (codes "true" ∷ []) ∷ unset (codes "page") ∷ []))})
 
-serve_logged : (name file : Text) → begins_with_dash file ≡ false → Mean (name ∷ codes "serve" ∷ file ∷ codes "8080" ∷ codes "1000" ∷ codes "--log" ∷ []) (file, work.Serve (record { port = 8080; count = 1000; is_logged = true; page = None }))
+serve_logged : (name file : Text) → begins_with_dash file ≡ false → Mean (name ∷ codes "serve" ∷ file ∷ codes "8080" ∷ codes "1000" ∷ codes "--log" ∷ []) (file, work.Serve (record { port = 8080; count = 1000; is_logged = true; page = None; most_ahead = None }))
 unfolding work_in number_in
-serve_logged name file h = by_rows (name ∷ codes "serve" ∷ file ∷ codes "8080" ∷ codes "1000" ∷ codes "--log" ∷ []) (rows_of_serve file (given (codes "log") (codes "true" ∷ []) ∷ unset (codes "page") ∷ [])) (file, work.Serve (record { port = 8080; count = 1000; is_logged = true; page = None })) (serve_logged_taken name file h) (serve_logged_rows name file h) refl
+serve_logged name file h = by_rows (name ∷ codes "serve" ∷ file ∷ codes "8080" ∷ codes "1000" ∷ codes "--log" ∷ []) (rows_of_serve file (given (codes "log") (codes "true" ∷ []) ∷ unset (codes "page") ∷ [])) (file, work.Serve (record { port = 8080; count = 1000; is_logged = true; page = None; most_ahead = None })) (serve_logged_taken name file h) (serve_logged_rows name file h) refl
 
 serve_page_taken : (name file : Text) → begins_with_dash file ≡ false → fault_of the_program (name ∷ codes "serve" ∷ file ∷ codes "8080" ∷ codes "1000" ∷ codes "--page" ∷ []) ≡ []
 unfolding clap_on_literals
@@ -131,9 +131,9 @@ serve_page_rows : (name file : Text) → begins_with_dash file ≡ false → sub
 unfolding clap_on_literals
 serve_page_rows name file h = rw (not_dashes file h, not_long file h, not_short file h) (refl {a = Some (codes "serve", rows_of_serve file (given (codes "page") (codes "true" ∷ []) ∷ unset (codes "log") ∷ []))})
 
-serve_page : (name file : Text) → begins_with_dash file ≡ false → Mean (name ∷ codes "serve" ∷ file ∷ codes "8080" ∷ codes "1000" ∷ codes "--page" ∷ []) (file, work.Serve (record { port = 8080; count = 1000; is_logged = false; page = Some (hosts_of_names []) }))
+serve_page : (name file : Text) → begins_with_dash file ≡ false → Mean (name ∷ codes "serve" ∷ file ∷ codes "8080" ∷ codes "1000" ∷ codes "--page" ∷ []) (file, work.Serve (record { port = 8080; count = 1000; is_logged = false; page = Some (hosts_of_names []); most_ahead = Some 300 }))
 unfolding work_in number_in
-serve_page name file h = by_rows (name ∷ codes "serve" ∷ file ∷ codes "8080" ∷ codes "1000" ∷ codes "--page" ∷ []) (rows_of_serve file (given (codes "page") (codes "true" ∷ []) ∷ unset (codes "log") ∷ [])) (file, work.Serve (record { port = 8080; count = 1000; is_logged = false; page = Some (hosts_of_names []) })) (serve_page_taken name file h) (serve_page_rows name file h) refl
+serve_page name file h = by_rows (name ∷ codes "serve" ∷ file ∷ codes "8080" ∷ codes "1000" ∷ codes "--page" ∷ []) (rows_of_serve file (given (codes "page") (codes "true" ∷ []) ∷ unset (codes "log") ∷ [])) (file, work.Serve (record { port = 8080; count = 1000; is_logged = false; page = Some (hosts_of_names []); most_ahead = Some 300 })) (serve_page_taken name file h) (serve_page_rows name file h) refl
 
 serve_hosts_taken : (name file : Text) → begins_with_dash file ≡ false → fault_of the_program (name ∷ codes "serve" ∷ file ∷ codes "8080" ∷ codes "1000" ∷ codes "--page" ∷ codes "--host" ∷ codes "a.example" ∷ codes "--host" ∷ codes "b" ∷ []) ≡ []
 unfolding clap_on_literals
@@ -143,9 +143,33 @@ serve_hosts_rows : (name file : Text) → begins_with_dash file ≡ false → su
 unfolding clap_on_literals
 serve_hosts_rows name file h = rw (not_dashes file h, not_long file h, not_short file h) (refl {a = Some (codes "serve", rows_of_serve file (given (codes "page") (codes "true" ∷ []) ∷ given (codes "host") (codes "a.example" ∷ codes "b" ∷ []) ∷ unset (codes "log") ∷ []))})
 
-serve_hosts : (name file : Text) → begins_with_dash file ≡ false → Mean (name ∷ codes "serve" ∷ file ∷ codes "8080" ∷ codes "1000" ∷ codes "--page" ∷ codes "--host" ∷ codes "a.example" ∷ codes "--host" ∷ codes "b" ∷ []) (file, work.Serve (record { port = 8080; count = 1000; is_logged = false; page = Some (hosts_of_names (codes "a.example" ∷ codes "b" ∷ [])) }))
+serve_hosts : (name file : Text) → begins_with_dash file ≡ false → Mean (name ∷ codes "serve" ∷ file ∷ codes "8080" ∷ codes "1000" ∷ codes "--page" ∷ codes "--host" ∷ codes "a.example" ∷ codes "--host" ∷ codes "b" ∷ []) (file, work.Serve (record { port = 8080; count = 1000; is_logged = false; page = Some (hosts_of_names (codes "a.example" ∷ codes "b" ∷ [])); most_ahead = Some 300 }))
 unfolding work_in number_in
-serve_hosts name file h = by_rows (name ∷ codes "serve" ∷ file ∷ codes "8080" ∷ codes "1000" ∷ codes "--page" ∷ codes "--host" ∷ codes "a.example" ∷ codes "--host" ∷ codes "b" ∷ []) (rows_of_serve file (given (codes "page") (codes "true" ∷ []) ∷ given (codes "host") (codes "a.example" ∷ codes "b" ∷ []) ∷ unset (codes "log") ∷ [])) (file, work.Serve (record { port = 8080; count = 1000; is_logged = false; page = Some (hosts_of_names (codes "a.example" ∷ codes "b" ∷ [])) })) (serve_hosts_taken name file h) (serve_hosts_rows name file h) refl
+serve_hosts name file h = by_rows (name ∷ codes "serve" ∷ file ∷ codes "8080" ∷ codes "1000" ∷ codes "--page" ∷ codes "--host" ∷ codes "a.example" ∷ codes "--host" ∷ codes "b" ∷ []) (rows_of_serve file (given (codes "page") (codes "true" ∷ []) ∷ given (codes "host") (codes "a.example" ∷ codes "b" ∷ []) ∷ unset (codes "log") ∷ [])) (file, work.Serve (record { port = 8080; count = 1000; is_logged = false; page = Some (hosts_of_names (codes "a.example" ∷ codes "b" ∷ [])); most_ahead = Some 300 })) (serve_hosts_taken name file h) (serve_hosts_rows name file h) refl
+
+serve_ahead_taken : (name file : Text) → begins_with_dash file ≡ false → fault_of the_program (name ∷ codes "serve" ∷ file ∷ codes "8080" ∷ codes "1000" ∷ codes "--ahead" ∷ codes "60" ∷ []) ≡ []
+unfolding clap_on_literals
+serve_ahead_taken name file h = rw (not_dashes file h, not_long file h, not_short file h) (refl {a = []})
+
+serve_ahead_rows : (name file : Text) → begins_with_dash file ≡ false → subcommand_of the_program (name ∷ codes "serve" ∷ file ∷ codes "8080" ∷ codes "1000" ∷ codes "--ahead" ∷ codes "60" ∷ []) ≡ Some (codes "serve", rows_of_serve file (number (codes "ahead") (codes "60") ∷ unset (codes "log") ∷ unset (codes "page") ∷ []))
+unfolding clap_on_literals
+serve_ahead_rows name file h = rw (not_dashes file h, not_long file h, not_short file h) (refl {a = Some (codes "serve", rows_of_serve file (number (codes "ahead") (codes "60") ∷ unset (codes "log") ∷ unset (codes "page") ∷ []))})
+
+serve_ahead : (name file : Text) → begins_with_dash file ≡ false → Mean (name ∷ codes "serve" ∷ file ∷ codes "8080" ∷ codes "1000" ∷ codes "--ahead" ∷ codes "60" ∷ []) (file, work.Serve (record { port = 8080; count = 1000; is_logged = false; page = None; most_ahead = Some 60 }))
+unfolding work_in number_in
+serve_ahead name file h = by_rows (name ∷ codes "serve" ∷ file ∷ codes "8080" ∷ codes "1000" ∷ codes "--ahead" ∷ codes "60" ∷ []) (rows_of_serve file (number (codes "ahead") (codes "60") ∷ unset (codes "log") ∷ unset (codes "page") ∷ [])) (file, work.Serve (record { port = 8080; count = 1000; is_logged = false; page = None; most_ahead = Some 60 })) (serve_ahead_taken name file h) (serve_ahead_rows name file h) refl
+
+serve_any_ahead_taken : (name file : Text) → begins_with_dash file ≡ false → fault_of the_program (name ∷ codes "serve" ∷ file ∷ codes "8080" ∷ codes "1000" ∷ codes "--page" ∷ codes "--ahead" ∷ codes "0" ∷ []) ≡ []
+unfolding clap_on_literals
+serve_any_ahead_taken name file h = rw (not_dashes file h, not_long file h, not_short file h) (refl {a = []})
+
+serve_any_ahead_rows : (name file : Text) → begins_with_dash file ≡ false → subcommand_of the_program (name ∷ codes "serve" ∷ file ∷ codes "8080" ∷ codes "1000" ∷ codes "--page" ∷ codes "--ahead" ∷ codes "0" ∷ []) ≡ Some (codes "serve", rows_of_serve file (given (codes "page") (codes "true" ∷ []) ∷ number (codes "ahead") (codes "0") ∷ unset (codes "log") ∷ []))
+unfolding clap_on_literals
+serve_any_ahead_rows name file h = rw (not_dashes file h, not_long file h, not_short file h) (refl {a = Some (codes "serve", rows_of_serve file (given (codes "page") (codes "true" ∷ []) ∷ number (codes "ahead") (codes "0") ∷ unset (codes "log") ∷ []))})
+
+serve_any_ahead : (name file : Text) → begins_with_dash file ≡ false → Mean (name ∷ codes "serve" ∷ file ∷ codes "8080" ∷ codes "1000" ∷ codes "--page" ∷ codes "--ahead" ∷ codes "0" ∷ []) (file, work.Serve (record { port = 8080; count = 1000; is_logged = false; page = Some (hosts_of_names []); most_ahead = None }))
+unfolding work_in number_in
+serve_any_ahead name file h = by_rows (name ∷ codes "serve" ∷ file ∷ codes "8080" ∷ codes "1000" ∷ codes "--page" ∷ codes "--ahead" ∷ codes "0" ∷ []) (rows_of_serve file (given (codes "page") (codes "true" ∷ []) ∷ number (codes "ahead") (codes "0") ∷ unset (codes "log") ∷ [])) (file, work.Serve (record { port = 8080; count = 1000; is_logged = false; page = Some (hosts_of_names []); most_ahead = None })) (serve_any_ahead_taken name file h) (serve_any_ahead_rows name file h) refl
 
 host_alone_rows : (name file : Text) → begins_with_dash file ≡ false → subcommand_of the_program (name ∷ codes "serve" ∷ file ∷ codes "8080" ∷ codes "1000" ∷ codes "--host" ∷ codes "a" ∷ []) ≡ Some (codes "serve", rows_of_serve file (given (codes "host") (codes "a" ∷ []) ∷ unset (codes "log") ∷ unset (codes "page") ∷ []))
 unfolding clap_on_literals
@@ -196,6 +220,8 @@ serve_words = record {
   serve_port = serve_port;
   serve_logged = serve_logged;
   serve_page = serve_page;
+  serve_ahead = serve_ahead;
+  serve_any_ahead = serve_any_ahead;
   serve_hosts = serve_hosts;
   host_alone = host_alone;
   host_with_port = host_with_port;

@@ -15,6 +15,10 @@ greatest_port = 65535
 abbrev pub most_connections : ℕ
 most_connections = 1000000
 
+-- the most seconds that can be said of a command that is ahead
+abbrev pub greatest_ahead : ℕ
+greatest_ahead = 1000000
+
 -- ---- arguments
 
 -- an argument that has to be there
@@ -76,6 +80,14 @@ host_rule = record (new_rule (codes "host")) {
   value_names = 1;
 }
 
+-- by how many seconds a command may be ahead of the machine's clock
+abbrev pub ahead_rule : Rule
+ahead_rule = record (new_rule (codes "ahead")) {
+  long = Some (codes "ahead");
+  value_names = 1;
+  parser = Some (parser.Signed (pos 0) (pos greatest_ahead));
+}
+
 -- ---- subcommands
 
 -- a subcommand that takes a file
@@ -96,7 +108,7 @@ abbrev pub port_app : App
 port_app = with_rule (with_rule (with_rule (word_app (codes "serve")) port_rule) count_rule) log_rule
 
 abbrev pub serve_app : App
-serve_app = with_rule (with_rule port_app page_rule) host_rule
+serve_app = with_rule (with_rule (with_rule port_app page_rule) host_rule) ahead_rule
 
 -- the program's name alone: the subcommand `help` has no meaning of its own
 abbrev pub bare_program : App

@@ -17,7 +17,7 @@ json_rule = record (new_rule (codes "json")) {
   action = Some SetTrue;
 }
 
--- whether a page is written next to the file
+-- whether a megabyte is written next to the file
 abbrev pub room_rule : Rule
 room_rule = record (new_rule (codes "room")) {
   long = Some (codes "room");

@@ -1,5 +1,5 @@
 -- What the arguments of the command line mean.
-use Rattle.std.specs.Prelude.{◌≡◌, ◌⊎◌, ℕ, ◌&&◌, nat_le, Bool, true, false, List, [], length, codes, Option, Some, None, Result, Ok, Err, ok_or, option_and_then, if◌then◌else◌, string_bytes, bytes_eq}
+use Rattle.std.specs.Prelude.{◌≡◌, ◌⊎◌, ℕ, ◌&&◌, nat_le, Bool, true, false, List, [], length, codes, Option, Some, None, is_some, Result, Ok, Err, ok_or, option_and_then, if◌then◌else◌, string_bytes, bytes_eq}
 use Rattle.std.specs.List.{list_any}
 use Rattle.std.specs.Str.{all_ascii_digits}
 use Rattle.std.specs.Str.Parse.{digits_value, without_leading_plus}
@@ -10,7 +10,7 @@ use Rattle.plant_base.specs.{greatest_moment, is_id, is_text, only}
 use Rattle.plant_trace.specs.{Direction}
 use Rattle.plant_trace.specs.declared.direction.Direction.TheVariants.{Back, Forward}
 use Rattle.desk_cli.specs.Arguments.{name_of, refusal_text}
-use Rattle.desk_cli.specs.CommandLine.{the_program, greatest_port, most_connections}
+use Rattle.desk_cli.specs.CommandLine.{the_program, greatest_ahead, greatest_port, most_connections}
 use Rattle.desk_cli.specs.Hosts.{hosts_of, hosts_of_names}
 use Rattle.desk_cli.specs.declared.hosts.Hosts.{Hosts}
 use Rattle.desk_cli.specs.declared.argument.Argument.{Argument}
@@ -106,12 +106,19 @@ page_in rows =
     if is_set (first_of (codes "page") rows) then (hosts_given (all_of (codes "host") rows) >>= λ hosts. Ok (Some hosts))
     else no_hosts_given (all_of (codes "host") rows)
 
+-- By how many seconds a command may be ahead of the machine's clock: as many as are said, which 0 leaves open, and where nothing is said
+-- 300 with the page, and else any.
+abbrev pub most_ahead_of : Bool → Option ℕ → Option ℕ
+most_ahead_of with_page None = if with_page then Some 300 else None
+most_ahead_of with_page (Some seconds) = only (nat_le 1) seconds
+
 abbrev pub serving_in : List Row → Result Serving Argument
 serving_in rows = do
   port ← value_in argument.Port (number_in 1 greatest_port) rows
   count ← value_in argument.Count (number_in 1 most_connections) rows
   page ← page_in rows
-  Ok (record { port = port; count = count; is_logged = is_set (first_of (codes "log") rows); page = page })
+  ahead ← if_named argument.Ahead (number_in 0 greatest_ahead) (first_of (codes "ahead") rows)
+  Ok (record { port = port; count = count; is_logged = is_set (first_of (codes "log") rows); page = page; most_ahead = most_ahead_of (is_some page) ahead })
 
 -- ---- subcommands
 

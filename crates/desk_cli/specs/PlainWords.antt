@@ -97,18 +97,25 @@ pub record ImportWords : Type 0 where
 pub record ServeWords : Type 0 where
   pub serve_port : (name file : Text) → begins_with_dash file ≡ false
       → Mean (name ∷ codes "serve" ∷ file ∷ codes "8080" ∷ codes "1000" ∷ [])
-      (file, work.Serve (record { port = 8080; count = 1000; is_logged = false; page = None }))
+      (file, work.Serve (record { port = 8080; count = 1000; is_logged = false; page = None; most_ahead = None }))
   -- each request is noted only where that is asked for
   pub serve_logged : (name file : Text) → begins_with_dash file ≡ false
       → Mean (name ∷ codes "serve" ∷ file ∷ codes "8080" ∷ codes "1000" ∷ codes "--log" ∷ [])
-      (file, work.Serve (record { port = 8080; count = 1000; is_logged = true; page = None }))
+      (file, work.Serve (record { port = 8080; count = 1000; is_logged = true; page = None; most_ahead = None }))
   -- the page is served where that is asked for, under further names where these are given
   pub serve_page : (name file : Text) → begins_with_dash file ≡ false
       → Mean (name ∷ codes "serve" ∷ file ∷ codes "8080" ∷ codes "1000" ∷ codes "--page" ∷ [])
-      (file, work.Serve (record { port = 8080; count = 1000; is_logged = false; page = Some (hosts_of_names []) }))
+      (file, work.Serve (record { port = 8080; count = 1000; is_logged = false; page = Some (hosts_of_names []); most_ahead = Some 300 }))
   pub serve_hosts : (name file : Text) → begins_with_dash file ≡ false
       → Mean (name ∷ codes "serve" ∷ file ∷ codes "8080" ∷ codes "1000" ∷ codes "--page" ∷ codes "--host" ∷ codes "a.example" ∷ codes "--host" ∷ codes "b" ∷ [])
-      (file, work.Serve (record { port = 8080; count = 1000; is_logged = false; page = Some (hosts_of_names (codes "a.example" ∷ codes "b" ∷ [])) }))
+      (file, work.Serve (record { port = 8080; count = 1000; is_logged = false; page = Some (hosts_of_names (codes "a.example" ∷ codes "b" ∷ [])); most_ahead = Some 300 }))
+  -- a command may be ahead by as many seconds as are said, and with 0 by any
+  pub serve_ahead : (name file : Text) → begins_with_dash file ≡ false
+      → Mean (name ∷ codes "serve" ∷ file ∷ codes "8080" ∷ codes "1000" ∷ codes "--ahead" ∷ codes "60" ∷ [])
+      (file, work.Serve (record { port = 8080; count = 1000; is_logged = false; page = None; most_ahead = Some 60 }))
+  pub serve_any_ahead : (name file : Text) → begins_with_dash file ≡ false
+      → Mean (name ∷ codes "serve" ∷ file ∷ codes "8080" ∷ codes "1000" ∷ codes "--page" ∷ codes "--ahead" ∷ codes "0" ∷ [])
+      (file, work.Serve (record { port = 8080; count = 1000; is_logged = false; page = Some (hosts_of_names []); most_ahead = None }))
   -- a name is given with the page alone, has no port and no upper case, and comes after its option
   pub host_alone : (name file : Text) → begins_with_dash file ≡ false
       → Break (name ∷ codes "serve" ∷ file ∷ codes "8080" ∷ codes "1000" ∷ codes "--host" ∷ codes "a" ∷ []) argument.Host

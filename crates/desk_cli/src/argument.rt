@@ -29,6 +29,8 @@ pub enum Argument {
     Count,
     /// A name under which `serve` takes requests in addition to this machine's, with the web page.
     Host,
+    /// How far ahead a command may be, whose range clap sees to.
+    Ahead,
 }
 
 impl Argument {
@@ -48,6 +50,7 @@ impl Argument {
             Argument::Port => "port",
             Argument::Count => "count",
             Argument::Host => "host",
+            Argument::Ahead => "ahead",
         }
     }
 }
@@ -75,6 +78,7 @@ impl fmt::Display for Argument {
             Argument::Host => {
                 "NAME of --host is 1 to 60 of a to z, 0 to 9, - and ., the first no - and no .; 8 of them at most, and only with --page"
             }
+            Argument::Ahead => "SECONDS of --ahead is a whole number from 0 to 1000000",
         })
     }
 }

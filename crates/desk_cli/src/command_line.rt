@@ -1,7 +1,7 @@
 //! The command line, as it is defined to clap.
 ghost use Rattle.std.specs.Prelude.{◌≡◌, IfOk, codes, false};
 ghost use Rattle.clap.specs.Words.{app_of, rule_of, shape_of, with_rule, with_subcommand};
-ghost use Rattle.desk_cli.specs.CommandLine.{bare_program, import_app, count_rule, host_rule};
+ghost use Rattle.desk_cli.specs.CommandLine.{ahead_rule, bare_program, import_app, count_rule, host_rule};
 ghost use Rattle.desk_cli.specs.CommandLine.{log_rule, page_rule, port_app, port_rule, record_app};
 ghost use Rattle.desk_cli.specs.CommandLine.{serve_app, the_program, trace_app, required_rule};
 ghost use Rattle.desk_cli.specs.CommandLine.{word_app, at_rule, by_rule, reference_rule};
@@ -101,6 +101,20 @@ fn host_argument<'a>(alloc: Global) -> Arg<'a>
         .help(
             "With --page: a further name of this host, under which a proxy on it hands requests on; up to 8 times",
         )
+}
+
+/// `--ahead SECONDS`, by how many seconds a command may be ahead of the machine's clock.
+fn ahead_argument<'a>(alloc: Global) -> Arg<'a>
+    ensures rule { rule_of result ≡ ahead_rule }
+    ensures local { result.global ≡ false }
+{
+    Arg::new(alloc, "ahead")
+        .long("ahead")
+        .value_name("SECONDS")
+        .help(
+            "By how many seconds a command may be ahead of this machine's clock, 0 to 1000000, 0 by any; with --page 300 unless said",
+        )
+        .value_parser(value_parser!(u32).range(0..=1_000_000))
 }
 
 /// The subcommand `name`, which takes the name of a file alone.
@@ -208,7 +222,7 @@ fn record_command<'a>(alloc: Global) -> Result<Command<'a>, AllocError>
     .arg(batch)
 }
 
-/// The subcommand `serve` without the arguments about the web page.
+/// The subcommand `serve` without the arguments about the web page and the clock.
 fn port_command<'a>(alloc: Global) -> Result<Command<'a>, AllocError>
     ensures app { IfOk result (λ c. app_of c ≡ port_app) }
     ensures local { IfOk result (λ c. IsLocal c) }
@@ -225,13 +239,15 @@ For browsers: desk serve plant.db 8080 1000000 --page\nThen open http://127.0.0.
     .arg(log_argument(alloc))
 }
 
-/// The subcommand with the arguments about the web page as well.
+/// The subcommand with the arguments about the web page and the clock as well.
 fn with_page<'a>(alloc: Global, word: Command<'a>) -> Result<Command<'a>, AllocError>
     requires { IsLocal word }
-    ensures app { IfOk result (λ c. app_of c ≡ with_rule (with_rule (app_of word.entry) page_rule) host_rule) }
+    ensures app { IfOk result (λ c. app_of c ≡ with_rule (with_rule (with_rule (app_of word.entry) page_rule) host_rule) ahead_rule) }
     ensures local { IfOk result (λ c. IsLocal c) }
 {
-    word.arg(page_argument(alloc))?.arg(host_argument(alloc))
+    word.arg(page_argument(alloc))?
+        .arg(host_argument(alloc))?
+        .arg(ahead_argument(alloc))
 }
 
 /// The subcommand `serve`.

@@ -22,7 +22,7 @@ pub struct DeskCheck<'a> {
     pub file: &'a str,
     /// Whether one JSON object is written instead of sentences.
     pub is_json: bool,
-    /// Whether a page is written next to it, to see whether the disk has room.
+    /// Whether a megabyte is written next to it, to see whether the disk has room.
     pub tries_room: bool,
 }
 
@@ -48,7 +48,7 @@ fn json_argument<'a>(alloc: Global) -> Arg<'a>
         .help("Print one JSON object in place of sentences")
 }
 
-/// `--room`, whether a page is written next to the file.
+/// `--room`, whether a megabyte is written next to the file.
 fn room_argument<'a>(alloc: Global) -> Arg<'a>
     ensures rule { rule_of result ≡ room_rule }
     ensures local { result.global ≡ false }
@@ -57,7 +57,7 @@ fn room_argument<'a>(alloc: Global) -> Arg<'a>
         .long("room")
         .action(ArgAction::SetTrue)
         .help(
-            "Also write a page to a new file beside it, which is removed again, to see whether the disk is full",
+            "Also write a megabyte to a new file next to it, which is removed again, to see whether the disk is full",
         )
 }
 

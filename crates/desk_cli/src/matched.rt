@@ -2,14 +2,15 @@
 ghost use Rattle.std.specs.Prelude.{◌≡◌, codes};
 ghost use Rattle.clap.specs.Words.{all_of, first_of, found_of, rows_of, subcommand_rows_of};
 ghost use Rattle.desk_cli.specs.Meaning.{all_meant, hosts_given, import_in, is_set, meant_by};
-ghost use Rattle.desk_cli.specs.Meaning.{meant_in, page_in, record_in, serving_in, task_work};
+ghost use Rattle.desk_cli.specs.Meaning.{meant_in, most_ahead_of, page_in, record_in, serving_in, task_work};
 ghost use Rattle.desk_cli.specs.Meaning.{trace_in, work_in};
 
 use crate::argument::Argument;
 use crate::hosts::{Hosts, hosts_of};
 use crate::meaning::{Serving, Task, Words, Work};
 use crate::values::{
-    direction_at, id_at, moment_at, number_at, optional_id_at, text_at, value_of, values_of,
+    direction_at, id_at, moment_at, number_at, optional_id_at, optional_number_at, text_at,
+    value_of, values_of,
 };
 use clap::ArgMatches;
 
@@ -21,6 +22,12 @@ pub(crate) const GREATEST_PORT: u16 = u16::MAX;
 
 /// The most connections that are served.
 pub(crate) const MOST_CONNECTIONS: u32 = 1_000_000;
+
+/// The most seconds that can be said of a command that is ahead.
+pub(crate) const GREATEST_AHEAD: u32 = 1_000_000;
+
+/// By how many seconds a command may be ahead of the machine's clock where the page is served and nothing is said.
+const AHEAD_WITH_PAGE: u32 = 300;
 
 /// The import of the arguments.
 fn import_in(matches: &ArgMatches<'_>) -> Result<Task, Argument>
@@ -74,14 +81,28 @@ fn page_in(matches: &ArgMatches<'_>) -> Result<Option<Hosts>, Argument>
     ensures { result ≡ page_in (rows_of (found_of matches.now)) }
 {
     if is_set(matches, "page") {
-        return match hosts_given(matches) {
-            Ok(hosts) => Ok(Some(hosts)),
-            Err(argument) => Err(argument),
-        };
+        return Ok(Some(hosts_given(matches)?));
     }
     match values_of(matches, "host") {
         Some(_) => Err(Argument::Host),
         None => Ok(None),
+    }
+}
+
+/// By how many seconds a command may be ahead of the machine's clock: as many as are said, which 0 leaves open, and where nothing is
+/// said 300 with the page, and else any.
+fn most_ahead_of(with_page: bool, said: Option<u32>) -> Option<u32>
+    ensures { result ≡ most_ahead_of with_page said }
+{
+    match said {
+        Some(seconds) => { if seconds >= 1 { Some(seconds) } else { None } }
+        None => {
+            if with_page {
+                Some(AHEAD_WITH_PAGE)
+            } else {
+                None
+            }
+        }
     }
 }
 
@@ -92,22 +113,21 @@ fn serving_in(matches: &ArgMatches<'_>) -> Result<Serving, Argument>
     let port = number_at(matches, Argument::Port, 1, u64::from(GREATEST_PORT))?;
     let count = number_at(matches, Argument::Count, 1, u64::from(MOST_CONNECTIONS))?;
     let page = page_in(matches)?;
+    let ahead = optional_number_at(matches, Argument::Ahead, GREATEST_AHEAD)?;
     Ok(Serving {
         port: port as u16,
         count: count as u32,
         is_logged: is_set(matches, "log"),
         page,
+        most_ahead: most_ahead_of(page.is_some(), ahead),
     })
 }
 
-/// The work of a task.
+/// The work that does a task, where one was read.
 fn task_work(task: Result<Task, Argument>) -> Result<Work, Argument>
     ensures { result ≡ task_work task }
 {
-    match task {
-        Ok(task) => Ok(Work::Task(task)),
-        Err(argument) => Err(argument),
-    }
+    Ok(Work::Task(task?))
 }
 
 /// The work over the file by the subcommand `name` and its arguments.
@@ -134,10 +154,7 @@ fn work_in(name: &str, matches: &ArgMatches<'_>) -> Result<Work, Argument>
         return Ok(Work::Task(Task::Verify));
     }
     if name == "serve" {
-        return match serving_in(matches) {
-            Ok(serving) => Ok(Work::Serve(serving)),
-            Err(argument) => Err(argument),
-        };
+        return Ok(Work::Serve(serving_in(matches)?));
     }
     Err(Argument::Word)
 }
@@ -147,10 +164,10 @@ fn words_at<'a>(name: &str, matches: &ArgMatches<'a>) -> Result<Words<'a>, Argum
     ensures { all_meant result ≡ meant_by name.now (rows_of (found_of matches.now)) }
 {
     match value_of(matches, "file") {
-        Some(file) => match work_in(name, matches) {
-            Ok(work) => Ok(Words { file, work }),
-            Err(argument) => Err(argument),
-        },
+        Some(file) => Ok(Words {
+            file,
+            work: work_in(name, matches)?,
+        }),
         None => Err(Argument::File),
     }
 }

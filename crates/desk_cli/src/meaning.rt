@@ -67,6 +67,8 @@ pub struct Serving {
     pub is_logged: bool,
     /// Where the web page is served: the names of hosts under which it is, other than those of this machine.
     pub page: Option<Hosts>,
+    /// By how many seconds a command may be ahead of the machine's clock, 1 to 1,000,000; `None` where it may be by any.
+    pub most_ahead: Option<u32>,
 }
 
 /// Why the arguments give nothing to do.

@@ -17,9 +17,9 @@ use std::fmt;
 
 /// The message where clap takes the arguments and the value of one breaks its rule.
 #[derive(Clone, Copy)]
-struct BrokenRule(Argument);
+struct BrokenValue(Argument);
 
-impl fmt::Display for BrokenRule {
+impl fmt::Display for BrokenValue {
     ghost output = { λ broken. Some (refusal_text broken.0) };
 
     fn fmt<W: fmt::Write>(&self, f: &mut fmt::Formatter<W>) -> fmt::Result {
@@ -76,7 +76,7 @@ pub fn read_words<'a>(alloc: Global, words: &'a [&'a str]) -> Result<Words<'a>, 
 pub(crate) fn broken(alloc: Global, argument: Argument) -> WordsFault
     ensures { NamesBroken argument result }
 {
-    match BrokenRule(argument).to_string(alloc) {
+    match BrokenValue(argument).to_string(alloc) {
         Ok(text) => WordsFault::Usage(text),
         Err(_) => WordsFault::Memory,
     }

@@ -58,6 +58,24 @@ pub(crate) fn optional_id_at(
     }
 }
 
+/// The number that an argument is, where it is given: at most this.
+pub(crate) fn optional_number_at(
+    matches: &ArgMatches<'_>,
+    argument: Argument,
+    greatest: u32,
+) -> Result<Option<u32>, Argument>
+    ensures { result ≡ if_named argument (number_in 0 greatest)
+        (first_of (name_of argument) (rows_of (found_of matches.now))) }
+{
+    match value_of(matches, argument.name()) {
+        Some(text) => match small_in(text, greatest) {
+            Some(number) => Ok(Some(number)),
+            None => Err(argument),
+        },
+        None => Ok(None),
+    }
+}
+
 /// The text that an argument is.
 pub(crate) fn text_at(matches: &ArgMatches<'_>, argument: Argument) -> Result<Text, Argument>
     ensures { result ≡ value_in argument (only is_text) (rows_of (found_of matches.now)) }
@@ -85,6 +103,16 @@ fn number_in(text: &str, least: u64, greatest: u64) -> Option<u64>
     }
 }
 
+/// The number that a text spells, where it is at most this.
+fn small_in(text: &str, greatest: u32) -> Option<u32>
+    ensures { result ≡ number_in 0 greatest text.now }
+{
+    match number_in(text, 0, u64::from(greatest)) {
+        Some(number) => Some(number as u32),
+        None => None,
+    }
+}
+
 /// The number that an argument is, where it is one of these.
 pub(crate) fn number_at(
     matches: &ArgMatches<'_>,
@@ -108,10 +136,8 @@ pub(crate) fn number_at(
 pub(crate) fn moment_at(matches: &ArgMatches<'_>, argument: Argument) -> Result<Moment, Argument>
     ensures { result ≡ value_in argument (number_in 0 greatest_moment) (rows_of (found_of matches.now)) }
 {
-    match number_at(matches, argument, 0, GREATEST_MOMENT) {
-        Ok(seconds) => Moment::new(seconds).ok_or(argument),
-        Err(argument) => Err(argument),
-    }
+    let seconds = number_at(matches, argument, 0, GREATEST_MOMENT)?;
+    Moment::new(seconds).ok_or(argument)
 }
 
 /// The direction that a text names.

@@ -1,4 +1,4 @@
--- What comes of work over a file.
+-- The outcome of work over a file.
 use Rattle.std.specs.Prelude.{◌≡◌, ℕ, List, codes, false}
 use Rattle.sqlite.specs.State.{State, HasCleanDisk}
 use Rattle.sqlite.specs.Held.{Held, state}

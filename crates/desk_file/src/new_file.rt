@@ -41,7 +41,7 @@ fn is_begun(found: &[u8]) -> bool
 
 /// Why a new file wasn't made.
 #[derive(Clone, Copy)]
-enum Unmade {
+enum CreateError {
     /// Another desk is making it.
     Busy,
     /// Memory was refused for a name.
@@ -50,15 +50,15 @@ enum Unmade {
     Refused,
 }
 
-impl From<io::Error> for Unmade {
-    fn from(_error: io::Error) -> Unmade {
-        Unmade::Refused
+impl From<io::Error> for CreateError {
+    fn from(_error: io::Error) -> CreateError {
+        CreateError::Refused
     }
 }
 
-impl From<AllocError> for Unmade {
-    fn from(_error: AllocError) -> Unmade {
-        Unmade::Memory
+impl From<AllocError> for CreateError {
+    fn from(_error: AllocError) -> CreateError {
+        CreateError::Memory
     }
 }
 
@@ -77,49 +77,49 @@ pub(crate) fn make_missing(rt: &HostRuntime, file: &str) -> Result<(), Error>
         return Ok(());
     }
     match make(rt, file) {
-        Err(Unmade::Busy) => Err(Error::SqliteFailure(ErrorCode::DatabaseBusy)),
-        Err(Unmade::Memory) => Err(Error::SqliteFailure(ErrorCode::OutOfMemory)),
-        Ok(()) | Err(Unmade::Refused) => Ok(()),
+        Err(CreateError::Busy) => Err(Error::SqliteFailure(ErrorCode::DatabaseBusy)),
+        Err(CreateError::Memory) => Err(Error::SqliteFailure(ErrorCode::OutOfMemory)),
+        Ok(()) | Err(CreateError::Refused) => Ok(()),
     }
 }
 
 /// Makes the file, or goes on with the making that a stop ended; does nothing where that isn't to be done.
-fn make(rt: &HostRuntime, file: &str) -> Result<(), Unmade> {
-    let beside = format!(in rt.alloc(); "{file}-new")?;
-    let beside = beside.as_str();
+fn make(rt: &HostRuntime, file: &str) -> Result<(), CreateError> {
+    let temporary = format!(in rt.alloc(); "{file}-new")?;
+    let temporary = temporary.as_str();
     match found_at(rt, file)? {
         Some(found) if found.nlink() == 1 => return Ok(()),
-        Some(found) => return end_naming(rt, beside, found),
+        Some(found) => return end_naming(rt, temporary, found),
         None => {}
     }
-    if has_log(rt, file)? || has_log(rt, beside)? {
+    if has_log(rt, file)? || has_log(rt, temporary)? {
         return Ok(());
     }
-    let new = open_beside(rt, beside)?;
-    if !is_ours(rt, beside, &new)? {
+    let new = open_temporary(rt, temporary)?;
+    if !is_ours(rt, temporary, &new)? {
         return Ok(());
     }
     lock(&new)?;
     // Whoever held the lock before may have named the file and used it.
-    if !is_ours(rt, beside, &new)? || !holds_front(&new)? {
+    if !is_ours(rt, temporary, &new)? || !holds_front(&new)? {
         return Ok(());
     }
-    let named = fill_and_name(rt, file, beside, &new);
-    fs::remove_file(rt, beside)?;
+    let named = fill_and_name(rt, file, temporary, &new);
+    fs::remove_file(rt, temporary)?;
     named
 }
 
 /// What has this name, a link itself; none where nothing has it.
-fn found_at(rt: &HostRuntime, name: &str) -> Result<Option<Metadata>, Unmade> {
+fn found_at(rt: &HostRuntime, name: &str) -> Result<Option<Metadata>, CreateError> {
     match fs::symlink_metadata(rt, name) {
         Ok(found) => Ok(Some(found)),
         Err(error) if error.kind() == ErrorKind::NotFound => Ok(None),
-        Err(_) => Err(Unmade::Refused),
+        Err(_) => Err(CreateError::Refused),
     }
 }
 
 /// Whether something has the name of a file's log.
-fn has_log(rt: &HostRuntime, file: &str) -> Result<bool, Unmade> {
+fn has_log(rt: &HostRuntime, file: &str) -> Result<bool, CreateError> {
     let log = format!(in rt.alloc(); "{file}-wal")?;
     Ok(found_at(rt, log.as_str())?.is_some())
 }
@@ -130,20 +130,23 @@ fn are_one(a: &Metadata, b: &Metadata) -> bool {
 }
 
 /// Takes away the first name of a file that has the second, where a stop left it both: it has a page then, and was never opened.
-fn end_naming(rt: &HostRuntime, beside: &str, named: Metadata) -> Result<(), Unmade> {
+fn end_naming(rt: &HostRuntime, temporary: &str, named: Metadata) -> Result<(), CreateError> {
     let is_new = named.len() == PAGE_SIZE as u64;
-    match found_at(rt, beside)? {
-        Some(found) if is_new && are_one(&found, &named) => Ok(fs::remove_file(rt, beside)?),
+    match found_at(rt, temporary)? {
+        Some(found) if is_new && are_one(&found, &named) => Ok(fs::remove_file(rt, temporary)?),
         _ => Ok(()),
     }
 }
 
 /// Opens the file of this name, which is a regular one, or makes it; no standard stream that was closed is taken for it.
-fn open_beside(rt: &HostRuntime, beside: &str) -> Result<File, Unmade> {
-    let opened = match found_at(rt, beside)? {
-        Some(found) if !found.is_file() => return Err(Unmade::Refused),
-        Some(_) => OpenOptions::new().read(true).write(true).open(rt, beside)?,
-        None => create_beside(rt, beside)?,
+fn open_temporary(rt: &HostRuntime, temporary: &str) -> Result<File, CreateError> {
+    let opened = match found_at(rt, temporary)? {
+        Some(found) if !found.is_file() => return Err(CreateError::Refused),
+        Some(_) => OpenOptions::new()
+            .read(true)
+            .write(true)
+            .open(rt, temporary)?,
+        None => create_temporary(rt, temporary)?,
     };
     if opened.as_raw_fd() > 2 {
         return Ok(opened);
@@ -152,42 +155,42 @@ fn open_beside(rt: &HostRuntime, beside: &str) -> Result<File, Unmade> {
 }
 
 /// Makes the file of this name, which nothing had. Where something has it now, another desk has begun to make it meanwhile.
-fn create_beside(rt: &HostRuntime, beside: &str) -> Result<File, Unmade> {
+fn create_temporary(rt: &HostRuntime, temporary: &str) -> Result<File, CreateError> {
     let created = OpenOptions::new()
         .read(true)
         .write(true)
         .create_new(true)
         .mode(0o644)
-        .open(rt, beside);
+        .open(rt, temporary);
     match created {
         Ok(created) => Ok(created),
-        Err(error) if error.kind() == ErrorKind::AlreadyExists => Err(Unmade::Busy),
-        Err(error) => Err(Unmade::from(error)),
+        Err(error) if error.kind() == ErrorKind::AlreadyExists => Err(CreateError::Busy),
+        Err(error) => Err(CreateError::from(error)),
     }
 }
 
 /// Whether the open file is the one of this name and of no other, and has a page at most.
-fn is_ours(rt: &HostRuntime, beside: &str, new: &File) -> Result<bool, Unmade> {
+fn is_ours(rt: &HostRuntime, temporary: &str, new: &File) -> Result<bool, CreateError> {
     let found = new.metadata()?;
     let is_small = found.is_file() && found.nlink() == 1 && found.len() <= PAGE_SIZE as u64;
-    Ok(is_small && found_at(rt, beside)?.is_some_and(|named| are_one(&found, &named)))
+    Ok(is_small && found_at(rt, temporary)?.is_some_and(|named| are_one(&found, &named)))
 }
 
 /// Locks the file as a store locks its own, until it is closed.
-fn lock(new: &File) -> Result<(), Unmade> {
+fn lock(new: &File) -> Result<(), CreateError> {
     // SQLite's pending, reserved and shared locks.
     if os::try_lock_range(new.as_raw_fd(), RangeLock::Exclusive, 1 << 30, 512) == 0 {
         return Ok(());
     }
     let error = io::Error::from_raw_os_error(os::errno());
     if error.kind() == ErrorKind::WouldBlock {
-        return Err(Unmade::Busy);
+        return Err(CreateError::Busy);
     }
-    Err(Unmade::Refused)
+    Err(CreateError::Refused)
 }
 
 /// Whether a file of a page at most holds what a stop within its making leaves.
-fn holds_front(new: &File) -> Result<bool, Unmade> {
+fn holds_front(new: &File) -> Result<bool, CreateError> {
     let mut found = [0; PAGE_SIZE];
     let count = new.metadata()?.len() as usize;
     if count > PAGE_SIZE {
@@ -198,9 +201,14 @@ fn holds_front(new: &File) -> Result<bool, Unmade> {
 }
 
 /// Writes the page to the file, and gives this its second name.
-fn fill_and_name(rt: &HostRuntime, file: &str, beside: &str, new: &File) -> Result<(), Unmade> {
+fn fill_and_name(
+    rt: &HostRuntime,
+    file: &str,
+    temporary: &str,
+    new: &File,
+) -> Result<(), CreateError> {
     write_page(new, &first_page())?;
-    Ok(fs::hard_link(rt, beside, file)?)
+    Ok(fs::hard_link(rt, temporary, file)?)
 }
 
 /// Writes the page, and syncs it.

@@ -15,7 +15,7 @@ enum Stage {
     Tables,
 }
 
-/// The text of a stage.
+/// What the terminal shows of a stage.
 fn stage_text(stage: Stage) -> &'static str
     ensures { result.now ≡ stage_text stage }
 {
@@ -42,15 +42,15 @@ fn is_long(seconds: u64) -> bool
 /// The opening of a file, whose progress a terminal shows: each stage that is begun where it is known to take long, or has taken
 /// long so far. Where standard error is no terminal nothing is written.
 #[derive(Clone, Copy)]
-pub(crate) struct Progress<'a> {
+pub(crate) struct OpeningProgress<'a> {
     rt: &'a HostRuntime,
     began: Option<Instant>,
 }
 
-impl<'a> Progress<'a> {
+impl<'a> OpeningProgress<'a> {
     /// An opening that begins now.
-    pub(crate) fn begin(rt: &'a HostRuntime, file: &str) -> Progress<'a> {
-        let progress = Progress {
+    pub(crate) fn begin(rt: &'a HostRuntime, file: &str) -> OpeningProgress<'a> {
+        let progress = OpeningProgress {
             rt,
             began: Instant::now(rt).ok(),
         };

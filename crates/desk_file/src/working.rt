@@ -8,7 +8,7 @@ ghost use Rattle.sql_queries.specs.{IsNewlyOpened};
 ghost use Rattle.desk_file.specs.Working.{in_memory, WasDone};
 
 use crate::new_file::make_missing;
-use crate::timing::Progress;
+use crate::timing::OpeningProgress;
 use sql_queries::{open_file, open_in_memory};
 use sqlite::{Alter, Connection, Error, ErrorCode, FileFrom, FileStore, MemStore, Start};
 use sqlite_trees::store::Store;
@@ -26,36 +26,36 @@ pub trait StoreWork {
     ghost use Rattle.sqlite.specs.Held.{state};
     ghost use Rattle.sqlite.specs.State.{State, HasCleanDisk};
 
-    /// What comes of it.
-    type Outcome: Copy;
+    /// What it gives back beside the store.
+    type WorkOutcome: Copy;
 
-    /// What came of the work over a store that showed the first state, and was given back in the second.
-    ghost gives: { Self → State → Self.Outcome → State → Type 0 };
+    /// The outcome of the work over a store that showed the first state, and was given back in the second.
+    ghost gives: { Self → State → Self.WorkOutcome → State → Type 0 };
 
     /// Does it over a store in no transaction, and gives the store back.
     fn work<S: Alter + Drop>(
         self,
         rt: &HostRuntime,
         connection: Connection<S>,
-    ) -> Worked<Self::Outcome, S>
+    ) -> Worked<Self::WorkOutcome, S>
         requires { (state S.Store connection).in_transaction ≡ false }
         ensures honest { HasCleanDisk (state S.Store result.connection) → HasCleanDisk (state S.Store connection) }
         ensures given { gives self (state S.Store connection) result.outcome (state S.Store result.connection) };
 }
 
-/// What came of work, and the store that it was done over.
+/// The outcome of work, and the store that it was done over.
 #[derive(Drop)]
 pub struct Worked<T: Copy, S: Alter> {
-    /// What came of it.
+    /// What the work gave back.
     pub outcome: T,
-    /// The store.
+    /// The store, still open.
     pub connection: Connection<S>,
 }
 
-/// What came of work whose store was closed after it, or couldn't be.
+/// The outcome of work whose store was closed after it, or couldn't be.
 #[derive(Clone, Copy)]
 pub struct Ended<T: Copy> {
-    /// What came of it.
+    /// What the work gave back.
     pub outcome: T,
     /// Whether the store could be closed. One in memory always can.
     pub is_closed: bool,
@@ -66,7 +66,7 @@ pub struct Ended<T: Copy> {
 pub struct OpenRefused<W> {
     /// Why the store didn't open.
     pub error: Error,
-    /// The work.
+    /// The work, which the caller may do otherwise or drop.
     pub work: W,
 }
 
@@ -89,7 +89,7 @@ pub fn work_over<W: StoreWork, S: Start>(
     is_wanted_new: bool,
     start: S,
     work: W,
-) -> Result<Ended<W::Outcome>, OpenRefused<W>>
+) -> Result<Ended<W::WorkOutcome>, OpenRefused<W>>
     ensures memory { file.now ≡ in_memory → IfOk result (λ ended.
         WasDone over_memory (W.gives work) ended.outcome × (ended.is_closed ≡ true)) }
     ensures file { file.now ≢ in_memory → IfOk result (λ ended.
@@ -111,7 +111,7 @@ pub fn work_over<W: StoreWork, S: Start>(
     if let Err(error) = make_missing(rt, file) {
         return Err(OpenRefused { error, work });
     }
-    let progress = Progress::begin(rt, file);
+    let progress = OpeningProgress::begin(rt, file);
     match open_file(rt, file, start) {
         Ok(connection) => {
             progress.note_opened(file, is_slip);
@@ -138,7 +138,7 @@ fn work_in_memory<W: StoreWork>(
     rt: &HostRuntime,
     work: W,
     connection: Connection<MemStore>,
-) -> Ended<W::Outcome>
+) -> Ended<W::WorkOutcome>
     requires rests { (state over_memory connection).in_transaction ≡ false }
     requires newly { IsNewlyOpened (state over_memory connection) }
     ensures closed { result.is_closed ≡ true }
@@ -155,7 +155,7 @@ fn work_in_file<W: StoreWork, S: Start>(
     rt: &HostRuntime,
     work: W,
     connection: Connection<FileStore<FileFrom<S>>>,
-) -> Ended<W::Outcome>
+) -> Ended<W::WorkOutcome>
     requires rests { (file_state connection).in_transaction ≡ false }
     requires newly { HasCleanDisk (file_state connection) → IsNewlyOpened (file_state connection) }
     ensures { WasDone ⟦<FileStore<FileFrom<S>> as Store>⟧ (W.gives work) result.outcome }
@@ -167,7 +167,7 @@ fn work_in_file<W: StoreWork, S: Start>(
     behind_closing(outcome, connection.close())
 }
 
-/// What came of work whose file was closed so after it.
+/// The outcome of work after which the file was closed so.
 fn behind_closing<T: Copy>(outcome: T, closing: Result<(), Error>) -> Ended<T>
     ensures outcome { result.outcome ≡ outcome }
     ensures closed { result.is_closed ≡ is_ok closing }

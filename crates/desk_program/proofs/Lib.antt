@@ -1,5 +1,5 @@
 pub mod AdoptedState
-mod AskedKeeper
+mod ReadKeepsState
 mod ImportEnds
 mod OneLinePrinted
 mod FaultOrigins

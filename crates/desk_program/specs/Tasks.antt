@@ -1,4 +1,4 @@
--- What comes of a task over a store that was just opened.
+-- The outcome of a task over a store that was just opened.
 use Rattle.std.specs.Prelude.{ℕ, List, [], Bool, Option, Result}
 use Rattle.sqlite.specs.State as store
 use Rattle.plant_orders.specs.{ImportMetadata}
@@ -10,10 +10,10 @@ use Rattle.desk_cli.specs.{Task}
 use Rattle.desk_cli.specs.declared.meaning.Task.TheVariants as task
 use Rattle.desk_program.specs.AnswersWritten.{AskGives}
 use Rattle.desk_program.specs.ImportOutcomes.{ImportGives}
-use Rattle.desk_program.specs.Performs.{PrintsLine, IsReady, IsGoodLine}
+use Rattle.desk_program.specs.TaskOutput.{PrintsLine, IsReady, IsGoodLine}
 use Rattle.desk_program.specs.Reports.{ReportGives, ready_line, good_line}
 use Rattle.desk_program.specs.Runs.{RunGives}
-use Rattle.desk_program.specs.declared.fault.Fault.{Fault}
+use Rattle.desk_program.specs.declared.fault.ProgramFault.{ProgramFault}
 
 -- what `trace` and `record` ask
 abbrev pub trace_question : Direction → List ℕ → Question
@@ -26,9 +26,9 @@ record_question batch = question.Batch batch
 abbrev pub metadata_of_import : ℕ → List ℕ → Option (List ℕ) → ImportMetadata
 metadata_of_import at by reference = record { stamp = record { at = at; by = by; note = [] }; reference = reference }
 
--- What came of a task over a store, by the store as it was handed over and as it was given back, by what was read, and by
+-- The outcome of a task over a store, by the store as it was handed over and as it was given back, by what was read, and by
 -- what standard output held before and after it.
-abbrev pub TaskGives : store.State → store.State → Task → Option (List ℕ) → Option (List ℕ) → Option (List ℕ) → Option (List ℕ) → Result Bool Fault → Type 0
+abbrev pub TaskGives : store.State → store.State → Task → Option (List ℕ) → Option (List ℕ) → Option (List ℕ) → Option (List ℕ) → Result Bool ProgramFault → Type 0
 TaskGives before after task.Init unread left old new done = PrintsLine IsReady old new done × ReportGives ready_line before after old new done
 TaskGives before after task.Run unread left old new done = RunGives before after unread left old new done
 TaskGives before after (task.Import at by reference) unread left old new done = ImportGives before after (metadata_of_import at by reference) unread old new done

@@ -8,30 +8,30 @@ ghost use Rattle.plant_base.specs.{State};
 ghost use Rattle.desk_program.specs.Faults.{adopt_fault};
 ghost use Rattle.desk_program.specs.Runs.{AdoptedIfHonest, IsRefused, WasHonest};
 
-use crate::fault::Fault;
+use crate::fault::ProgramFault;
 use plant_desk_store::{AdoptRefused, Desk};
 use sqlite::{Alter, Connection};
 use std::alloc::Global;
 
-/// A store at which a subcommand stopped by a fault, for who opened it to close.
+/// The fault that ended a subcommand, and the store, which the caller has to close.
 #[derive(Drop)]
 pub struct TaskError<S: Alter> {
     /// Why the subcommand isn't done.
-    pub fault: Fault,
+    pub fault: ProgramFault,
     /// The store.
     pub connection: Connection<S>,
 }
 
-/// What came of a task over a store.
+/// The outcome of a task over a store.
 #[derive(Drop)]
 pub struct Performed<S: Alter> {
     /// Whether something was refused, or the fault.
-    pub outcome: Result<bool, Fault>,
-    /// The store, for who opened it to close.
+    pub outcome: Result<bool, ProgramFault>,
+    /// The store, which the caller has to close.
     pub connection: Connection<S>,
 }
 
-/// What came of a task that stopped at a fault.
+/// The outcome of a task that stopped at a fault.
 pub fn performed_of<S: Alter + Drop>(stopped: TaskError<S>) -> Performed<S>
     ensures outcome { result.outcome ≡ Err stopped.fault }
     ensures store { result.connection ≡ stopped.connection }
@@ -48,7 +48,7 @@ fn task_error<S: Alter + Drop>(refused: AdoptRefused<S>) -> TaskError<S>
     ensures store { result.connection ≡ refused.connection }
 {
     TaskError {
-        fault: Fault::from(refused.fault),
+        fault: ProgramFault::from(refused.fault),
         connection: refused.connection,
     }
 }
@@ -87,7 +87,7 @@ pub fn adopt<S: Alter + Drop>(
     ensures open { IfOk result (λ desk. desk.is_shut ≡ false) }
     ensures refused { IfErr result (λ stopped. IsRefused (state S.Store connection)
         (state S.Store stopped.connection) stopped.fault) }
-    ensures write_error { IfErr result (λ stopped. stopped.fault ≢ Fault.Write) }
+    ensures write_error { IfErr result (λ stopped. stopped.fault ≢ ProgramFault.Write) }
 {
     match Desk::adopt(alloc, connection) {
         Ok(desk) => Ok(with_indexes(desk)),

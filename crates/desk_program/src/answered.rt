@@ -15,7 +15,7 @@ ghost use Rattle.desk_program.specs.AnswersWritten.{AskedWritten, AskGives};
 ghost use Rattle.desk_program.specs.Runs.{WasHonest};
 
 use crate::adopting::{Performed, adopt, performed_of};
-use crate::fault::Fault;
+use crate::fault::ProgramFault;
 use plant_base::{DisplayItem, Joined};
 use plant_desk::Keeper;
 use plant_desk_store::Desk;
@@ -60,15 +60,19 @@ fn answer_lines(alloc: Global, answer: &Answer) -> Result<String, AllocError>
 }
 
 /// Prints an answer. `true` where it says that the id isn't known.
-fn print_answer<W: Write>(alloc: Global, writer: &mut W, answer: &Answer) -> Result<bool, Fault>
+fn print_answer<W: Write>(
+    alloc: Global,
+    writer: &mut W,
+    answer: &Answer,
+) -> Result<bool, ProgramFault>
     ensures { AnswerPrinted answer.now (W.contents writer.old) (W.contents writer.new) result }
 {
     match answer_lines(alloc, answer) {
         Ok(text) => match write_text(writer, text.as_bytes()) {
             Ok(()) => Ok(is_unknown(answer)),
-            Err(_) => Err(Fault::Write),
+            Err(_) => Err(ProgramFault::Write),
         },
-        Err(_) => Err(Fault::Memory),
+        Err(_) => Err(ProgramFault::Memory),
     }
 }
 
@@ -77,12 +81,12 @@ fn print_asked<W: Write>(
     alloc: Global,
     writer: &mut W,
     asked: Result<Answer, DeskFault>,
-) -> Result<bool, Fault>
+) -> Result<bool, ProgramFault>
     ensures { AskedWritten asked (W.contents writer.old) (W.contents writer.new) result }
 {
     match asked {
         Ok(answer) => print_answer(alloc, writer, &answer),
-        Err(fault) => Err(Fault::from(fault)),
+        Err(fault) => Err(ProgramFault::from(fault)),
     }
 }
 
@@ -95,7 +99,7 @@ pub fn write_answer<W: Write, K: Keeper>(
     writer: &mut W,
     keeper: &mut K,
     question: &Question,
-) -> Result<bool, Fault>
+) -> Result<bool, ProgramFault>
     requires { K.shut keeper.old ≡ false }
     ensures same { IsSameDesk K.honest K.schema K.foreign_tables keeper.old keeper.new }
     ensures open { K.shut keeper.new ≡ false }

@@ -11,7 +11,7 @@ use sqlite::{Error, ErrorCode};
 
 /// Why the program doesn't do its work.
 #[derive(Clone, Copy, Debug, PartialEq, Eq, thiserror::Error)]
-pub enum Fault {
+pub enum ProgramFault {
     /// The store failed.
     #[error("the store failed")]
     Store,
@@ -38,79 +38,79 @@ pub enum Fault {
     Net,
 }
 
-impl Fault {
+impl ProgramFault {
     /// The exit status: 4 for want of memory, else 3.
     pub fn status(self) -> u8
         ensures { result ≡ spec.status_of self }
     {
         match self {
-            Fault::Memory => 4,
+            ProgramFault::Memory => 4,
             _ => 3,
         }
     }
 }
 
-impl From<AdoptFault> for Fault {
+impl From<AdoptFault> for ProgramFault {
     ghost use Rattle.std.specs.Prelude.{◌≡◌};
     ghost use Rattle.desk_program.specs.Faults.{adopt_fault};
 
     ghost from_gives = { λ fault reported. reported ≡ adopt_fault fault };
 
-    fn from(fault: AdoptFault) -> Fault {
+    fn from(fault: AdoptFault) -> ProgramFault {
         match fault {
-            AdoptFault::Store => Fault::Store,
-            AdoptFault::Newer(schema) => Fault::Newer(schema),
-            AdoptFault::Damaged(rule) => Fault::Damaged(rule),
-            AdoptFault::Memory => Fault::Memory,
+            AdoptFault::Store => ProgramFault::Store,
+            AdoptFault::Newer(schema) => ProgramFault::Newer(schema),
+            AdoptFault::Damaged(rule) => ProgramFault::Damaged(rule),
+            AdoptFault::Memory => ProgramFault::Memory,
         }
     }
 }
 
-impl From<DeskFault> for Fault {
+impl From<DeskFault> for ProgramFault {
     ghost use Rattle.std.specs.Prelude.{◌≡◌};
     ghost use Rattle.desk_program.specs.Faults.{desk_fault};
 
     ghost from_gives = { λ fault reported. reported ≡ desk_fault fault };
 
-    fn from(fault: DeskFault) -> Fault {
+    fn from(fault: DeskFault) -> ProgramFault {
         match fault {
-            DeskFault::Store | DeskFault::Shut => Fault::Store,
-            DeskFault::Memory => Fault::Memory,
+            DeskFault::Store | DeskFault::Shut => ProgramFault::Store,
+            DeskFault::Memory => ProgramFault::Memory,
         }
     }
 }
 
 /// Whether a run refused something, or the fault that ended it.
-pub(crate) fn outcome_of(end: RunEnd) -> Result<bool, Fault>
+pub(crate) fn outcome_of(end: RunEnd) -> Result<bool, ProgramFault>
     ensures { result ≡ spec.outcome_of end }
 {
     match end {
         RunEnd::Done { refused } => Ok(refused),
-        RunEnd::Read => Err(Fault::Read),
-        RunEnd::Write => Err(Fault::Write),
-        RunEnd::Endless => Err(Fault::Endless),
-        RunEnd::Fault(fault) => Err(Fault::from(fault)),
+        RunEnd::Read => Err(ProgramFault::Read),
+        RunEnd::Write => Err(ProgramFault::Write),
+        RunEnd::Endless => Err(ProgramFault::Endless),
+        RunEnd::Fault(fault) => Err(ProgramFault::from(fault)),
     }
 }
 
 /// Whether a command was refused, or the fault that stopped its reply.
-pub(crate) fn outcome_of_turn(turn: Result<bool, TurnError>) -> Result<bool, Fault>
+pub(crate) fn outcome_of_turn(turn: Result<bool, TurnError>) -> Result<bool, ProgramFault>
     ensures { result ≡ spec.outcome_of_turn turn }
 {
     match turn {
         Ok(refused) => Ok(refused),
-        Err(TurnError::Write) => Err(Fault::Write),
-        Err(TurnError::Fault(fault)) => Err(Fault::from(fault)),
+        Err(TurnError::Write) => Err(ProgramFault::Write),
+        Err(TurnError::Fault(fault)) => Err(ProgramFault::from(fault)),
     }
 }
 
 /// The fault of a store that doesn't open.
-pub(crate) fn opening_fault(error: &Error) -> Fault
-    ensures memory { error.now ≡ Error.SqliteFailure ErrorCode.OutOfMemory → result ≡ Fault.Memory }
-    ensures store { error.now ≢ Error.SqliteFailure ErrorCode.OutOfMemory → result ≡ Fault.Store }
+pub(crate) fn opening_fault(error: &Error) -> ProgramFault
+    ensures memory { error.now ≡ Error.SqliteFailure ErrorCode.OutOfMemory → result ≡ ProgramFault.Memory }
+    ensures store { error.now ≢ Error.SqliteFailure ErrorCode.OutOfMemory → result ≡ ProgramFault.Store }
 {
     match error {
-        Error::SqliteFailure(ErrorCode::OutOfMemory) => Fault::Memory,
-        _ => Fault::Store,
+        Error::SqliteFailure(ErrorCode::OutOfMemory) => ProgramFault::Memory,
+        _ => ProgramFault::Store,
     }
 }

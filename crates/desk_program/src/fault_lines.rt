@@ -1,9 +1,9 @@
 //! How the program reports why it ends.
 ghost use Rattle.std.specs.Prelude.{◌≡◌, ◌≢◌};
 ghost use Rattle.sqlite.specs.declared.error.ErrorCode.TheVariants as code;
-ghost use Rattle.desk_program.specs.Performs.{WritesFault, WritesWordsFault};
+ghost use Rattle.desk_program.specs.TaskOutput.{WritesFault, WritesWordsFault};
 
-use crate::fault::{Fault, opening_fault};
+use crate::fault::{ProgramFault, opening_fault};
 use crate::lines::fault_line;
 use desk_cli::WordsFault;
 use plant_text::{write_line, write_text};
@@ -14,7 +14,7 @@ use std::io::Write;
 const USAGE: u8 = 2;
 
 /// Writes a fault's line to standard error. Gives its exit status, whether or not the line could be written.
-pub(crate) fn write_fault<E: Write>(fault: Fault, errors: &mut E) -> u8
+pub(crate) fn write_fault<E: Write>(fault: ProgramFault, errors: &mut E) -> u8
     ensures { WritesFault fault (E.contents errors.old) (E.contents errors.new) result }
 {
     let _ = write_line(errors, fault_line(fault).as_bytes());
@@ -37,13 +37,13 @@ pub fn write_words_fault<W: Write, E: Write>(
     match fault {
         WordsFault::Help(text) => match write_text(writer, text.as_bytes()) {
             Ok(()) => 0,
-            Err(_) => write_fault(Fault::Write, errors),
+            Err(_) => write_fault(ProgramFault::Write, errors),
         },
         WordsFault::Usage(text) => {
             let _ = write_text(errors, text.as_bytes());
             USAGE
         }
-        WordsFault::Memory => write_fault(Fault::Memory, errors),
+        WordsFault::Memory => write_fault(ProgramFault::Memory, errors),
     }
 }
 
@@ -51,9 +51,9 @@ pub fn write_words_fault<W: Write, E: Write>(
 /// `fault: store` and 3 for every other error of the store.
 pub fn write_opening<E: Write>(error: &Error, errors: &mut E) -> u8
     ensures memory { error.now ≡ Error.SqliteFailure code.OutOfMemory
-        → WritesFault Fault.Memory (E.contents errors.old) (E.contents errors.new) result }
+        → WritesFault ProgramFault.Memory (E.contents errors.old) (E.contents errors.new) result }
     ensures store { error.now ≢ Error.SqliteFailure code.OutOfMemory
-        → WritesFault Fault.Store (E.contents errors.old) (E.contents errors.new) result }
+        → WritesFault ProgramFault.Store (E.contents errors.old) (E.contents errors.new) result }
 {
     write_fault(opening_fault(error), errors)
 }

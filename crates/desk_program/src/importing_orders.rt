@@ -14,7 +14,7 @@ ghost use Rattle.desk_program.specs.ImportOutcomes.{NoOrdersWritten, OrdersTaken
 ghost use Rattle.desk_program.specs.Runs.{WasHonest};
 
 use crate::adopting::{Performed, adopt, performed_of};
-use crate::fault::{Fault, outcome_of_turn};
+use crate::fault::{ProgramFault, outcome_of_turn};
 use crate::lines::csv_line;
 use plant_base::{Items, OrderRow};
 use plant_desk::Keeper;
@@ -27,29 +27,29 @@ use std::alloc::Global;
 use std::io::{Read, Write};
 
 /// Prints want of memory, as a run does.
-fn write_no_memory<W: Write>(writer: &mut W) -> Result<bool, Fault>
+fn write_no_memory<W: Write>(writer: &mut W) -> Result<bool, ProgramFault>
     ensures { MemoryFaultWritten (W.contents writer.old) (W.contents writer.new) result }
 {
     outcome_of_turn(Err(write_fault(writer, DeskFault::Memory)))
 }
 
 /// Prints the first fault of an order file, which is a refusal. It takes no memory, so that no want of it is reported instead.
-fn write_csv_fault<W: Write>(writer: &mut W, fault: CsvFault) -> Result<bool, Fault>
+fn write_csv_fault<W: Write>(writer: &mut W, fault: CsvFault) -> Result<bool, ProgramFault>
     ensures { CsvFaultWritten fault (W.contents writer.old) (W.contents writer.new) result }
 {
     match write_line(writer, csv_line(fault).as_bytes()) {
         Ok(()) => Ok(true),
-        Err(_) => Err(Fault::Write),
+        Err(_) => Err(ProgramFault::Write),
     }
 }
 
 /// Prints why a reader gave no orders.
-fn write_no_orders<W: Write>(writer: &mut W, fault: OrdersFault) -> Result<bool, Fault>
+fn write_no_orders<W: Write>(writer: &mut W, fault: OrdersFault) -> Result<bool, ProgramFault>
     ensures { NoOrdersWritten fault (W.contents writer.old) (W.contents writer.new) result }
 {
     match fault {
         OrdersFault::Csv(fault) => write_csv_fault(writer, fault),
-        OrdersFault::Read => Err(Fault::Read),
+        OrdersFault::Read => Err(ProgramFault::Read),
         OrdersFault::Memory => write_no_memory(writer),
     }
 }
@@ -61,7 +61,7 @@ fn take_orders<W: Write, K: Keeper>(
     keeper: &mut K,
     import_metadata: ImportMetadata,
     given: Result<Items<OrderRow>, OrdersFault>,
-) -> Result<bool, Fault>
+) -> Result<bool, ProgramFault>
     requires { K.shut keeper.old ≡ false }
     ensures same { IsSameDesk K.honest K.schema K.foreign_tables keeper.old keeper.new }
     ensures taken { K.honest keeper.new → (s : State) → K.represents keeper.old s
@@ -94,7 +94,7 @@ pub fn take_file<R: Read, W: Write, K: Keeper>(
     writer: &mut W,
     keeper: &mut K,
     import_metadata: ImportMetadata,
-) -> Result<bool, Fault>
+) -> Result<bool, ProgramFault>
     requires { K.shut keeper.old ≡ false }
     ensures same { IsSameDesk K.honest K.schema K.foreign_tables keeper.old keeper.new }
     ensures taken { K.honest keeper.new → (s : State) → K.represents keeper.old s

@@ -16,7 +16,7 @@ mod verification;
 
 pub use adopting::{Performed, TaskError, adopt, performed_of};
 pub use answered::write_answer;
-pub use fault::Fault;
+pub use fault::ProgramFault;
 pub use fault_lines::{write_opening, write_words_fault};
 pub use importing_orders::take_file;
 pub use performing::{after_closing, perform, perform_task, write_outcome};

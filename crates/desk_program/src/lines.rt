@@ -3,7 +3,7 @@ ghost use Rattle.std.specs.Prelude.{◌≡◌, ◌+◌, ◌≤◌, ◌++◌, len
 ghost use Rattle.plant_orders.specs.{csv_text};
 ghost use Rattle.desk_program.specs.Texts as spec;
 
-use crate::fault::Fault;
+use crate::fault::ProgramFault;
 use arrayvec::ArrayString;
 use itoa::Buffer;
 use plant_orders::CsvFault;
@@ -43,7 +43,7 @@ pub(crate) fn good_line(schema: u64, seq: u64) -> ShortLine
     line
 }
 
-/// A word and a number.
+/// A line of a text of at most 20 bytes and a number after it.
 fn word_and_number(word: &str, number: u64) -> ShortLine
     requires { length word.now ≤ 20 }
     ensures text { result.bytes ≡ word.now ++ decimal number }
@@ -66,7 +66,7 @@ pub(crate) fn csv_line(fault: CsvFault) -> ShortLine
     line
 }
 
-/// One word.
+/// A line of one word.
 fn one_word(word: &str) -> ShortLine
     requires { length word.now ≤ 20 }
     ensures { result.bytes ≡ word.now }
@@ -78,24 +78,24 @@ fn one_word(word: &str) -> ShortLine
 
 /// What comes after `fault: `.
 #[tactic(auto, unfolding(crate::specs::Texts::fault_name))]
-pub(crate) fn fault_name(fault: Fault) -> ShortLine
+pub(crate) fn fault_name(fault: ProgramFault) -> ShortLine
     ensures text { result.bytes ≡ spec.fault_name fault }
     ensures short { length result.bytes ≤ 40 }
 {
     match fault {
-        Fault::Store => one_word("store"),
-        Fault::Newer(schema) => word_and_number("newer ", schema),
-        Fault::Damaged(rule) => word_and_number("damaged G", u64::from(rule.number())),
-        Fault::Memory => one_word("memory"),
-        Fault::Read => one_word("read"),
-        Fault::Write => one_word("write"),
-        Fault::Endless => one_word("endless"),
-        Fault::Net => one_word("net"),
+        ProgramFault::Store => one_word("store"),
+        ProgramFault::Newer(schema) => word_and_number("newer ", schema),
+        ProgramFault::Damaged(rule) => word_and_number("damaged G", u64::from(rule.number())),
+        ProgramFault::Memory => one_word("memory"),
+        ProgramFault::Read => one_word("read"),
+        ProgramFault::Write => one_word("write"),
+        ProgramFault::Endless => one_word("endless"),
+        ProgramFault::Net => one_word("net"),
     }
 }
 
 /// `fault: ` and the fault's word.
-pub(crate) fn fault_line(fault: Fault) -> ShortLine
+pub(crate) fn fault_line(fault: ProgramFault) -> ShortLine
     ensures { result.bytes ≡ spec.fault_text fault }
 {
     let mut line = ArrayString::new();

@@ -3,16 +3,16 @@ ghost use Rattle.std.specs.Prelude.{◌≡◌, false, Bool, Result};
 ghost use Rattle.sqlite.specs.Held.{Held, state};
 ghost use Rattle.desk_program.specs.AnswersWritten.{AskGives};
 ghost use Rattle.desk_program.specs.ImportOutcomes.{ImportGives};
-ghost use Rattle.desk_program.specs.Performs.{Exits, IsGoodLine, IsReady, PrintsLine};
-ghost use Rattle.desk_program.specs.Performs.{after_closing};
+ghost use Rattle.desk_program.specs.TaskOutput.{Exits, IsGoodLine, IsReady, PrintsLine};
+ghost use Rattle.desk_program.specs.TaskOutput.{after_closing};
 ghost use Rattle.desk_program.specs.Reports.{ReportGives, good_line, ready_line};
 ghost use Rattle.desk_program.specs.Runs.{RunGives, WasHonest};
 ghost use Rattle.desk_program.specs.Tasks.{TaskGives, metadata_of_import};
-ghost use Rattle.desk_program.specs.declared.fault.Fault.{Fault};
+ghost use Rattle.desk_program.specs.declared.fault.ProgramFault.{ProgramFault};
 
 use crate::adopting::{Performed, performed_of};
 use crate::answered::ask_store;
-use crate::fault::{Fault, outcome_of};
+use crate::fault::{ProgramFault, outcome_of};
 use crate::fault_lines::write_fault;
 use crate::importing_orders::import_store;
 use crate::ready::init;
@@ -141,7 +141,7 @@ fn perform_question<S: Alter + Drop, W: Write>(
 
 /// Does a task over a store that was just opened, and gives it back to be closed.
 ///
-/// The clause says what came of the task by the store that is given back, where that has kept its specification until
+/// The clause says the outcome of the task by the store that is given back, where that has kept its specification until
 /// then: of a run what [`run`] does, of an import what [`take_file`] does, of a trace and a record what [`write_answer`]
 /// does, and of the other subcommands what [`init`] and [`verify`] do. Where the store wasn't adopted, it says so in any
 /// case, with the fault's cause.
@@ -177,23 +177,24 @@ pub fn perform_task<S: Alter + Drop, R: Read, W: Write>(
     }
 }
 
-/// What came of a task whose store was closed after it, or couldn't be: a close that fails is a fault of the store, unless
+/// The outcome of a task whose store was closed after it, or couldn't be: a close that fails is a fault of the store, unless
 /// another fault came before it.
-pub fn after_closing(outcome: Result<bool, Fault>, is_closed: bool) -> Result<bool, Fault>
+pub fn after_closing(
+    outcome: Result<bool, ProgramFault>,
+    is_closed: bool,
+) -> Result<bool, ProgramFault>
     ensures { result ≡ after_closing outcome is_closed }
 {
     if is_closed {
         return outcome;
     }
-    match outcome {
-        Ok(_) => Err(Fault::Store),
-        Err(fault) => Err(fault),
-    }
+    outcome?;
+    Err(ProgramFault::Store)
 }
 
 /// Prints how a task ended, and gives the exit status: 0; 1 where something was refused; 3 or 4 at a fault, whose line is
 /// then the one line on standard error.
-pub fn write_outcome<E: Write>(outcome: Result<bool, Fault>, errors: &mut E) -> u8
+pub fn write_outcome<E: Write>(outcome: Result<bool, ProgramFault>, errors: &mut E) -> u8
     ensures { Exits (E.contents errors.old) (E.contents errors.new) result outcome }
 {
     match outcome {
@@ -214,7 +215,7 @@ pub fn perform<S: Alter + Drop, R: Read, W: Write, E: Write>(
     errors: &mut E,
 ) -> u8
     requires { (state S.Store connection).in_transaction ≡ false }
-    ensures { (outcome : Result Bool Fault) × Exits (E.contents errors.old)
+    ensures { (outcome : Result Bool ProgramFault) × Exits (E.contents errors.old)
         (E.contents errors.new) result outcome
         × ((after : Held S) × TaskGives (state S.Store connection) (state S.Store after) task.now
         (R.remaining reader.old) (R.remaining reader.new)

@@ -9,12 +9,12 @@ ghost use Rattle.plant_desk_store.specs.{IsNewlyOpened, IsDurablyAt};
 ghost use Rattle.plant_text.specs.{with_lf};
 ghost use Rattle.desk_program.specs.Texts.{ready_text};
 ghost use Rattle.desk_program.specs.Faults.{IsPrintFault};
-ghost use Rattle.desk_program.specs.Performs.{IsReady, Printed, Unprinted};
+ghost use Rattle.desk_program.specs.TaskOutput.{IsReady, Printed, Unprinted};
 ghost use Rattle.desk_program.specs.Reports.{LineStops, ReportStops, ready_line};
 ghost use Rattle.desk_program.specs.Runs.{AdoptedIfHonest, WasHonest};
 
 use crate::adopting::{TaskError, adopt};
-use crate::fault::Fault;
+use crate::fault::ProgramFault;
 use crate::lines::ready_line;
 use crate::printing::print_line;
 use crate::summary::ask_summary;
@@ -25,7 +25,7 @@ use std::alloc::Global;
 use std::io::Write;
 
 /// Prints `ready schema N`, N being the schema of the keeper's tables.
-fn write_ready<W: Write, K: Keeper>(writer: &mut W, keeper: &mut K) -> Result<(), Fault>
+fn write_ready<W: Write, K: Keeper>(writer: &mut W, keeper: &mut K) -> Result<(), ProgramFault>
     requires { K.shut keeper.old ≡ false }
     ensures same { IsSameDesk K.honest K.schema K.foreign_tables keeper.old keeper.new }
     ensures open { K.shut keeper.new ≡ false }

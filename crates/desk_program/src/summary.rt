@@ -5,7 +5,7 @@ ghost use Rattle.plant_base.specs.{State};
 ghost use Rattle.plant_desk.specs.{IsSameDesk};
 ghost use Rattle.desk_program.specs.Faults as spec;
 
-use crate::fault::Fault;
+use crate::fault::ProgramFault;
 use plant_desk::Keeper;
 use plant_questions::{Answer, DeskFault, Question};
 
@@ -17,21 +17,21 @@ pub(crate) struct DeskSummary {
 }
 
 /// The summary of a keeper by what it answered, or its fault.
-fn summary_of(asked: Result<Answer, DeskFault>) -> Result<DeskSummary, Fault>
+fn summary_of(asked: Result<Answer, DeskFault>) -> Result<DeskSummary, ProgramFault>
     ensures is { result ≡ spec.summary_of asked }
     ensures fault { IfErr result IsPrintFault }
-    ensures write_error { IfErr result (λ fault. fault ≢ Fault.Write) }
+    ensures write_error { IfErr result (λ fault. fault ≢ ProgramFault.Write) }
 {
     match asked {
         Ok(Answer::Desk { schema, seq }) => Ok(DeskSummary { schema, seq }),
         // No keeper that keeps its contract answers anything else.
-        Ok(_) => Err(Fault::Store),
-        Err(fault) => Err(Fault::from(fault)),
+        Ok(_) => Err(ProgramFault::Store),
+        Err(fault) => Err(ProgramFault::from(fault)),
     }
 }
 
 /// Asks an open keeper for its summary. It stays open, in the same state.
-pub(crate) fn ask_summary<K: Keeper>(keeper: &mut K) -> Result<DeskSummary, Fault>
+pub(crate) fn ask_summary<K: Keeper>(keeper: &mut K) -> Result<DeskSummary, ProgramFault>
     requires { K.shut keeper.old ≡ false }
     ensures same { IsSameDesk K.honest K.schema K.foreign_tables keeper.old keeper.new }
     ensures open { K.shut keeper.new ≡ false }
@@ -39,7 +39,7 @@ pub(crate) fn ask_summary<K: Keeper>(keeper: &mut K) -> Result<DeskSummary, Faul
     ensures asked { K.honest keeper.new → (s : State) → K.represents keeper.old s
         → IfOk result (λ at. (at.schema ≡ K.schema keeper.old) × (at.seq ≡ s.seq)) }
     ensures fault { IfErr result IsPrintFault }
-    ensures write_error { IfErr result (λ fault. fault ≢ Fault.Write) }
+    ensures write_error { IfErr result (λ fault. fault ≢ ProgramFault.Write) }
 {
     summary_of(keeper.ask(&Question::Desk))
 }

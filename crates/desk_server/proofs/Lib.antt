@@ -1,2 +1,2 @@
 pub mod ServedRequests
-mod MarkedWaiters
+mod MarkedConnections

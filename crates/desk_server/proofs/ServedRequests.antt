@@ -1,8 +1,9 @@
--- From what came of one request to what came of many.
+-- From one served request to many.
 use Rattle.std.proofs.Common.{◌≡◌, ℕ, ◌+◌, ◌-◌, ◌≤◌, Bool, true, false, List, [], ◌∷◌, ◌++◌, length, Option, Result, Ok, Err, refl, inl, inr, arith, length-append}
 use Rattle.sqlite.specs.Held.{state}
 use Rattle.sqlite_trees.specs.declared.store.Store.{Ghosts}
 use Rattle.plant_desk_store.specs.{Represents, HasCrashStates, Desk}
+use Rattle.httpdate.specs.declared.date.HttpDate.{HttpDate}
 use Rattle.plant_base.specs.{State}
 use Rattle.plant_desk.specs.{States}
 use Rattle.plant_desk.proofs.SameDesk.{same_after}
@@ -10,7 +11,7 @@ use Rattle.plant_questions.specs.{DeskFault}
 use Rattle.plant_questions.specs.declared.reply.DeskFault.TheVariants.{Store, Memory, Shut}
 use Rattle.plant_text.specs.{RepresentsDurably, Entry, nothing, bad, command, question, check, after, fold, CrashStatesOfFault, CrashStatesOfStoreFault}
 use Rattle.plant_text.proofs.RunCrashStates.{CrashStateIsOwn}
-use Rattle.plant_http_requests.specs.{Profile}
+use Rattle.plant_http_requests.specs.{Terms}
 use Rattle.plant_http.specs.{Out, entry_of, Performs, Serves, ServeFault, Served}
 use Rattle.plant_http.specs.declared.serve.Served.TheVariants.{Answered, Nothing}
 use Rattle.plant_http.specs.declared.serve.ServeFault.TheVariants as end
@@ -18,100 +19,100 @@ use Rattle.desk_server.specs.{Asked, entries, HasServed, ServesAtMost, IsSameSto
 
 -- ---- one connection
 
-pub open_served : (profile : Profile) (most : ℕ) (s : State) (represents : States) (shut : Bool) (crash_states : States → Type 0) (jobs : List (Asked profile)) → shut ≡ false → length jobs ≤ most
-    → RepresentsDurably represents crash_states (fold s (entries jobs)) → HasServed profile most s represents shut crash_states
-open_served profile most s represents false crash_states jobs is_live few alone = (jobs, few, alone)
-open_served profile most s represents true crash_states jobs is_live few alone = absurd (cc)
+pub open_served : (terms : Terms) (most : ℕ) (s : State) (represents : States) (shut : Bool) (crash_states : States → Type 0) (tasks : List (Asked terms)) → shut ≡ false → length tasks ≤ most
+    → RepresentsDurably represents crash_states (fold s (entries tasks)) → HasServed terms most s represents shut crash_states
+open_served terms most s represents false crash_states tasks is_live few alone = (tasks, few, alone)
+open_served terms most s represents true crash_states tasks is_live few alone = absurd (cc)
 
--- a fault of the store at a job that was this to the keeper
-store_served : (profile : Profile) (s : State) (a : Asked profile) (e : Entry) → entry_of a.job ≡ e → (represents : States) (shut : Bool) (crash_states : States → Type 0) → CrashStateIsOwn represents shut crash_states
-    → represents s → CrashStatesOfStoreFault s e shut crash_states → HasServed profile 1 s represents shut crash_states
-store_served profile s a nothing is represents shut crash_states law same left = absurd left
-store_served profile s a bad is represents shut crash_states law same left = absurd left
-store_served profile s a (command c) is represents true crash_states law same (closed, either) = ([], a, omega arith, (same, rw is either))
-store_served profile s a (command c) is represents false crash_states law same (closed, either) = absurd (cc)
-store_served profile s a (question q) is represents shut crash_states law same is_live = open_served profile 1 s represents shut crash_states [] is_live (omega arith) (same, law is_live s same)
-store_served profile s a (check c) is represents shut crash_states law same (is_command, is_live) = open_served profile 1 s represents shut crash_states [] is_live (omega arith) (same, law is_live s same)
+-- a fault of the store at a task that was this to the keeper
+store_served : (terms : Terms) (s : State) (a : Asked terms) (e : Entry) → entry_of a.task ≡ e → (represents : States) (shut : Bool) (crash_states : States → Type 0) → CrashStateIsOwn represents shut crash_states
+    → represents s → CrashStatesOfStoreFault s e shut crash_states → HasServed terms 1 s represents shut crash_states
+store_served terms s a nothing is represents shut crash_states law same left = absurd left
+store_served terms s a bad is represents shut crash_states law same left = absurd left
+store_served terms s a (command c) is represents true crash_states law same (closed, either) = ([], a, omega arith, (same, rw is either))
+store_served terms s a (command c) is represents false crash_states law same (closed, either) = absurd (cc)
+store_served terms s a (question q) is represents shut crash_states law same is_live = open_served terms 1 s represents shut crash_states [] is_live (omega arith) (same, law is_live s same)
+store_served terms s a (check c) is represents shut crash_states law same (is_command, is_live) = open_served terms 1 s represents shut crash_states [] is_live (omega arith) (same, law is_live s same)
 
-fault_served : (profile : Profile) (f : DeskFault) (s : State) (a : Asked profile) (represents : States) (shut : Bool) (crash_states : States → Type 0) → CrashStateIsOwn represents shut crash_states
-    → CrashStatesOfFault f s (entry_of a.job) represents shut crash_states → HasServed profile 1 s represents shut crash_states
-fault_served profile Store s a represents shut crash_states law (same, left) = store_served profile s a (entry_of a.job) refl represents shut crash_states law same left
-fault_served profile Memory s a represents shut crash_states law (same, is_live) = open_served profile 1 s represents shut crash_states [] is_live (omega arith) (same, law is_live s same)
-fault_served profile Shut s a represents shut crash_states law left = absurd left
+fault_served : (terms : Terms) (f : DeskFault) (s : State) (a : Asked terms) (represents : States) (shut : Bool) (crash_states : States → Type 0) → CrashStateIsOwn represents shut crash_states
+    → CrashStatesOfFault f s (entry_of a.task) represents shut crash_states → HasServed terms 1 s represents shut crash_states
+fault_served terms Store s a represents shut crash_states law (same, left) = store_served terms s a (entry_of a.task) refl represents shut crash_states law same left
+fault_served terms Memory s a represents shut crash_states law (same, is_live) = open_served terms 1 s represents shut crash_states [] is_live (omega arith) (same, law is_live s same)
+fault_served terms Shut s a represents shut crash_states law left = absurd left
 
-job_served : (profile : Profile) (k : ℕ) (s : State) (a : Asked profile) (out : Out) (represents : States) (shut : Bool) (crash_states : States → Type 0) → CrashStateIsOwn represents shut crash_states
-    → Performs k s a.job out represents shut crash_states → HasServed profile 1 s represents shut crash_states
-job_served profile k s a out represents shut crash_states law (inl (is, alone, is_live)) = open_served profile 1 s represents shut crash_states (a ∷ []) is_live (omega arith) alone
-job_served profile k s a out represents shut crash_states law (inr (f, may, is, left, at_fault)) = fault_served profile f s a represents shut crash_states law left
+task_served : (terms : Terms) (k : ℕ) (s : State) (a : Asked terms) (out : Out) (represents : States) (shut : Bool) (crash_states : States → Type 0) → CrashStateIsOwn represents shut crash_states
+    → Performs k s a.task out represents shut crash_states → HasServed terms 1 s represents shut crash_states
+task_served terms k s a out represents shut crash_states law (inl (is, alone, is_live)) = open_served terms 1 s represents shut crash_states (a ∷ []) is_live (omega arith) alone
+task_served terms k s a out represents shut crash_states law (inr (f, may, is, left, at_fault)) = fault_served terms f s a represents shut crash_states law left
 
-pub one_served : (profile : Profile) (k : ℕ) (s : State) (whole : List ℕ) (old new : Option (List ℕ)) (represents : States) (shut : Bool) (crash_states : States → Type 0) (r : Result Served ServeFault)
-    → CrashStateIsOwn represents shut crash_states → Serves profile k s whole old new represents shut crash_states r → HasServed profile 1 s represents shut crash_states
-one_served profile k s whole old new represents shut crash_states (Ok Nothing) law (none, h) = open_served profile 1 s represents shut crash_states [] h.is_live (omega arith) h.state
-one_served profile k s whole old new represents shut crash_states (Ok (Answered code)) law (job, asks, out, did, wrote) =
-    job_served profile k s (record { input = whole; job = job; asks = asks }) out represents shut crash_states law did
-one_served profile k s whole old new represents shut crash_states (Err end.Write) law (job, asks, out, did, wrote) =
-    job_served profile k s (record { input = whole; job = job; asks = asks }) out represents shut crash_states law did
-one_served profile k s whole old new represents shut crash_states (Err end.Read) law h = open_served profile 1 s represents shut crash_states [] h.is_live (omega arith) h.state
-one_served profile k s whole old new represents shut crash_states (Err end.Endless) law (h, many) = open_served profile 1 s represents shut crash_states [] h.is_live (omega arith) h.state
-one_served profile k s whole old new represents shut crash_states (Err end.Memory) law h = open_served profile 1 s represents shut crash_states [] h.is_live (omega arith) h.state
+pub one_served : (terms : Terms) (now : Option HttpDate) (k : ℕ) (s : State) (whole : List ℕ) (old new : Option (List ℕ)) (represents : States) (shut : Bool) (crash_states : States → Type 0) (r : Result Served ServeFault)
+    → CrashStateIsOwn represents shut crash_states → Serves (record terms { now = now }) k s whole old new represents shut crash_states r → HasServed terms 1 s represents shut crash_states
+one_served terms now k s whole old new represents shut crash_states (Ok Nothing) law (none, h) = open_served terms 1 s represents shut crash_states [] h.is_live (omega arith) h.state
+one_served terms now k s whole old new represents shut crash_states (Ok (Answered code)) law (task, asks, out, did, wrote) =
+    task_served terms k s (record { now = now; input = whole; task = task; asks = asks }) out represents shut crash_states law did
+one_served terms now k s whole old new represents shut crash_states (Err end.Write) law (task, asks, out, did, wrote) =
+    task_served terms k s (record { now = now; input = whole; task = task; asks = asks }) out represents shut crash_states law did
+one_served terms now k s whole old new represents shut crash_states (Err end.Read) law h = open_served terms 1 s represents shut crash_states [] h.is_live (omega arith) h.state
+one_served terms now k s whole old new represents shut crash_states (Err end.Endless) law (h, many) = open_served terms 1 s represents shut crash_states [] h.is_live (omega arith) h.state
+one_served terms now k s whole old new represents shut crash_states (Err end.Memory) law h = open_served terms 1 s represents shut crash_states [] h.is_live (omega arith) h.state
 
 -- ---- one connection more
 
-fold_more : (profile : Profile) (jobs : List (Asked profile)) (s : State) (more : List (Asked profile)) → fold s (entries (jobs ++ more)) ≡ fold (fold s (entries jobs)) (entries more)
-fold_more profile [] s more = refl
-fold_more profile (a ∷ jobs) s more = fold_more profile jobs (after s (entry_of a.job)) more
+fold_more : (terms : Terms) (tasks : List (Asked terms)) (s : State) (more : List (Asked terms)) → fold s (entries (tasks ++ more)) ≡ fold (fold s (entries tasks)) (entries more)
+fold_more terms [] s more = refl
+fold_more terms (a ∷ tasks) s more = fold_more terms tasks (after s (entry_of a.task)) more
 
-pub more_served : (profile : Profile) (made n most : ℕ) (s : State) (jobs : List (Asked profile)) (represents : States) (shut : Bool) (crash_states : States → Type 0) → length jobs ≤ made → made + n ≤ most
-    → HasServed profile n (fold s (entries jobs)) represents shut crash_states → HasServed profile most s represents shut crash_states
-more_served profile made n most s jobs represents false crash_states few room (more, one, alone) =
-    (jobs ++ more, omega (arith, few, room, one, length-append jobs more), rw (fold_more profile jobs s more) alone)
-more_served profile made n most s jobs represents true crash_states few room (more, last, one, either) =
-    (jobs ++ more, last, omega (arith, few, room, one, length-append jobs more), rw (fold_more profile jobs s more) either)
+pub more_served : (terms : Terms) (made n most : ℕ) (s : State) (tasks : List (Asked terms)) (represents : States) (shut : Bool) (crash_states : States → Type 0) → length tasks ≤ made → made + n ≤ most
+    → HasServed terms n (fold s (entries tasks)) represents shut crash_states → HasServed terms most s represents shut crash_states
+more_served terms made n most s tasks represents false crash_states few room (more, one, alone) =
+    (tasks ++ more, omega (arith, few, room, one, length-append tasks more), rw (fold_more terms tasks s more) alone)
+more_served terms made n most s tasks represents true crash_states few room (more, last, one, either) =
+    (tasks ++ more, last, omega (arith, few, room, one, length-append tasks more), rw (fold_more terms tasks s more) either)
 
 -- so many and so many more, by a keeper that was open in between
-pub then_served : (profile : Profile) (made n most : ℕ) (s : State) (represents now : States) (before shut : Bool) (crash_states left : States → Type 0) → before ≡ false → made + n ≤ most
-    → HasServed profile made s represents before crash_states → ((t : State) → represents t → HasServed profile n t now shut left) → HasServed profile most s now shut left
-then_served profile made n most s represents now false shut crash_states left is_live room (jobs, few, alone) one =
-    more_served profile made n most s jobs now shut left few room (one (fold s (entries jobs)) alone.0)
-then_served profile made n most s represents now true shut crash_states left is_live room h one = absurd (cc)
+pub then_served : (terms : Terms) (made n most : ℕ) (s : State) (represents now : States) (before shut : Bool) (crash_states left : States → Type 0) → before ≡ false → made + n ≤ most
+    → HasServed terms made s represents before crash_states → ((t : State) → represents t → HasServed terms n t now shut left) → HasServed terms most s now shut left
+then_served terms made n most s represents now false shut crash_states left is_live room (tasks, few, alone) one =
+    more_served terms made n most s tasks now shut left few room (one (fold s (entries tasks)) alone.0)
+then_served terms made n most s represents now true shut crash_states left is_live room h one = absurd (cc)
 
-fewer_served : (profile : Profile) (made most : ℕ) (s : State) (represents : States) (shut : Bool) (crash_states : States → Type 0) → made ≤ most → HasServed profile made s represents shut crash_states → HasServed profile most s represents shut crash_states
-fewer_served profile made most s represents false crash_states room (jobs, few, alone) = (jobs, omega (arith, few, room), alone)
-fewer_served profile made most s represents true crash_states room (jobs, last, few, either) = (jobs, last, omega (arith, few, room), either)
+fewer_served : (terms : Terms) (made most : ℕ) (s : State) (represents : States) (shut : Bool) (crash_states : States → Type 0) → made ≤ most → HasServed terms made s represents shut crash_states → HasServed terms most s represents shut crash_states
+fewer_served terms made most s represents false crash_states room (tasks, few, alone) = (tasks, omega (arith, few, room), alone)
+fewer_served terms made most s represents true crash_states room (tasks, last, few, either) = (tasks, last, omega (arith, few, room), either)
 
 -- ---- the connections of a desk
 
-pub desk_fewer : {S : Type 0} (g : Ghosts S) (profile : Profile) (made most : ℕ) (a b : Desk S g) → made ≤ most → ServesAtMost g profile made a b → ServesAtMost g profile most a b
-desk_fewer g profile made most a b room first = λ clean s represented.
-    fewer_served profile made most s (Represents (state g b.connection) b.is_shut) b.is_shut (λ states. HasCrashStates (state g b.connection) states) room (first clean s represented)
+pub desk_fewer : {S : Type 0} (g : Ghosts S) (terms : Terms) (made most : ℕ) (a b : Desk S g) → made ≤ most → ServesAtMost g terms made a b → ServesAtMost g terms most a b
+desk_fewer g terms made most a b room first = λ clean s represented.
+    fewer_served terms made most s (Represents (state g b.connection) b.is_shut) b.is_shut (λ states. HasCrashStates (state g b.connection) states) room (first clean s represented)
 
-pub desk_more : {S : Type 0} (g : Ghosts S) (profile : Profile) (made n most : ℕ) (a b c : Desk S g) → b.is_shut ≡ false → made + n ≤ most → IsSameStore g b c → ServesAtMost g profile made a b
-    → ServesAtMost g profile n b c → ServesAtMost g profile most a c
-desk_more g profile made n most a b c is_live room same first more = λ clean s represented.
-    then_served profile made n most s (Represents (state g b.connection) b.is_shut) (Represents (state g c.connection) c.is_shut) b.is_shut c.is_shut
+pub desk_more : {S : Type 0} (g : Ghosts S) (terms : Terms) (made n most : ℕ) (a b c : Desk S g) → b.is_shut ≡ false → made + n ≤ most → IsSameStore g b c → ServesAtMost g terms made a b
+    → ServesAtMost g terms n b c → ServesAtMost g terms most a c
+desk_more g terms made n most a b c is_live room same first more = λ clean s represented.
+    then_served terms made n most s (Represents (state g b.connection) b.is_shut) (Represents (state g c.connection) c.is_shut) b.is_shut c.is_shut
     (λ states. HasCrashStates (state g b.connection) states) (λ states. HasCrashStates (state g c.connection) states) is_live room (first (same.honest clean) s represented) (λ t represents. more clean t represents)
 
 -- ---- a desk that serves on
 
 -- An open desk with so many connections left of so many: it is one and the same, and has served at most the others.
-abbrev pub IsServing : {S : Type 0} (g : Ghosts S) → Profile → ℕ → ℕ → Desk S g → Desk S g → Type 0
-IsServing g profile count left old new = IsSameStore g old new × (new.is_shut ≡ false) × (left ≤ count) × ServesAtMost g profile (count - left) old new
+abbrev pub IsServing : {S : Type 0} (g : Ghosts S) → Terms → ℕ → ℕ → Desk S g → Desk S g → Type 0
+IsServing g terms count left old new = IsSameStore g old new × (new.is_shut ≡ false) × (left ≤ count) × ServesAtMost g terms (count - left) old new
 
-pub serving_at_most : {S : Type 0} (g : Ghosts S) (profile : Profile) (count left : ℕ) (a b : Desk S g) → IsServing g profile count left a b → ServesAtMost g profile count a b
-serving_at_most g profile count left a b (same, is_live, within, served) = desk_fewer g profile (count - left) count a b (omega (arith, within)) served
+pub serving_at_most : {S : Type 0} (g : Ghosts S) (terms : Terms) (count left : ℕ) (a b : Desk S g) → IsServing g terms count left a b → ServesAtMost g terms count a b
+serving_at_most g terms count left a b (same, is_live, within, served) = desk_fewer g terms (count - left) count a b (omega (arith, within)) served
 
 -- it was asked nothing
-pub serving_fewer : {S : Type 0} (g : Ghosts S) (profile : Profile) (count left done : ℕ) (a b : Desk S g) → IsServing g profile count left a b → done ≤ left → IsServing g profile count (left - done) a b
-serving_fewer g profile count left done a b (same, is_live, within, served) room =
-    (same, is_live, omega (arith, within), desk_fewer g profile (count - left) (count - (left - done)) a b (omega (arith, within, room)) served)
+pub serving_fewer : {S : Type 0} (g : Ghosts S) (terms : Terms) (count left done : ℕ) (a b : Desk S g) → IsServing g terms count left a b → done ≤ left → IsServing g terms count (left - done) a b
+serving_fewer g terms count left done a b (same, is_live, within, served) room =
+    (same, is_live, omega (arith, within), desk_fewer g terms (count - left) (count - (left - done)) a b (omega (arith, within, room)) served)
 
 -- it has served one connection more, or a fault at that one has shut it
-pub serving_one : {S : Type 0} (g : Ghosts S) (profile : Profile) (count left : ℕ) (a b c : Desk S g) → IsServing g profile count left a b → 1 ≤ left → IsSameStore g b c → ServesAtMost g profile 1 b c
-    → IsSameStore g a c × ServesAtMost g profile (count - (left - 1)) a c
-serving_one g profile count left a b c (same, is_live, within, served) room still one =
-    (same_after _ _ _ _ _ _ same still, desk_more g profile (count - left) 1 (count - (left - 1)) a b c is_live (omega (arith, within, room)) still served one)
+pub serving_one : {S : Type 0} (g : Ghosts S) (terms : Terms) (count left : ℕ) (a b c : Desk S g) → IsServing g terms count left a b → 1 ≤ left → IsSameStore g b c → ServesAtMost g terms 1 b c
+    → IsSameStore g a c × ServesAtMost g terms (count - (left - 1)) a c
+serving_one g terms count left a b c (same, is_live, within, served) room still one =
+    (same_after _ _ _ _ _ _ same still, desk_more g terms (count - left) 1 (count - (left - 1)) a b c is_live (omega (arith, within, room)) still served one)
 
-pub serving_more : {S : Type 0} (g : Ghosts S) (profile : Profile) (count left : ℕ) (a b c : Desk S g) → IsServing g profile count left a b → 1 ≤ left → IsSameStore g b c → ServesAtMost g profile 1 b c → c.is_shut ≡ false
-    → IsServing g profile count (left - 1) a c
-serving_more g profile count left a b c before room still one is_live =
-    let more = serving_one g profile count left a b c before room still one in (more.0, is_live, omega (arith, before.2), more.1)
+pub serving_more : {S : Type 0} (g : Ghosts S) (terms : Terms) (count left : ℕ) (a b c : Desk S g) → IsServing g terms count left a b → 1 ≤ left → IsSameStore g b c → ServesAtMost g terms 1 b c → c.is_shut ≡ false
+    → IsServing g terms count (left - 1) a c
+serving_more g terms count left a b c before room still one is_live =
+    let more = serving_one g terms count left a b c before room still one in (more.0, is_live, omega (arith, before.2), more.1)

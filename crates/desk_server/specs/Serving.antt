@@ -1,4 +1,4 @@
--- What comes of serving connections, and how it ends.
+-- The outcome of serving connections, and how it ends.
 use Rattle.std.specs.Prelude.{◌≡◌, ℕ, ◌≤◌, ◌<◌, List, length, map, Bool, true, false, Option, Some, None, Result, Ok, Err}
 use Rattle.sqlite.specs.Effect.{Database}
 use Rattle.sqlite.specs.Held.{state}
@@ -8,7 +8,8 @@ use Rattle.plant_base.specs.{State, newest_schema}
 use Rattle.plant_desk.specs.{States, IsSameDesk}
 use Rattle.plant_desk_store.specs.{Represents, HasCrashStates, HasForeignTables, Desk}
 use Rattle.plant_text.specs.{RepresentsDurably, RepresentsEither, Entry, fold}
-use Rattle.plant_http_requests.specs.{JobOf, Job, Profile}
+use Rattle.httpdate.specs.declared.date.HttpDate.{HttpDate}
+use Rattle.plant_http_requests.specs.{TaskOf, RequestTask, Terms}
 use Rattle.plant_http.specs.{entry_of, ServeFault, Served}
 use Rattle.plant_http.specs.declared.serve.Served.TheVariants.{Answered, Nothing}
 use Rattle.desk_server.specs.declared.fault.ServingFault.{ServingFault}
@@ -20,28 +21,29 @@ status_of (Ok (Answered status)) = Some status
 status_of (Ok Nothing) = None
 status_of (Err f) = None
 
--- an input of a connection, and the job that it asks for of a server of this profile
-pub record Asked (profile : Profile) : Type 0 where
+-- an input of a connection, the machine's time as it was read, and the task that it asks for then by these terms
+pub record Asked (terms : Terms) : Type 0 where
+  pub now : Option HttpDate
   pub input : List ℕ
-  pub job : Job
-  pub asks : JobOf profile input (Some job)
+  pub task : RequestTask
+  pub asks : TaskOf (record terms { now = now }) input (Some task)
 
-abbrev pub entries : {profile : Profile} → List (Asked profile) → List Entry
-entries {profile} jobs = map (λ (a : Asked profile). entry_of a.job) jobs
+abbrev pub entries : {terms : Terms} → List (Asked terms) → List Entry
+entries {terms} tasks = map (λ (a : Asked terms). entry_of a.task) tasks
 
--- A keeper that represented s has served at most so many connections, as this profile says. It represents where the jobs lead that it has done, each
--- once and in their order, and a stop leaves that state and no other; jobs for which a fault was answered are not among them.
--- Where it is shut, a fault of its store came at a further job: a stop leaves the state before it or the state after it.
-abbrev pub HasServed : Profile → ℕ → State → States → Bool → (States → Type 0) → Type 0
-HasServed profile most s represents false crash_states = (jobs : List (Asked profile)) × (length jobs ≤ most) × RepresentsDurably represents crash_states (fold s (entries jobs))
-HasServed profile most s represents true crash_states =
-    (jobs : List (Asked profile)) × (last : Asked profile) × (length jobs < most) × RepresentsEither represents crash_states (fold s (entries jobs)) (entry_of last.job)
+-- A keeper that represented s has served at most so many connections, as these terms say. It represents where the tasks lead that it has done, each
+-- once and in their order, and a stop leaves that state and no other; tasks for which a fault was answered are not among them.
+-- Where it is shut, a fault of its store came at a further task: a stop leaves the state before it or the state after it.
+abbrev pub HasServed : Terms → ℕ → State → States → Bool → (States → Type 0) → Type 0
+HasServed terms most s represents false crash_states = (tasks : List (Asked terms)) × (length tasks ≤ most) × RepresentsDurably represents crash_states (fold s (entries tasks))
+HasServed terms most s represents true crash_states =
+    (tasks : List (Asked terms)) × (last : Asked terms) × (length tasks < most) × RepresentsEither represents crash_states (fold s (entries tasks)) (entry_of last.task)
 
 -- the same of a desk over a store that has kept its specification, of each state that it represented
-abbrev pub ServesAtMost : {S : Type 0} (g : Ghosts S) → Profile → ℕ → Desk S g → Desk S g → Type 0
-ServesAtMost {S} g profile most old new =
+abbrev pub ServesAtMost : {S : Type 0} (g : Ghosts S) → Terms → ℕ → Desk S g → Desk S g → Type 0
+ServesAtMost {S} g terms most old new =
     HasCleanDisk (state g new.connection) → (s : State) → Represents (state g old.connection) old.is_shut s
-    → HasServed profile most s (Represents (state g new.connection) new.is_shut) new.is_shut (λ states. HasCrashStates (state g new.connection) states)
+    → HasServed terms most s (Represents (state g new.connection) new.is_shut) new.is_shut (λ states. HasCrashStates (state g new.connection) states)
 
 -- the desk is one and the same: its store has kept its specification, and the foreign tables are as they were
 abbrev pub IsSameStore : {S : Type 0} (g : Ghosts S) → Desk S g → Desk S g → Type 0

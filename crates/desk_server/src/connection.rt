@@ -6,10 +6,11 @@ ghost use Rattle.plant_desk.specs.{IsSameDesk};
 ghost use Rattle.desk_server.specs.Serving.{HasServed, status_of};
 
 use crate::deadline::Timed;
-use crate::log::{Arrival, Heard};
+use crate::log::{Arrival, PrefixReader};
 use crate::server::Server;
 use plant_desk::Keeper;
 use plant_http::{ServeFault, Served, serve_one};
+use plant_http_requests::Terms;
 use std::io::Read;
 use std::net::{Shutdown, TcpStream};
 use std::rt::Clock;
@@ -97,9 +98,10 @@ impl<R: Clock> Server<'_, R> {
     /// the connection.
     ///
     /// A socket's bytes aren't known, so that no clause says which request it was: the keeper does
-    /// the job of one request, once, or nothing.
+    /// the task of one request, once, or nothing.
     ///
-    /// The request has to be whole within its time by the clock (`Timed`).
+    /// The request has to be whole within its time by the clock (`Timed`). The time by which it is judged is read once, before
+    /// its first byte.
     ///
     /// The connection comes back where its client has all that it needs to end it. Where nothing
     /// was answered, for a fault of the connection, for want of memory or since the time was over,
@@ -112,18 +114,20 @@ impl<R: Clock> Server<'_, R> {
     ) -> Option<TcpStream>
         ensures same { IsSameDesk K.honest K.schema K.foreign_tables keeper.old keeper.new }
         ensures serves { K.honest keeper.new → K.shut keeper.old ≡ false → (s : State)
-            → K.represents keeper.old s → HasServed self.now.profile 1 s
+            → K.represents keeper.old s → HasServed self.now.terms 1 s
             (K.represents keeper.new) (K.shut keeper.new) (K.crash_states keeper.new) }
         ensures unchanged { K.shut keeper.old ≡ true → keeper.new ≡ keeper.old }
     {
         bound_writes(&stream);
         let status = {
-            let mut input = Heard::new(Timed::new(self.clock, &stream));
+            let mut input = PrefixReader::new(Timed::new(self.clock, &stream));
             let mut output = &stream;
+            let now = self.now();
+            let terms = Terms { now, ..self.terms };
             let served = serve_one(
                 self.alloc,
                 &self.routes,
-                self.profile,
+                terms,
                 &mut input,
                 &mut output,
                 keeper,

@@ -9,11 +9,11 @@ ghost use Rattle.desk_server.specs.Waiting.{FitsStep};
 use crate::connection::{read_on, read_rest};
 use crate::fault::ServingFault;
 use crate::log::AccessLog;
-use crate::reception::Reception;
+use crate::reception::Acceptor;
 use crate::server::Server;
-use crate::waiting::{Step, Waiter, Waiting};
+use crate::waiting::{PendingConnection, Step, Waiting};
 use plant_desk_store::Desk;
-use plant_http_requests::{Profile, Routes, RoutesFault};
+use plant_http_requests::{Routes, RoutesFault, Terms};
 use sqlite::Alter;
 use std::alloc::{AllocGlobal, Global};
 use std::net::{Net, TcpListener, TcpStream};
@@ -24,7 +24,7 @@ use std::time::Instant;
 #[derive(Drop)]
 struct Connections<'a> {
     /// Where they come in.
-    reception: Reception<'a>,
+    reception: Acceptor<'a>,
     /// Those that wait.
     waiting: Waiting,
     /// The last one, where its client has its answer and may not have ended it.
@@ -45,7 +45,7 @@ impl<'a> Connections<'a> {
             return Err(ServingFault::Memory);
         };
         Ok(Connections {
-            reception: Reception::new(alloc, net, listener)?,
+            reception: Acceptor::new(alloc, net, listener)?,
             waiting,
             answered: None,
         })
@@ -53,14 +53,14 @@ impl<'a> Connections<'a> {
 
     /// What is done next, at so many milliseconds.
     fn next(&self, now: u64) -> Step
-        ensures { FitsStep result self.now.waiting.waiters.items }
+        ensures { FitsStep result self.now.waiting.pending.items }
     {
         self.waiting.next(now, self.reception.may_take())
     }
 
     /// Takes a connection out of those that wait.
-    fn remove(&mut self, index: usize) -> Waiter
-        requires { index < length self.old.waiting.waiters.items }
+    fn remove(&mut self, index: usize) -> PendingConnection
+        requires { index < length self.old.waiting.pending.items }
     {
         let waiter = self.waiting.remove(index);
         self.reception.leave(&waiter.stream);
@@ -89,7 +89,7 @@ impl<R: Clock> Server<'_, R> {
     /// Takes a connection, where one is there, and has it wait. One that the system doesn't follow
     /// is dropped. Returns how many were dropped, 0 or 1. `Net`: none can be taken.
     fn take_next(&self, connections: &mut Connections<'_>) -> Result<u32, ServingFault>
-        requires { length connections.old.waiting.waiters.items ≤ 64 }
+        requires { length connections.old.waiting.pending.items ≤ 64 }
         ensures few { IfOk result (λ done. done ≤ 1) }
         ensures net { IfErr result (λ fault. fault ≡ ServingFault.Net) }
     {
@@ -101,7 +101,7 @@ impl<R: Clock> Server<'_, R> {
             self.log.note_request(arrival, &[], None);
             return Ok(1);
         };
-        connections.waiting.add(Waiter {
+        connections.waiting.add(PendingConnection {
             stream,
             arrival,
             token,
@@ -113,7 +113,7 @@ impl<R: Clock> Server<'_, R> {
 
     /// Drops the oldest connection that waits. No byte came on it.
     fn drop_oldest(&self, connections: &mut Connections<'_>)
-        requires { 0 < length connections.old.waiting.waiters.items }
+        requires { 0 < length connections.old.waiting.pending.items }
     {
         let oldest = connections.waiting.remove(0);
         self.log.note_request(oldest.arrival, &[], None);
@@ -127,10 +127,10 @@ impl<R: Clock> Server<'_, R> {
         connections: &mut Connections<'_>,
         desk: &mut Desk<S>,
     ) -> Result<(), ServingFault>
-        requires { index < length connections.old.waiting.waiters.items }
+        requires { index < length connections.old.waiting.pending.items }
         ensures same { IsSameStore S.Store desk.old desk.new }
         ensures serves { desk.old.is_shut ≡ false
-            → ServesAtMost S.Store self.now.profile 1 desk.old desk.new }
+            → ServesAtMost S.Store self.now.terms 1 desk.old desk.new }
         ensures open { OnOk result (desk.new.is_shut ≡ false) }
         ensures shut { OnErr result (desk.new.is_shut ≡ true) }
         ensures store { IfErr result (λ fault. fault ≡ ServingFault.Store) }
@@ -154,7 +154,7 @@ impl<R: Clock> Server<'_, R> {
     ) -> Result<(), ServingFault>
         requires { desk.old.is_shut ≡ false }
         ensures same { IsSameStore S.Store desk.old desk.new }
-        ensures serves { ServesAtMost S.Store self.now.profile count desk.old desk.new }
+        ensures serves { ServesAtMost S.Store self.now.terms count desk.old desk.new }
         ensures ends { EndsServing desk.new.is_shut result }
         ensures routed { IfErr result (λ fault. fault ≢ ServingFault.Memory) }
     {
@@ -194,7 +194,7 @@ fn routes_of(made: Result<Routes, RoutesFault>) -> Result<Routes, ServingFault>
     }
 }
 
-/// Serves so many connections of a listener, one at a time, by an open desk, as the profile says. What is answered to a request ends nothing,
+/// Serves so many connections of a listener, one at a time, by an open desk, as the terms say. What is answered to a request ends nothing,
 /// and neither does a fault of a connection; one without a byte counts too, and one whose request isn't whole within its twenty seconds.
 /// Each is noted in the log where there is one.
 ///
@@ -203,14 +203,14 @@ fn routes_of(made: Result<Routes, RoutesFault>) -> Result<Routes, ServingFault>
 pub fn serve_listener<R: Net + Clock + AllocGlobal, S: Alter + Drop>(
     rt: &R,
     listener: &TcpListener,
-    profile: Profile<'_>,
+    terms: Terms<'_>,
     count: u32,
     desk: &mut Desk<S>,
     log: AccessLog<'_>,
 ) -> Result<(), ServingFault>
     requires { desk.old.is_shut ≡ false }
     ensures same { IsSameStore S.Store desk.old desk.new }
-    ensures serves { ServesAtMost S.Store profile.entry count desk.old desk.new }
+    ensures serves { ServesAtMost S.Store terms.entry count desk.old desk.new }
     ensures ends { EndsServing desk.new.is_shut result }
 {
     let routes = routes_of(Routes::new(rt.alloc()))?;
@@ -220,7 +220,7 @@ pub fn serve_listener<R: Net + Clock + AllocGlobal, S: Alter + Drop>(
         clock: rt,
         began: Instant::now(rt).ok(),
         routes,
-        profile,
+        terms,
         log,
     };
     let end = server.serve_each(&mut connections, count, desk);

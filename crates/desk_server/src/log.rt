@@ -29,14 +29,14 @@ pub(crate) struct Arrival {
 
 /// A request, as it is noted.
 #[derive(Clone, Copy)]
-struct Noted<'a> {
+struct AccessLogEntry<'a> {
     moment: u64,
     line: &'a str,
     status: Option<u16>,
     microseconds: u128,
 }
 
-impl fmt::Display for Noted<'_> {
+impl fmt::Display for AccessLogEntry<'_> {
     ghost output = { λ noted. Some (noted_text noted.moment noted.line.now noted.status noted.microseconds) };
 
     fn fmt<W: fmt::Write>(&self, f: &mut fmt::Formatter<W>) -> fmt::Result {
@@ -84,7 +84,7 @@ impl AccessLog<'_> {
     /// microseconds it took. What can't be written is lost.
     pub(crate) fn note_request(self, arrival: Arrival, heard: &[u8], status: Option<u16>) {
         if let AccessLog::StandardError(rt) = self {
-            let noted = Noted {
+            let noted = AccessLogEntry {
                 moment: arrival.moment,
                 line: request_line(heard),
                 status,
@@ -167,15 +167,15 @@ fn keep(kept: &mut ArrayVec<u8, MOST_HEARD>, bytes: &[u8]) {
 
 /// A reader whose first bytes are kept.
 #[derive(Drop)]
-pub(crate) struct Heard<R> {
+pub(crate) struct PrefixReader<R> {
     reader: R,
     bytes: ArrayVec<u8, MOST_HEARD>,
 }
 
-impl<R> Heard<R> {
+impl<R> PrefixReader<R> {
     /// The reader, of which nothing was read so far.
-    pub(crate) fn new(reader: R) -> Heard<R> {
-        Heard {
+    pub(crate) fn new(reader: R) -> PrefixReader<R> {
+        PrefixReader {
             reader,
             bytes: ArrayVec::new(),
         }
@@ -187,7 +187,7 @@ impl<R> Heard<R> {
     }
 }
 
-impl<R: Read> Read for Heard<R> {
+impl<R: Read> Read for PrefixReader<R> {
     ghost remaining = { λ heard. R.remaining heard.reader };
 
     fn read(&mut self, buf: &mut [u8]) -> io::Result<usize> {

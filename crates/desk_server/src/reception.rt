@@ -16,7 +16,7 @@ const MOST_EVENTS: usize = 65;
 
 /// A listener, and what is known of it and of the connections that wait.
 #[derive(Drop)]
-pub(crate) struct Reception<'a> {
+pub(crate) struct Acceptor<'a> {
     listener: &'a TcpListener,
     poll: Poll,
     events: Events<Global>,
@@ -37,13 +37,13 @@ fn most_wait(step: Step) -> Option<Duration> {
     }
 }
 
-impl<'a> Reception<'a> {
+impl<'a> Acceptor<'a> {
     /// Has the system report connections that come in. `Net`: it doesn't. `Memory`: memory was refused for what it reports.
     pub(crate) fn new<N: Net>(
         alloc: Global,
         net: &N,
         listener: &'a TcpListener,
-    ) -> Result<Reception<'a>, ServingFault>
+    ) -> Result<Acceptor<'a>, ServingFault>
         ensures { IfErr result (λ fault. fault ≢ ServingFault.Store) }
     {
         let Ok(events) = Events::with_capacity(alloc, MOST_EVENTS) else {
@@ -64,7 +64,7 @@ impl<'a> Reception<'a> {
         {
             return Err(ServingFault::Net);
         }
-        Ok(Reception {
+        Ok(Acceptor {
             listener,
             poll,
             events,

@@ -1,9 +1,10 @@
 //! What stays the same while connections are served.
 use crate::log::{AccessLog, milliseconds_since};
-use plant_http_requests::{Profile, Routes};
+use httpdate::HttpDate;
+use plant_http_requests::{Routes, Terms};
 use std::alloc::Global;
 use std::rt::Clock;
-use std::time::Instant;
+use std::time::{Instant, SystemTime};
 
 /// A server of connections: what it serves them by, from the first to the last.
 #[derive(Drop)]
@@ -13,11 +14,17 @@ pub(crate) struct Server<'a, R> {
     /// When serving began, where the clock gave it.
     pub(crate) began: Option<Instant>,
     pub(crate) routes: Routes,
-    pub(crate) profile: Profile<'a>,
+    /// By what requests are judged; the time of each is put in as it is read.
+    pub(crate) terms: Terms<'a>,
     pub(crate) log: AccessLog<'a>,
 }
 
 impl<R: Clock> Server<'_, R> {
+    /// The machine's time in whole seconds; `None` where the clock gives none, or one before 1970 or after 9999.
+    pub(crate) fn now(&self) -> Option<HttpDate> {
+        HttpDate::try_from(SystemTime::now(self.clock).ok()?).ok()
+    }
+
     /// The milliseconds since serving began.
     pub(crate) fn milliseconds(&self) -> u64 {
         milliseconds_since(self.clock, self.began)

@@ -17,7 +17,7 @@ const MOST_MILLISECONDS: u64 = 10_000;
 
 /// A connection that waits to be served.
 #[derive(Drop)]
-pub(crate) struct Waiter {
+pub(crate) struct PendingConnection {
     pub(crate) stream: TcpStream,
     pub(crate) arrival: Arrival,
     /// By which the system names it.
@@ -31,9 +31,9 @@ pub(crate) struct Waiter {
 /// The connections that wait, 64 at most and one that was just taken, in the order in which they came.
 #[derive(Drop)]
 pub(crate) struct Waiting {
-    pub(crate) waiters: Vec<Waiter>,
-    ghost bound: { length waiters.items ≤ 65 },
-    ghost room: { 65 ≤ vec_capacity waiters },
+    pub(crate) pending: Vec<PendingConnection>,
+    ghost bound: { length pending.items ≤ 65 },
+    ghost room: { 65 ≤ vec_capacity pending },
 }
 
 /// What is done next.
@@ -50,46 +50,46 @@ pub(crate) enum Step {
 }
 
 /// The first connection on which bytes came.
-fn first_with_bytes(waiters: &[Waiter]) -> Option<usize>
-    ensures first { result ≡ first_with_bytes waiters.now }
-    ensures bound { IfSome result (λ index. index < length waiters.now) }
+fn first_with_bytes(pending: &[PendingConnection]) -> Option<usize>
+    ensures first { result ≡ first_with_bytes pending.now }
+    ensures bound { IfSome result (λ index. index < length pending.now) }
 {
-    waiters.iter().position(|waiter| waiter.has_bytes)
+    pending.iter().position(|waiter| waiter.has_bytes)
 }
 
 /// The first connection of a token.
-fn position_of(waiters: &[Waiter], token: usize) -> Option<usize>
-    ensures first { result ≡ position_of waiters.now token }
-    ensures bound { IfSome result (λ index. index < length waiters.now) }
+fn position_of(pending: &[PendingConnection], token: usize) -> Option<usize>
+    ensures first { result ≡ position_of pending.now token }
+    ensures bound { IfSome result (λ index. index < length pending.now) }
 {
-    waiters.iter().position(|waiter| waiter.token == token)
+    pending.iter().position(|waiter| waiter.token == token)
 }
 
 /// For how many milliseconds the oldest has waited, 0 where none waits.
-fn waited(waiters: &[Waiter], now: u64) -> u64
-    ensures { result ≡ waited waiters.now now }
+fn waited(pending: &[PendingConnection], now: u64) -> u64
+    ensures { result ≡ waited pending.now now }
 {
-    match waiters.first() {
+    match pending.first() {
         Some(oldest) => now.saturating_sub(oldest.came),
         None => 0,
     }
 }
 
 /// What is done next where no bytes came.
-fn step_of_silent(waiters: &[Waiter], now: u64, may_take: bool) -> Step
-    requires bound { length waiters.now ≤ 65 }
-    requires silent { first_with_bytes waiters.now ≡ None }
-    ensures next { IsNext waiters.now now may_take result }
-    ensures fits { FitsStep result waiters.now }
+fn step_of_silent(pending: &[PendingConnection], now: u64, may_take: bool) -> Step
+    requires bound { length pending.now ≤ 65 }
+    requires silent { first_with_bytes pending.now ≡ None }
+    ensures next { IsNext pending.now now may_take result }
+    ensures fits { FitsStep result pending.now }
 {
-    let waited = waited(waiters, now);
-    if waiters.is_empty() {
+    let waited = waited(pending, now);
+    if pending.is_empty() {
         if may_take {
             Step::Take
         } else {
             Step::Wait(None)
         }
-    } else if waited >= MOST_MILLISECONDS || waiters.len() > MOST_WAITING {
+    } else if waited >= MOST_MILLISECONDS || pending.len() > MOST_WAITING {
         Step::Drop
     } else if !may_take {
         Step::Wait(Some(MOST_MILLISECONDS - waited))
@@ -100,58 +100,58 @@ fn step_of_silent(waiters: &[Waiter], now: u64, may_take: bool) -> Step
 
 /// What is done next with the connections that wait, in the order in which they came: the first on which bytes came is served; else the
 /// oldest is dropped, where its time is over or more than 64 wait; else one is taken, where one may be there.
-fn next_step(waiters: &[Waiter], now: u64, may_take: bool) -> Step
-    requires { length waiters.now ≤ 65 }
-    ensures next { IsNext waiters.now now may_take result }
-    ensures fits { FitsStep result waiters.now }
+fn next_step(pending: &[PendingConnection], now: u64, may_take: bool) -> Step
+    requires { length pending.now ≤ 65 }
+    ensures next { IsNext pending.now now may_take result }
+    ensures fits { FitsStep result pending.now }
 {
-    match first_with_bytes(waiters) {
+    match first_with_bytes(pending) {
         Some(index) => Step::Serve(index),
-        None => step_of_silent(waiters, now, may_take),
+        None => step_of_silent(pending, now, may_take),
     }
 }
 
 impl Waiting {
     /// None wait.
     pub(crate) fn new(alloc: Global) -> Result<Waiting, AllocError>
-        ensures { IfOk result (λ waiting. waiting.waiters.items ≡ []) }
+        ensures { IfOk result (λ waiting. waiting.pending.items ≡ []) }
     {
         Ok(Waiting {
-            waiters: Vec::with_capacity(alloc, MOST_WAITING + 1)?,
+            pending: Vec::with_capacity(alloc, MOST_WAITING + 1)?,
         })
     }
 
     /// What is done next.
     pub(crate) fn next(&self, now: u64, may_take: bool) -> Step
-        ensures next { IsNext self.now.waiters.items now may_take result }
-        ensures fits { FitsStep result self.now.waiters.items }
+        ensures next { IsNext self.now.pending.items now may_take result }
+        ensures fits { FitsStep result self.now.pending.items }
     {
-        next_step(self.waiters.as_slice(), now, may_take)
+        next_step(self.pending.as_slice(), now, may_take)
     }
 
     /// Has a connection wait after the others.
-    pub(crate) fn add(&mut self, waiter: Waiter)
-        requires { length self.old.waiters.items ≤ MOST_WAITING }
-        ensures { self.new.waiters.items ≡ self.old.waiters.items ++ waiter ∷ [] }
+    pub(crate) fn add(&mut self, waiter: PendingConnection)
+        requires { length self.old.pending.items ≤ MOST_WAITING }
+        ensures { self.new.pending.items ≡ self.old.pending.items ++ waiter ∷ [] }
     {
-        self.waiters.push_reserved(waiter);
+        self.pending.push_reserved(waiter);
     }
 
     /// Takes a connection out.
-    pub(crate) fn remove(&mut self, index: usize) -> Waiter
-        requires { index < length self.old.waiters.items }
-        ensures value { result ≡ slice_index_or self.old.waiters.items index result }
-        ensures rest { self.new.waiters.items ≡ remove self.old.waiters.items index }
+    pub(crate) fn remove(&mut self, index: usize) -> PendingConnection
+        requires { index < length self.old.pending.items }
+        ensures value { result ≡ slice_index_or self.old.pending.items index result }
+        ensures rest { self.new.pending.items ≡ remove self.old.pending.items index }
     {
-        self.waiters.remove(index)
+        self.pending.remove(index)
     }
 
     /// Notes that there is something to be read on the connection of a token, where it waits. Nothing else changes.
     pub(crate) fn mark(&mut self, token: usize)
-        ensures { self.new.waiters.items ≡ marked self.old.waiters.items token }
+        ensures { self.new.pending.items ≡ marked self.old.pending.items token }
     {
-        if let Some(index) = position_of(self.waiters.as_slice(), token) {
-            self.waiters[index].has_bytes = true;
+        if let Some(index) = position_of(self.pending.as_slice(), token) {
+            self.pending[index].has_bytes = true;
         }
     }
 }

@@ -9,8 +9,8 @@ use Rattle.plant_trace.specs.{Node}
 use Rattle.genealogy_picture.specs.{◌>>=◌, picture_in, whole, Draws, IsLayoutError, IsNoSvg, IsRefused, IsTextError, IsTextOf, reported_of}
 use Rattle.genealogy_picture.specs.declared.ending.DrawError.{DrawError}
 use Rattle.genealogy_picture.specs.declared.ending.DrawError.TheVariants as stop
-use Rattle.genealogy_picture.specs.declared.ending.Refusal.{Refusal}
-use Rattle.genealogy_picture.specs.declared.ending.Refusal.TheVariants as refusal
+use Rattle.genealogy_picture.specs.declared.ending.InputError.{InputError}
+use Rattle.genealogy_picture.specs.declared.ending.InputError.TheVariants as refusal
 use Rattle.genealogy_picture.specs.declared.words.Format.{Format}
 use Rattle.genealogy_picture.specs.declared.words.Format.TheVariants.{Dot, Svg}
 use Rattle.std.proofs.lemmas.List.Elements.{All-get_or}
@@ -19,7 +19,7 @@ ends_whole : (r : Result Picture GraphError) (p : Picture) → ((q : Picture) �
 ends_whole (Ok q) p f h = let same : q ≡ p = cc in subst HasEnds same (f q refl)
 ends_whole (Err e) p f h = absurd cc
 
-ends_reported : (r : Result Reported Refusal) (p : Picture) → (r >>= (λ reported. whole (picture_of reported))) ≡ Ok p → HasEnds p
+ends_reported : (r : Result Reported InputError) (p : Picture) → (r >>= (λ reported. whole (picture_of reported))) ≡ Ok p → HasEnds p
 ends_reported (Ok reported) p h = ends_whole (picture_of reported) p (ends_found reported) h
 ends_reported (Err e) p h = absurd cc
 
@@ -38,13 +38,13 @@ never_lost p node ends (k, e, h, is, at) = end_at at
     end_at (inr to) = subst (Contains (nodes_of p)) to between.1
 
 -- why a picture isn't laid out is why it isn't drawn
-no_svg : (asked : Option Node) (bytes : List ℕ) (p : Picture) (r : Refusal) → picture_in bytes ≡ Ok p → IsLayoutError p (stop.Refused r) → IsNoSvg asked p r
+no_svg : (asked : Option Node) (bytes : List ℕ) (p : Picture) (r : InputError) → picture_in bytes ≡ Ok p → IsLayoutError p (stop.Refused r) → IsNoSvg asked p r
 no_svg asked bytes p refusal.Circle made circle = circle
 no_svg asked bytes p refusal.Absent made none = absurd none
-no_svg asked bytes p (refusal.Whole (graph_error.Lost node)) made lost = absurd (lost.1 (never_lost p node (ends_in bytes p made) lost.0))
-no_svg asked bytes p (refusal.Whole (graph_error.Lot id)) made none = absurd none
-no_svg asked bytes p (refusal.Whole (graph_error.Amounts from to)) made none = absurd none
-no_svg asked bytes p (refusal.Whole (graph_error.Batches from to)) made none = absurd none
+no_svg asked bytes p (refusal.Graph (graph_error.Lost node)) made lost = absurd (lost.1 (never_lost p node (ends_in bytes p made) lost.0))
+no_svg asked bytes p (refusal.Graph (graph_error.Lot id)) made none = absurd none
+no_svg asked bytes p (refusal.Graph (graph_error.Amounts from to)) made none = absurd none
+no_svg asked bytes p (refusal.Graph (graph_error.Batches from to)) made none = absurd none
 no_svg asked bytes p (refusal.Line number error) made none = absurd none
 
 not_laid_out : (asked : Option Node) (bytes : List ℕ) (p : Picture) (error : DrawError) → picture_in bytes ≡ Ok p → IsLayoutError p error → IsRefused Svg asked bytes error

@@ -2,5 +2,5 @@ pub mod AbsentNodes
 pub mod MembersCounted
 pub mod DrawnInput
 pub mod RefusalKinds
-pub mod LineSays
+pub mod LineMeaning
 pub mod Causes

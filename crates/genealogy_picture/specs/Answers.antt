@@ -8,8 +8,8 @@ use Rattle.genealogy_svg.specs.declared.reported.Reported.{Reported}
 use Rattle.genealogy_svg.specs.{ReportedEdge}
 use Rattle.genealogy_picture.specs.declared.answers.LineError.{LineError}
 use Rattle.genealogy_picture.specs.declared.answers.LineError.TheVariants as line_error
-use Rattle.genealogy_picture.specs.declared.answers.LineFault.{LineFault}
-use Rattle.genealogy_picture.specs.declared.answers.LineFault.TheVariants as fault
+use Rattle.genealogy_picture.specs.declared.answers.AnswerLineFault.{AnswerLineFault}
+use Rattle.genealogy_picture.specs.declared.answers.AnswerLineFault.TheVariants as fault
 use Rattle.genealogy_picture.specs.declared.members.ReportedNode.{ReportedNode}
 use Rattle.genealogy_picture.specs.Gathering.{with_node, with_edge}
 use Rattle.genealogy_picture.specs.Members.{has_members, node_of, edge_of}
@@ -21,7 +21,7 @@ Ok a >>= f = f a
 Err e >>= f = Err e
 
 -- this is reported now, or else this is wrong; nothing is said where memory was refused
-abbrev pub Reports : Reported → Result Unit LineFault → Result Reported LineError → Type 0
+abbrev pub Reports : Reported → Result Unit AnswerLineFault → Result Reported LineError → Type 0
 Reports now (Ok u) r = r ≡ Ok now
 Reports now (Err (fault.Reported w)) r = r ≡ Err w
 Reports now (Err fault.Memory) r = ⊤

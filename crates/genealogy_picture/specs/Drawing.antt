@@ -15,8 +15,8 @@ use Rattle.plant_trace.specs.{Node}
 use Rattle.plant_trace.specs.declared.node.Node.TheVariants.{Lot, Batch}
 use Rattle.genealogy_picture.specs.declared.words.Format.{Format}
 use Rattle.genealogy_picture.specs.declared.words.Format.TheVariants.{Dot, Svg}
-use Rattle.genealogy_picture.specs.declared.ending.Refusal.{Refusal}
-use Rattle.genealogy_picture.specs.declared.ending.Refusal.TheVariants as refusal
+use Rattle.genealogy_picture.specs.declared.ending.InputError.{InputError}
+use Rattle.genealogy_picture.specs.declared.ending.InputError.TheVariants as refusal
 use Rattle.genealogy_picture.specs.declared.ending.DrawError.{DrawError}
 use Rattle.genealogy_picture.specs.declared.ending.DrawError.TheVariants as stop
 use Rattle.genealogy_picture.specs.Answers.{◌>>=◌}
@@ -25,15 +25,15 @@ use Rattle.genealogy_picture.specs.Reading.{reported_of}
 -- how a picture that wasn't made is reported
 abbrev pub of_whole : Result Picture UnitedFault → Result Picture DrawError
 of_whole (Ok p) = Ok p
-of_whole (Err (united.Reported p)) = Err (stop.Refused (refusal.Whole p))
+of_whole (Err (united.Reported p)) = Err (stop.Refused (refusal.Graph p))
 of_whole (Err united.Memory) = Err stop.Memory
 
-abbrev pub whole : {A : Type 0} → Result A GraphError → Result A Refusal
+abbrev pub whole : {A : Type 0} → Result A GraphError → Result A InputError
 whole (Ok a) = Ok a
-whole (Err p) = Err (refusal.Whole p)
+whole (Err p) = Err (refusal.Graph p)
 
 -- the picture of the answers in the bytes, or why there is none: a line that is no answer goes before what is wrong with them all
-abbrev pub picture_in : List ℕ → Result Picture Refusal
+abbrev pub picture_in : List ℕ → Result Picture InputError
 picture_in bytes = reported_of bytes >>= (λ reported. whole (picture_of reported))
 
 -- ---- texts
@@ -42,13 +42,13 @@ picture_in bytes = reported_of bytes >>= (λ reported. whole (picture_of reporte
 abbrev pub of_layout : Result Drawing LayoutFault → Result Drawing DrawError
 of_layout (Ok d) = Ok d
 of_layout (Err layout.Circle) = Err (stop.Refused refusal.Circle)
-of_layout (Err (layout.Lost node)) = Err (stop.Refused (refusal.Whole (graph_error.Lost node)))
+of_layout (Err (layout.Lost node)) = Err (stop.Refused (refusal.Graph (graph_error.Lost node)))
 of_layout (Err layout.Memory) = Err stop.Memory
 
 -- why a picture isn't laid out: its edges lead in a circle, one of them begins or ends at a node that is none of it, or memory was refused
 abbrev pub IsLayoutError : Picture → DrawError → Type 0
 IsLayoutError p (stop.Refused refusal.Circle) = HasCircle p.edges
-IsLayoutError p (stop.Refused (refusal.Whole (graph_error.Lost node))) = IsEndOf p.edges node × (¬ Contains (nodes_of p) node)
+IsLayoutError p (stop.Refused (refusal.Graph (graph_error.Lost node))) = IsEndOf p.edges node × (¬ Contains (nodes_of p) node)
 IsLayoutError p stop.Memory = ⊤
 IsLayoutError p _ = ⊥
 
@@ -78,7 +78,7 @@ IsTextOf Dot asked p text = text ≡ dot_text p
 IsTextOf Svg asked p text = (d : Drawing) × IsLaidOut p d × (text ≡ svg_text asked d)
 
 -- why a picture isn't drawn in SVG: its edges lead in a circle, or the node that was asked for is none of it
-abbrev pub IsNoSvg : Option Node → Picture → Refusal → Type 0
+abbrev pub IsNoSvg : Option Node → Picture → InputError → Type 0
 IsNoSvg asked p refusal.Circle = HasCircle p.edges
 IsNoSvg asked p refusal.Absent = (node : Node) × (asked ≡ Some node) × (has_node p node ≡ false)
 IsNoSvg asked p _ = ⊥

@@ -1,16 +1,16 @@
 -- How the program ends.
 use Rattle.std.specs.Prelude.{ℕ, List, ◌++◌, codes, decimal, Result, Ok, Err}
 use Rattle.genealogy_svg.specs.{graph_error_text}
-use Rattle.genealogy_picture.specs.declared.ending.Refusal.{Refusal}
-use Rattle.genealogy_picture.specs.declared.ending.Refusal.TheVariants as refusal
+use Rattle.genealogy_picture.specs.declared.ending.InputError.{InputError}
+use Rattle.genealogy_picture.specs.declared.ending.InputError.TheVariants as refusal
 use Rattle.genealogy_picture.specs.declared.ending.DrawError.{DrawError}
 use Rattle.genealogy_picture.specs.declared.ending.DrawError.TheVariants as stop
 use Rattle.genealogy_picture.specs.Answers.{line_error_text}
 
 -- why an input makes no picture
-abbrev pub refusal_text : Refusal → List ℕ
+abbrev pub refusal_text : InputError → List ℕ
 refusal_text (refusal.Line number line_error) = codes "line " ++ (decimal number ++ (codes ": " ++ line_error_text line_error))
-refusal_text (refusal.Whole p) = graph_error_text p
+refusal_text (refusal.Graph p) = graph_error_text p
 refusal_text refusal.Circle = codes "the edges lead in a circle"
 refusal_text refusal.Absent = codes "the lot or batch that was asked for isn't there"
 

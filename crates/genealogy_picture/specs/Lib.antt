@@ -12,4 +12,4 @@ pub use Drawing.{Draws, IsAbsent, IsLayoutError, IsNoSvg, IsRefused, IsTextError
 pub use Members.{count_of}
 pub use Reading.{read_from, start}
 unfoldable pub use Reading.{reported_of}
-pub use Words.{asked_of, format_of, names, picture_app}
+pub use Words.{node_asked, format_of, names, picture_app}

@@ -7,5 +7,5 @@ pub record ReadingState : Type 0 where
   pub reported : Reported
   -- the number of the line that is coming, counted from 1
   pub number : ℕ
-  -- what came of it
+  -- its bytes so far
   pub held : List ℕ

@@ -53,8 +53,8 @@ of_kind kind None other = other
 of_kind kind (Some id) other = Some (kind id)
 
 -- the node that is named: the lot, where one is, else the batch
-abbrev pub asked_of : List Row → Option Node
-asked_of rows = of_kind Lot (first_of (codes "lot") rows) (of_kind Batch (first_of (codes "batch") rows) None)
+abbrev pub node_asked : List Row → Option Node
+node_asked rows = of_kind Lot (first_of (codes "lot") rows) (of_kind Batch (first_of (codes "batch") rows) None)
 
 -- the node that a value means
 abbrev pub names : Asked → Option Node

@@ -54,35 +54,35 @@ impl fmt::Display for LineError {
 
 /// Why a line isn't taken.
 #[derive(Clone, Copy, Debug, PartialEq, Eq)]
-pub(crate) enum LineFault {
+pub(crate) enum AnswerLineFault {
     /// It is no answer with edges.
     Reported(LineError),
     /// Memory was refused.
     Memory,
 }
 
-impl From<AllocError> for LineFault {
-    ghost use Rattle.genealogy_picture.specs.declared.answers.LineFault.TheVariants as fault;
+impl From<AllocError> for AnswerLineFault {
+    ghost use Rattle.genealogy_picture.specs.declared.answers.AnswerLineFault.TheVariants as fault;
 
     ghost from_gives = { λ _ made. made ≡ fault.Memory };
 
     fn from(_error: AllocError) -> Self {
-        LineFault::Memory
+        AnswerLineFault::Memory
     }
 }
 
 /// Takes the node of a number.
-fn node_into(gathered: &mut Gathered, number: usize, value: &Value) -> Result<(), LineFault>
+fn node_into(gathered: &mut Gathered, number: usize, value: &Value) -> Result<(), AnswerLineFault>
     ensures { Reports gathered.new result (node_into gathered.old number (view value.now)) }
 {
     match node_of(value) {
         Some(node) => Ok(gathered.add_node(&node)?),
-        None => Err(LineFault::Reported(LineError::Node(number))),
+        None => Err(AnswerLineFault::Reported(LineError::Node(number))),
     }
 }
 
 /// Takes the nodes of an answer.
-fn nodes_into(gathered: &mut Gathered, values: &[Value]) -> Result<(), LineFault>
+fn nodes_into(gathered: &mut Gathered, values: &[Value]) -> Result<(), AnswerLineFault>
     ensures { Reports gathered.new result (nodes_into gathered.old 1 (items_view values.now)) }
 {
     for (index, value) in values.iter().enumerate() {
@@ -92,7 +92,7 @@ fn nodes_into(gathered: &mut Gathered, values: &[Value]) -> Result<(), LineFault
 }
 
 /// Takes the edge of a number.
-fn edge_into(gathered: &mut Gathered, number: usize, value: &Value) -> Result<(), LineFault>
+fn edge_into(gathered: &mut Gathered, number: usize, value: &Value) -> Result<(), AnswerLineFault>
     ensures { Reports gathered.new result (edge_into gathered.old number (view value.now)) }
 {
     match edge_of(value) {
@@ -101,12 +101,12 @@ fn edge_into(gathered: &mut Gathered, number: usize, value: &Value) -> Result<()
             let to: Node = edge.to;
             Ok(gathered.add_edge(from, to, edge.amount)?)
         }
-        None => Err(LineFault::Reported(LineError::Edge(number))),
+        None => Err(AnswerLineFault::Reported(LineError::Edge(number))),
     }
 }
 
 /// Takes the edges of an answer.
-fn edges_into(gathered: &mut Gathered, values: &[Value]) -> Result<(), LineFault>
+fn edges_into(gathered: &mut Gathered, values: &[Value]) -> Result<(), AnswerLineFault>
     ensures { Reports gathered.new result (edges_into gathered.old 1 (items_view values.now)) }
 {
     for (index, value) in values.iter().enumerate() {
@@ -122,7 +122,7 @@ fn list_at<'a>(value: &'a Value, name: &str) -> Option<&'a Vec<Value>>
 }
 
 /// Takes the nodes and the edges of an object, where both are there.
-fn parts_into(gathered: &mut Gathered, value: &Value) -> Result<(), LineFault>
+fn parts_into(gathered: &mut Gathered, value: &Value) -> Result<(), AnswerLineFault>
     ensures { Reports gathered.new result (parts_into gathered.old (view value.now)) }
 {
     match (list_at(value, "nodes"), list_at(value, "edges")) {
@@ -130,20 +130,20 @@ fn parts_into(gathered: &mut Gathered, value: &Value) -> Result<(), LineFault>
             nodes_into(gathered, nodes)?;
             edges_into(gathered, edges)
         }
-        _ => Err(LineFault::Reported(LineError::NoAnswer)),
+        _ => Err(AnswerLineFault::Reported(LineError::NoAnswer)),
     }
 }
 
 /// Takes the answer that a value is.
-fn answer_into(gathered: &mut Gathered, value: &Value) -> Result<(), LineFault>
+fn answer_into(gathered: &mut Gathered, value: &Value) -> Result<(), AnswerLineFault>
     ensures { Reports gathered.new result (answer_into gathered.old (view value.now)) }
 {
     if value.get("refused").is_some() {
-        Err(LineFault::Reported(LineError::Refused))
+        Err(AnswerLineFault::Reported(LineError::Refused))
     } else if has_members(value, 2) {
         parts_into(gathered, value)
     } else {
-        Err(LineFault::Reported(LineError::NoAnswer))
+        Err(AnswerLineFault::Reported(LineError::NoAnswer))
     }
 }
 
@@ -173,7 +173,7 @@ pub(crate) fn line_into(
     alloc: Global,
     gathered: &mut Gathered,
     line: &[u8],
-) -> Result<(), LineFault>
+) -> Result<(), AnswerLineFault>
     ensures { Reports gathered.new result (line_into gathered.old line.now) }
 {
     if is_blank(line) {
@@ -183,9 +183,9 @@ pub(crate) fn line_into(
         Ok(value) => answer_into(gathered, &value),
         Err(error) => {
             if is_refusal(&error) {
-                Err(LineFault::Reported(LineError::NoJson))
+                Err(AnswerLineFault::Reported(LineError::NoJson))
             } else {
-                Err(LineFault::Memory)
+                Err(AnswerLineFault::Memory)
             }
         }
     }

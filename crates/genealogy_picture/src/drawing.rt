@@ -13,7 +13,7 @@ ghost use Rattle.genealogy_picture.specs.Words.{names};
 ghost use Rattle.genealogy_picture.specs.declared.words.Format.TheVariants.{Svg};
 ghost use Rattle.plant_trace.specs.declared.node.Node.TheVariants.{Lot, Batch};
 
-use crate::ending::{DrawError, Refusal};
+use crate::ending::{DrawError, InputError};
 use crate::reading::reported_of;
 use crate::words::{Asked, Format};
 use genealogy_svg::{
@@ -30,7 +30,7 @@ fn of_whole(made: Result<Picture, UnitedFault>) -> Result<Picture, DrawError>
 {
     match made {
         Ok(picture) => Ok(picture),
-        Err(UnitedFault::Reported(graph_error)) => Err(DrawError::Refused(Refusal::Whole(
+        Err(UnitedFault::Reported(graph_error)) => Err(DrawError::Refused(InputError::Graph(
             graph_error,
         ))),
         Err(UnitedFault::Memory) => Err(DrawError::Memory),
@@ -51,10 +51,10 @@ fn of_layout(made: Result<Drawing, LayoutFault>) -> Result<Drawing, DrawError>
 {
     match made {
         Ok(drawing) => Ok(drawing),
-        Err(LayoutFault::Circle) => Err(DrawError::Refused(Refusal::Circle)),
+        Err(LayoutFault::Circle) => Err(DrawError::Refused(InputError::Circle)),
         Err(LayoutFault::Lost(node)) => {
             let lost: Node = node;
-            Err(DrawError::Refused(Refusal::Whole(GraphError::Lost(lost))))
+            Err(DrawError::Refused(InputError::Graph(GraphError::Lost(lost))))
         }
         Err(LayoutFault::Memory) => Err(DrawError::Memory),
     }
@@ -102,7 +102,7 @@ fn lot_asked(picture: &Picture, id: &str) -> Result<Option<Node>, DrawError>
 {
     match lot_named(picture, id) {
         Some(node) => Ok(Some(node)),
-        None => Err(DrawError::Refused(Refusal::Absent)),
+        None => Err(DrawError::Refused(InputError::Absent)),
     }
 }
 
@@ -114,7 +114,7 @@ fn batch_asked(picture: &Picture, id: &str) -> Result<Option<Node>, DrawError>
 {
     match batch_named(picture, id) {
         Some(node) => Ok(Some(node)),
-        None => Err(DrawError::Refused(Refusal::Absent)),
+        None => Err(DrawError::Refused(InputError::Absent)),
     }
 }
 

@@ -9,26 +9,26 @@ use std::fmt;
 
 /// Why an input makes no picture.
 #[derive(Clone, Copy, Debug, PartialEq, Eq)]
-pub(crate) enum Refusal {
+pub(crate) enum InputError {
     /// The line of this number is no answer with edges, and this is why.
     Line(u64, LineError),
     /// What its answers report makes none.
-    Whole(GraphError),
+    Graph(GraphError),
     /// Its edges lead in a circle, so that it has no layers: only in SVG.
     Circle,
     /// The lot or batch that was asked for is none of it: only in SVG.
     Absent,
 }
 
-impl fmt::Display for Refusal {
+impl fmt::Display for InputError {
     ghost output = { λ refusal. Some (refusal_text refusal) };
 
     fn fmt<W: fmt::Write>(&self, f: &mut fmt::Formatter<W>) -> fmt::Result {
         match self {
-            Refusal::Line(number, line_error) => write!(f, "line {number}: {line_error}"),
-            Refusal::Whole(graph_error) => write!(f, "{graph_error}"),
-            Refusal::Circle => f.write_str("the edges lead in a circle"),
-            Refusal::Absent => f.write_str("the lot or batch that was asked for isn't there"),
+            InputError::Line(number, line_error) => write!(f, "line {number}: {line_error}"),
+            InputError::Graph(graph_error) => write!(f, "{graph_error}"),
+            InputError::Circle => f.write_str("the edges lead in a circle"),
+            InputError::Absent => f.write_str("the lot or batch that was asked for isn't there"),
         }
     }
 }
@@ -37,7 +37,7 @@ impl fmt::Display for Refusal {
 #[derive(Clone, Copy, Debug, PartialEq, Eq)]
 pub(crate) enum DrawError {
     /// The input makes none.
-    Refused(Refusal),
+    Refused(InputError),
     /// The file can't be opened.
     Open,
     /// A read failed.

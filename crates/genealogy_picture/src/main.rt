@@ -14,7 +14,7 @@ use drawing::draw;
 use ending::{DrawError, status_of};
 use std::fs::File;
 use std::process::ExitCode;
-use words::{Words, read_words};
+use words::{PictureWords, read_words};
 
 fn main(rt: HostRuntime) -> ExitCode {
     let status = match draw_named(&rt) {
@@ -37,7 +37,7 @@ fn draw_named(rt: &HostRuntime) -> Result<u8, WordsFault> {
 }
 
 /// Prints the picture that the arguments ask for.
-fn print_drawn(rt: &HostRuntime, words: Words<'_>) -> Result<(), DrawError> {
+fn print_drawn(rt: &HostRuntime, words: PictureWords<'_>) -> Result<(), DrawError> {
     let text = draw_file(rt, words)?;
     match print!(rt; "{text}") {
         Ok(()) => Ok(()),
@@ -45,7 +45,7 @@ fn print_drawn(rt: &HostRuntime, words: Words<'_>) -> Result<(), DrawError> {
     }
 }
 
-fn draw_file(rt: &HostRuntime, words: Words<'_>) -> Result<String, DrawError> {
+fn draw_file(rt: &HostRuntime, words: PictureWords<'_>) -> Result<String, DrawError> {
     match words.file {
         None => draw(rt.alloc(), words.format, words.asked, &mut rt.reader()),
         Some(name) => match File::open(rt, name) {

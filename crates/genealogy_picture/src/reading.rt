@@ -3,8 +3,8 @@ ghost use Rattle.std.specs.Prelude.{◌≡◌, IfOk};
 ghost use Rattle.genealogy_picture.specs.Reading.{start, numbered, line_ended, taken, read_from};
 ghost use Rattle.genealogy_picture.specs.Reading.{reported_of, ReportsAs};
 
-use crate::answers::{LineError, LineFault, line_into};
-use crate::ending::{DrawError, Refusal};
+use crate::answers::{AnswerLineFault, LineError, line_into};
+use crate::ending::{DrawError, InputError};
 use crate::gathered::Gathered;
 use genealogy_svg::Reported;
 use std::alloc::Global;
@@ -12,15 +12,15 @@ use std::marker::Model;
 
 /// An input that was read so far.
 #[derive(Debug, Drop)]
-struct Reading {
+struct InputReading {
     gathered: Gathered,
     /// The number of the line that is coming, counted from 1.
     number: u64,
-    /// What came of it.
+    /// Its bytes so far.
     held: Vec<u8>,
 }
 
-impl Model for Reading {
+impl Model for InputReading {
     ghost use Rattle.genealogy_picture.specs.ReadingState.{ReadingState};
 
     ghost Value = { ReadingState };
@@ -29,24 +29,24 @@ impl Model for Reading {
 }
 
 /// How a line of a number is reported, where it isn't taken.
-fn numbered(number: u64, taken: Result<(), LineFault>) -> Result<(), DrawError>
+fn numbered(number: u64, taken: Result<(), AnswerLineFault>) -> Result<(), DrawError>
     ensures { result ≡ numbered number taken }
 {
     match taken {
         Ok(()) => Ok(()),
-        Err(LineFault::Reported(line_error)) => Err(DrawError::Refused(Refusal::Line(
+        Err(AnswerLineFault::Reported(line_error)) => Err(DrawError::Refused(InputError::Line(
             number, line_error,
         ))),
-        Err(LineFault::Memory) => Err(DrawError::Memory),
+        Err(AnswerLineFault::Memory) => Err(DrawError::Memory),
     }
 }
 
-impl Reading {
+impl InputReading {
     /// An input of which nothing was read.
     fn new(alloc: Global) -> Self
         ensures { result ≡ start }
     {
-        Reading {
+        InputReading {
             gathered: Gathered::new(alloc),
             number: 1,
             held: Vec::new(alloc),
@@ -85,10 +85,10 @@ impl Reading {
     }
 }
 
-fn read_from(alloc: Global, bytes: &[u8]) -> Result<Reading, DrawError>
+fn read_from(alloc: Global, bytes: &[u8]) -> Result<InputReading, DrawError>
     ensures { ReportsAs (λ reading. reading) result (read_from start bytes.now) }
 {
-    let mut reading = Reading::new(alloc);
+    let mut reading = InputReading::new(alloc);
     for b in bytes {
         reading.take(alloc, *b)?;
     }

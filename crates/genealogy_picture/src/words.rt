@@ -3,7 +3,7 @@ ghost use Rattle.std.specs.Prelude.{◌≡◌, IfErr, IfOk, [], codes, false, ma
 ghost use Rattle.clap.specs.Words.{app_of, fault_of, first_of, found_of, matches_of, rows_of};
 ghost use Rattle.clap.specs.Words.{rule_of, with_rule};
 ghost use Rattle.desk_cli.specs.{IsRefusalOf, is_set};
-ghost use Rattle.genealogy_picture.specs.Words.{asked_of, bare_app, file_rule, format_of};
+ghost use Rattle.genealogy_picture.specs.Words.{node_asked, bare_app, file_rule, format_of};
 ghost use Rattle.genealogy_picture.specs.Words.{flag_rule, id_rule, names, picture_app};
 ghost use Rattle.genealogy_picture.specs.Words.{with_formats, with_nodes};
 
@@ -36,7 +36,7 @@ pub(crate) enum Asked<'a> {
 
 /// The arguments of the program.
 #[derive(Clone, Copy)]
-pub(crate) struct Words<'a> {
+pub(crate) struct PictureWords<'a> {
     /// The name of the file, none for standard input.
     pub(crate) file: Option<&'a str>,
     /// Which node the picture is of.
@@ -150,8 +150,8 @@ fn is_set(matches: &ArgMatches<'_>, name: &str) -> bool
 }
 
 /// Which node the arguments name.
-fn asked_of<'a>(matches: &ArgMatches<'a>) -> Asked<'a>
-    ensures { names result ≡ asked_of (rows_of (found_of matches.now)) }
+fn node_asked<'a>(matches: &ArgMatches<'a>) -> Asked<'a>
+    ensures { names result ≡ node_asked (rows_of (found_of matches.now)) }
 {
     if let Some(lot) = value_of(matches, "lot") {
         return Asked::Lot(lot);
@@ -176,11 +176,14 @@ fn format_of(matches: &ArgMatches<'_>) -> Format
 /// Reads the arguments of a command line, the program's name first.
 ///
 /// `Usage` comes where they aren't understood, `Help` where they ask for help or for the version, and `Memory` for want of memory.
-pub(crate) fn read_words<'a>(alloc: Global, words: &'a [&'a str]) -> Result<Words<'a>, WordsFault>
+pub(crate) fn read_words<'a>(
+    alloc: Global,
+    words: &'a [&'a str],
+) -> Result<PictureWords<'a>, WordsFault>
     ensures named { IfOk result (λ w. option_map (λ s. s.now) w.file
         ≡ first_of (codes "file") (matches_of picture_app (map (λ s. s.now) words.entry.now))) }
     ensures format { IfOk result (λ w. w.format ≡ format_of (matches_of picture_app (map (λ s. s.now) words.entry.now))) }
-    ensures asked { IfOk result (λ w. names w.asked ≡ asked_of (matches_of picture_app (map (λ s. s.now) words.entry.now))) }
+    ensures asked { IfOk result (λ w. names w.asked ≡ node_asked (matches_of picture_app (map (λ s. s.now) words.entry.now))) }
     ensures taken { IfOk result (λ _. fault_of picture_app (map (λ s. s.now) words.entry.now) ≡ []) }
     ensures refused { IfErr result
         (λ fault. IsRefusalOf (fault_of picture_app (map (λ s. s.now) words.entry.now)) fault) }
@@ -189,9 +192,9 @@ pub(crate) fn read_words<'a>(alloc: Global, words: &'a [&'a str]) -> Result<Word
         return Err(WordsFault::Memory);
     };
     match command.try_get_matches_from(words) {
-        Ok(matches) => Ok(Words {
+        Ok(matches) => Ok(PictureWords {
             file: value_of(&matches, "file"),
-            asked: asked_of(&matches),
+            asked: node_asked(&matches),
             format: format_of(&matches),
         }),
         Err(error) => Err(refusal_of(alloc, error)),

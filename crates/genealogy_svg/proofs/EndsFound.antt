@@ -12,7 +12,7 @@ use Rattle.plant_trace.specs.{Node}
 use Rattle.plant_trace.specs.declared.node.Node.TheVariants.{Lot, Batch}
 use Rattle.plant_trace.proofs.LeadsIsReach.{first_in, rest_in}
 use Rattle.genealogy_svg.specs.contracts.model.PictureLotPartialEq.TheImpl.{ghosts as equal}
-use Rattle.genealogy_svg.specs.{nodes_in, HasEnds, IsBetween, ◌>>=◌, batches_from, edge_in, edges_from, edges_in, id_cmp, lot_noted, lot_unit, lots_from, measured, noted_where, or_else, picture_of, picture_with, unit_at, Edges, Lots, ReportsAs}
+use Rattle.genealogy_svg.specs.{nodes_in, HasEnds, IsBetween, ◌>>=◌, batches_from, edge_in, edges_from, edges_in, id_cmp, lot_noted, lot_unit, lots_from, measured, noted_where, or_else, picture_of, picture_with, unit_at, Edges, LotMap, ReportsAs}
 use Rattle.genealogy_svg.specs.declared.model.Picture.{Picture}
 use Rattle.genealogy_svg.specs.declared.model.PictureEdge.{PictureEdge}
 use Rattle.genealogy_svg.specs.declared.model.PictureLot.{PictureLot}
@@ -34,25 +34,25 @@ same_id x y e = tells_apart exact_bytes x y e
 abbrev IsAtItsId : List ℕ × PictureLot → Type 0
 IsAtItsId e = e.0 ≡ e.1.id
 
-insert_at : (o : Ordering) (k : List ℕ) (lot : PictureLot) (e : List ℕ × PictureLot) (es more : Lots) → id_cmp k e.0 ≡ o → k ≡ lot.id
+insert_at : (o : Ordering) (k : List ℕ) (lot : PictureLot) (e : List ℕ × PictureLot) (es more : LotMap) → id_cmp k e.0 ≡ o → k ≡ lot.id
     → All IsAtItsId (e ∷ es) → All IsAtItsId more → All IsAtItsId (match_ordering o ((k, lot) ∷ e ∷ es) ((e.0, lot) ∷ es) (e ∷ more))
 insert_at Less k lot e es more at is all rest = All-cons IsAtItsId (k, lot) (e ∷ es) is all
 insert_at Equal k lot e es more at is all rest = All-cons IsAtItsId (e.0, lot) es (sym (exact_bytes k e.0 at) ∙ is) (All-tail IsAtItsId e es all)
 insert_at Greater k lot e es more at is all rest = All-cons IsAtItsId e more (All-head IsAtItsId e es all) rest
 
-inserted : (es : Lots) (k : List ℕ) (lot : PictureLot) → k ≡ lot.id → All IsAtItsId es → All IsAtItsId (insert_entry id_cmp es k lot)
+inserted : (es : LotMap) (k : List ℕ) (lot : PictureLot) → k ≡ lot.id → All IsAtItsId es → All IsAtItsId (insert_entry id_cmp es k lot)
 inserted [] k lot is all = All-cons IsAtItsId (k, lot) [] is all
 inserted (e ∷ es) k lot is all = insert_at (id_cmp k e.0) k lot e es (insert_entry id_cmp es k lot) refl is all (inserted es k lot is (All-tail IsAtItsId e es all))
 
-known_at : (b : Bool) (es now : Lots) (lot : PictureLot) → or_else (graph_error.Lot lot.id) (cond b (Some es) None) ≡ Ok now → now ≡ es
+known_at : (b : Bool) (es now : LotMap) (lot : PictureLot) → or_else (graph_error.Lot lot.id) (cond b (Some es) None) ≡ Ok now → now ≡ es
 known_at true es now lot h = cc
 known_at false es now lot h = absurd cc
 
-noted_at : (o : Option PictureLot) (es now : Lots) (lot : PictureLot) → All IsAtItsId es → or_else (graph_error.Lot lot.id) (noted_where id_cmp equal.eq es lot.id lot o) ≡ Ok now → All IsAtItsId now
+noted_at : (o : Option PictureLot) (es now : LotMap) (lot : PictureLot) → All IsAtItsId es → or_else (graph_error.Lot lot.id) (noted_where id_cmp equal.eq es lot.id lot o) ≡ Ok now → All IsAtItsId now
 noted_at None es now lot all h = let same : insert_entry id_cmp es lot.id lot ≡ now = cc in subst (All IsAtItsId) same (inserted es lot.id lot refl all)
 noted_at (Some known) es now lot all h = subst (All IsAtItsId) (sym (known_at (equal.eq known lot) es now lot h)) all
 
-all_noted : (es now : Lots) (lots : List PictureLot) → All IsAtItsId es → lots_from es lots ≡ Ok now → All IsAtItsId now
+all_noted : (es now : LotMap) (lots : List PictureLot) → All IsAtItsId es → lots_from es lots ≡ Ok now → All IsAtItsId now
 all_noted es now [] all h = let same : es ≡ now = cc in subst (All IsAtItsId) same all
 all_noted es now (lot ∷ more) all h =
     let t = bind_ok (lot_noted es lot) (λ next. lots_from next more) now h in
@@ -60,14 +60,14 @@ all_noted es now (lot ∷ more) all h =
 
 -- ---- a node with a unit is one of the picture's
 
-lot_found_at : (b : Bool) (id : List ℕ) (e : List ℕ × PictureLot) (es : Lots) (lot : PictureLot) → is_at (id_cmp id) e.0 ≡ b → IsAtItsId e
+lot_found_at : (b : Bool) (id : List ℕ) (e : List ℕ × PictureLot) (es : LotMap) (lot : PictureLot) → is_at (id_cmp id) e.0 ≡ b → IsAtItsId e
     → (lookup (is_at (id_cmp id)) es ≡ Some lot → Contains (map (λ x. Lot x.id) (values_of es)) (Lot id))
     → cond b (Some e.1) (lookup (is_at (id_cmp id)) es) ≡ Some lot → Contains (map (λ x. Lot x.id) (values_of (e ∷ es))) (Lot id)
 lot_found_at true id e es lot at is rest h =
     subst (λ (k : List ℕ). Contains (map (λ x. Lot x.id) (values_of (e ∷ es))) (Lot k)) (sym (same_id id e.0 at ∙ is)) (first_in (Lot e.1.id) (map (λ x. Lot x.id) (values_of es)))
 lot_found_at false id e es lot at is rest h = rest_in (Lot e.1.id) (map (λ x. Lot x.id) (values_of es)) (Lot id) (rest h)
 
-lot_found : (es : Lots) (id : List ℕ) (lot : PictureLot) → All IsAtItsId es → lookup (is_at (id_cmp id)) es ≡ Some lot → Contains (map (λ x. Lot x.id) (values_of es)) (Lot id)
+lot_found : (es : LotMap) (id : List ℕ) (lot : PictureLot) → All IsAtItsId es → lookup (is_at (id_cmp id)) es ≡ Some lot → Contains (map (λ x. Lot x.id) (values_of es)) (Lot id)
 lot_found [] id lot all h = absurd cc
 lot_found (e ∷ es) id lot all h =
     lot_found_at (is_at (id_cmp id) e.0) id e es lot refl (All-head IsAtItsId e es all) (lot_found es id lot (All-tail IsAtItsId e es all)) h
@@ -79,7 +79,7 @@ batch_found (x ∷ xs) id h = ⊎_elim
     (λ later. rest_in (Batch x) (map Batch xs) (Batch id) (batch_found xs id later))
     (or_cases (is_at (id_cmp id) x) (list_any (is_at (id_cmp id)) xs) h)
 
-module _ (lots : Lots) (batches : List (List ℕ)) (noted : All IsAtItsId lots) where
+module _ (lots : LotMap) (batches : List (List ℕ)) (noted : All IsAtItsId lots) where
   abbrev nodes : List Node
   nodes = map (λ x. Lot x.id) (values_of lots) ++ map Batch batches
 

@@ -1,8 +1,8 @@
 pub mod EndsFound
-pub mod LaidOut
+pub mod LayoutParts
 pub mod PathsAlongEdges
-pub mod PositionsInTurn
-pub mod RowsInTurn
+pub mod PositionsLoop
+pub mod RowsLoop
 pub mod EdgesLeadRight
-pub mod LayersInTurn
-pub mod LostEnds
+pub mod LayersLoop
+pub mod DanglingEnds

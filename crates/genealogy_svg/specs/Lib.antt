@@ -1,7 +1,7 @@
 pub mod Dot
 pub mod Reported
 pub mod United
-pub mod Ends
+pub mod EdgeEnds
 pub mod Layouts
 pub mod Layers
 pub mod Positions
@@ -10,9 +10,9 @@ pub mod Svg
 pub use Dot.{mark_colour, mark_name, stock_text}
 unfoldable pub use Dot.{dot_text}
 pub use Reported.{graph_error_text}
-pub use United.{Edges, Lots, ReportsAs, batches_from, edge_in, edges_from, edges_in, id_cmp, lot_noted, lot_unit, lots_from, measured, noted_where, or_else, picture_with, unit_at, ◌>>=◌}
+pub use United.{Edges, LotMap, ReportsAs, batches_from, edge_in, edges_from, edges_in, id_cmp, lot_noted, lot_unit, lots_from, measured, noted_where, or_else, picture_with, unit_at, ◌>>=◌}
 unfoldable pub use United.{picture_of}
-pub use Ends.{HasEnds, IsBetween, nodes_in}
+pub use EdgeEnds.{HasEnds, IsBetween, nodes_in}
 pub use declared.model.Picture.{Picture}
 pub use declared.model.PictureEdge.{PictureEdge}
 pub use declared.model.PictureLot.{PictureLot}

@@ -49,8 +49,8 @@ or_else p (Some a) = Ok a
 
 -- ---- lots, batches and edges, each once
 
-abbrev pub Lots : Type 0
-Lots = List (List ℕ × PictureLot)
+abbrev pub LotMap : Type 0
+LotMap = List (List ℕ × PictureLot)
 
 abbrev pub Edges : Type 0
 Edges = List ((Node × Node) × ℕ)
@@ -62,10 +62,10 @@ id_cmp = slice_cmp nat_cmp
 abbrev pub ends_cmp : Node × Node → Node × Node → Ordering
 ends_cmp x y = ordering_then (node_cmp x.0 y.0) (node_cmp x.1 y.1)
 
-abbrev pub lot_noted : Lots → PictureLot → Result Lots GraphError
+abbrev pub lot_noted : LotMap → PictureLot → Result LotMap GraphError
 lot_noted lots lot = or_else (graph_error.Lot lot.id) (noted id_cmp equal.eq lots lot.id lot)
 
-abbrev pub lots_from : Lots → List PictureLot → Result Lots GraphError
+abbrev pub lots_from : LotMap → List PictureLot → Result LotMap GraphError
 lots_from lots [] = Ok lots
 lots_from lots (lot ∷ more) = lot_noted lots lot >>= (λ now. lots_from now more)
 
@@ -87,7 +87,7 @@ lot_unit node None = Err (graph_error.Lost node)
 lot_unit node (Some lot) = Ok (Some lot.unit)
 
 -- the unit of a lot, none of a batch; each has to be reported
-abbrev pub unit_at : Lots → List (List ℕ) → Node → Result (Option (List ℕ)) GraphError
+abbrev pub unit_at : LotMap → List (List ℕ) → Node → Result (Option (List ℕ)) GraphError
 unit_at lots batches (Lot id) = lot_unit (Lot id) (lookup (is_at (id_cmp id)) lots)
 unit_at lots batches (Batch id) = if list_any (is_at (id_cmp id)) batches then Ok None else Err (graph_error.Lost (Batch id))
 
@@ -101,20 +101,20 @@ measured ends amount (Some unit) other = Ok (record { from = ends.0; to = ends.1
 measured ends amount None (Some unit) = Ok (record { from = ends.0; to = ends.1; amount = amount; unit = unit })
 measured ends amount None None = Err (graph_error.Batches (id_of ends.0) (id_of ends.1))
 
-abbrev pub edge_in : Lots → List (List ℕ) → (Node × Node) × ℕ → Result PictureEdge GraphError
+abbrev pub edge_in : LotMap → List (List ℕ) → (Node × Node) × ℕ → Result PictureEdge GraphError
 edge_in lots batches e =
     unit_at lots batches e.0.0 >>= (λ first.
     unit_at lots batches e.0.1 >>= (λ last.
     measured e.0 e.1 first last))
 
 -- the edges with their units, after these
-abbrev pub edges_in : Lots → List (List ℕ) → List PictureEdge → Edges → Result (List PictureEdge) GraphError
+abbrev pub edges_in : LotMap → List (List ℕ) → List PictureEdge → Edges → Result (List PictureEdge) GraphError
 edges_in lots batches done [] = Ok done
 edges_in lots batches done (e ∷ more) = edge_in lots batches e >>= (λ edge. edges_in lots batches (done ++ edge ∷ []) more)
 
 -- ---- the picture
 
-abbrev pub picture_with : Lots → List (List ℕ) → Edges → Result Picture GraphError
+abbrev pub picture_with : LotMap → List (List ℕ) → Edges → Result Picture GraphError
 picture_with lots batches edges =
     edges_in lots batches [] edges >>= (λ drawn. Ok (record { lots = values_of lots; batches = batches; edges = drawn }))
 

@@ -6,7 +6,7 @@ ghost use Rattle.genealogy_svg.specs.Svg.{lot_texts, lot_box, batch_title, batch
 ghost use Rattle.genealogy_svg.specs.Dot.{stock_text};
 
 use crate::drawing::{BoxPosition, DrawnBatch, DrawnLot};
-use crate::graphviz::{StockText, mark_colour, mark_name};
+use crate::graphviz::{LotStockText, mark_colour, mark_name};
 use crate::model::PictureLot;
 use crate::points::{Point, left_of, middle_of, top_of};
 use plant_base::{DisplayItem, Id};
@@ -46,7 +46,7 @@ impl fmt::Display for StockLine {
             x: middle_of(self.0.position),
             y: top_of(self.0.position) + 34,
         };
-        let text = StockText(self.0.lot);
+        let text = LotStockText(self.0.lot);
         write!(f, "<text{point}>{text}</text>")
     }
 }
@@ -135,7 +135,7 @@ impl fmt::Display for LotTitle {
 
     fn fmt<W: fmt::Write>(&self, f: &mut fmt::Formatter<W>) -> fmt::Result {
         let lot = self.0;
-        let stock = StockText(lot);
+        let stock = LotStockText(lot);
         let mark = MarkEnd(lot);
         let id = lot.id.as_str();
         write!(f, "<title>lot {id}, {stock}{mark}</title>")

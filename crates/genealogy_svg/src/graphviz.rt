@@ -52,9 +52,9 @@ fn borders(is_held: bool, is_recalled: bool) -> u8
 
 /// The text below a lot's id: its definition, and how much is in stock.
 #[derive(Clone, Copy)]
-pub struct StockText(pub PictureLot);
+pub struct LotStockText(pub PictureLot);
 
-impl fmt::Display for StockText {
+impl fmt::Display for LotStockText {
     ghost output = { λ l. Some (stock_text l.0) };
 
     fn fmt<W: fmt::Write>(&self, f: &mut fmt::Formatter<W>) -> fmt::Result {
@@ -74,7 +74,7 @@ impl fmt::Display for LotLabel {
 
     fn fmt<W: fmt::Write>(&self, f: &mut fmt::Formatter<W>) -> fmt::Result {
         let lot = self.0;
-        let stock = StockText(lot);
+        let stock = LotStockText(lot);
         let mark = mark_line(lot.is_held, lot.is_recalled);
         let id = lot.id.as_str();
         write!(f, "{id}\\n{stock}{mark}")
@@ -127,9 +127,9 @@ impl fmt::Display for BatchLabel {
 }
 
 #[derive(Clone, Copy)]
-struct BatchLine;
+struct BatchDotLine;
 
-impl DisplayItem<Id> for BatchLine {
+impl DisplayItem<Id> for BatchDotLine {
     ghost text = { λ _. batch_line };
 
     #[tactic(auto, unfolding(crate::specs::Dot::batch_line))]
@@ -178,7 +178,7 @@ impl fmt::Display for WholeDot<'_> {
     fn fmt<W: fmt::Write>(&self, f: &mut fmt::Formatter<W>) -> fmt::Result {
         let picture = self.0;
         let lots = Joined(picture.lots.as_slice(), LotLine);
-        let batches = Joined(picture.batches.as_slice(), BatchLine);
+        let batches = Joined(picture.batches.as_slice(), BatchDotLine);
         let edges = Joined(picture.edges.as_slice(), EdgeLine);
         write!(
             f,

@@ -18,7 +18,7 @@ mod uniting;
 mod wishes;
 
 pub use drawing::{BoxPosition, Drawing, DrawnBatch, DrawnEdge, DrawnLot, LayoutFault};
-pub use graphviz::{StockText, dot, mark_colour, mark_name};
+pub use graphviz::{LotStockText, dot, mark_colour, mark_name};
 pub use layouts::layout;
 pub use model::{Picture, PictureEdge, PictureLot};
 pub use reported::{GraphError, Reported, ReportedEdge, UnitedFault};

@@ -180,9 +180,9 @@ fn height_of(drawing: &Drawing) -> u64
 
 /// The element that holds all others begins.
 #[derive(Clone, Copy)]
-struct Head(Size);
+struct SvgHead(Size);
 
-impl fmt::Display for Head {
+impl fmt::Display for SvgHead {
     ghost output = { λ h. Some (head h.0.width h.0.height) };
 
     #[tactic(auto, unfolding(crate::specs::Svg::head))]
@@ -270,7 +270,7 @@ impl fmt::Display for WholeDrawing<'_> {
             width: width_of(drawing),
             height: height_of(drawing),
         };
-        let head = Head(size);
+        let head = SvgHead(size);
         let ground = Ground {
             asked: self.asked,
             size,

@@ -14,7 +14,7 @@ use std::collections::{BTreeMap, BTreeSet};
 
 /// A node that waits for those that lead to it, of which so many edges were looked at.
 #[derive(Clone, Copy)]
-struct Waiting {
+struct WaitingNode {
     node: Node,
     looked_up: usize,
 }
@@ -22,7 +22,7 @@ struct Waiting {
 /// The nodes that wait, each but the first for the one before it.
 #[derive(Drop)]
 struct Way {
-    waiting: Vec<Waiting>,
+    waiting: Vec<WaitingNode>,
     nodes: BTreeSet<Node>,
 }
 
@@ -35,13 +35,13 @@ impl Way {
     }
 
     /// The last one, which is taken off.
-    fn pop(&mut self) -> Option<Waiting> {
+    fn pop(&mut self) -> Option<WaitingNode> {
         self.waiting.pop()
     }
 
     /// Has a node wait, after all others.
     fn push(&mut self, node: &Node, looked_up: usize) -> Result<(), AllocError> {
-        self.waiting.push(Waiting {
+        self.waiting.push(WaitingNode {
             node: *node,
             looked_up,
         })?;
@@ -97,7 +97,7 @@ fn descend(
     ends: &Grouped<'_, ByEnd>,
     layers: &mut Layers,
     way: &mut Way,
-    waiting: &Waiting,
+    waiting: &WaitingNode,
 ) -> Result<(), LayoutFault>
     ensures settled { AreSettled ends.now.rows.now layers.old → OnOk result (AreSettled ends.now.rows.now layers.new) }
     ensures more { OnOk result ((other : Node) → IsLayered layers.old other → IsLayered layers.new other) }
@@ -154,7 +154,7 @@ fn layer_node(
         if is_layered(layers, node) {
             return Ok(());
         }
-        let waiting = way.pop().unwrap_or(Waiting {
+        let waiting = way.pop().unwrap_or(WaitingNode {
             node: *node,
             looked_up: 0,
         });

@@ -2,7 +2,7 @@
 ghost use Rattle.std.specs.Prelude.{◌≡◌, [], Some, None, IfOk, OnOk, if◌then◌else◌};
 ghost use Rattle.std.specs.BTreeSet.{insert_key};
 ghost use Rattle.std.specs.Map.{values_of};
-ghost use Rattle.genealogy_svg.specs.Ends.{HasEnds};
+ghost use Rattle.genealogy_svg.specs.EdgeEnds.{HasEnds};
 ghost use Rattle.genealogy_svg.specs.United.{ReportsAs, id_cmp, noted, lots_from, lot_noted};
 ghost use Rattle.genealogy_svg.specs.United.{batches_from, edges_from, edge_noted, unit_at};
 ghost use Rattle.genealogy_svg.specs.United.{measured, id_of, edge_in, edges_in, picture_with};
@@ -16,7 +16,7 @@ use std::alloc::{AllocError, Global};
 use std::collections::{BTreeMap, BTreeSet};
 
 /// The lots by their ids.
-type Lots = BTreeMap<Id, PictureLot>;
+type LotMap = BTreeMap<Id, PictureLot>;
 
 /// The amounts of the edges by where they begin and where they end.
 type Amounts = BTreeMap<(Node, Node), u64>;
@@ -41,7 +41,7 @@ fn note<K: Ord + Copy, V: PartialEq + Copy>(
     }
 }
 
-fn note_lot(lots: &mut Lots, lot: PictureLot) -> Result<(), UnitedFault>
+fn note_lot(lots: &mut LotMap, lot: PictureLot) -> Result<(), UnitedFault>
     ensures { ReportsAs (λ _. lots.new.entries) result (lot_noted lots.old.entries lot) }
 {
     let id = lot.id;
@@ -71,7 +71,7 @@ fn note_batch(batches: &mut BTreeSet<Id>, batch: Id) -> Result<(), AllocError>
 
 // ---- lots, batches and edges, each once
 
-fn lots_of(alloc: Global, reported: &[PictureLot]) -> Result<Lots, UnitedFault>
+fn lots_of(alloc: Global, reported: &[PictureLot]) -> Result<LotMap, UnitedFault>
     ensures { ReportsAs (λ lots. lots.entries) result (lots_from [] reported.now) }
 {
     let mut lots = BTreeMap::new(alloc);
@@ -104,7 +104,7 @@ fn amounts_of(alloc: Global, reported: &[ReportedEdge]) -> Result<Amounts, Unite
 // ---- the units of edges
 
 /// The unit of a lot, none of a batch.
-fn unit_at(lots: &Lots, batches: &BTreeSet<Id>, node: Node) -> Result<Option<Unit>, GraphError>
+fn unit_at(lots: &LotMap, batches: &BTreeSet<Id>, node: Node) -> Result<Option<Unit>, GraphError>
     ensures { result ≡ unit_at lots.now.entries batches.now.keys node }
 {
     match node {
@@ -151,7 +151,7 @@ fn measured(
 }
 
 fn edge_in(
-    lots: &Lots,
+    lots: &LotMap,
     batches: &BTreeSet<Id>,
     ends: &(Node, Node),
     amount: u64,
@@ -169,7 +169,7 @@ fn edge_in(
 
 fn edges_in(
     alloc: Global,
-    lots: &Lots,
+    lots: &LotMap,
     batches: &BTreeSet<Id>,
     amounts: &Amounts,
 ) -> Result<Vec<PictureEdge>, UnitedFault>
@@ -192,7 +192,7 @@ fn edges_in(
 
 // ---- the picture
 
-fn lots_in(alloc: Global, lots: &Lots) -> Result<Vec<PictureLot>, AllocError>
+fn lots_in(alloc: Global, lots: &LotMap) -> Result<Vec<PictureLot>, AllocError>
     ensures { IfOk result (λ list. list.items ≡ values_of lots.now.entries) }
 {
     lots.values().copied().collect(alloc)
@@ -206,7 +206,7 @@ fn batches_in(alloc: Global, batches: &BTreeSet<Id>) -> Result<Vec<Id>, AllocErr
 
 fn picture_with(
     alloc: Global,
-    lots: &Lots,
+    lots: &LotMap,
     batches: &BTreeSet<Id>,
     amounts: &Amounts,
 ) -> Result<Picture, UnitedFault>

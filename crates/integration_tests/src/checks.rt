@@ -135,7 +135,7 @@ const CHECKED: [(&[u8], Checked); 19] = [
 ];
 
 /// Whether a reply is what was said of its command.
-fn is_foretold(said: Checked, reply: &Reply) -> bool {
+fn matches_reply(said: Checked, reply: &Reply) -> bool {
     match (said, reply) {
         (Checked::Accepted, Reply::Accepted(_)) => true,
         (Checked::Refused { refusal, .. }, Reply::Refused(told)) => refusal == *told,
@@ -144,7 +144,7 @@ fn is_foretold(said: Checked, reply: &Reply) -> bool {
 }
 
 /// Checks that a keeper says this of a command, twice, and then answers it.
-fn foretold_by<K: Keeper>(
+fn check_matches<K: Keeper>(
     rt: &impl Abort,
     keeper: &mut K,
     command: &Envelope,
@@ -153,20 +153,20 @@ fn foretold_by<K: Keeper>(
     assert!(rt; keeper.check(command)? == wanted);
     assert!(rt; keeper.check(command)? == wanted);
     let reply = keeper.execute(command)?;
-    assert!(rt; is_foretold(wanted, &reply));
+    assert!(rt; matches_reply(wanted, &reply));
     Ok(reply)
 }
 
 /// Checks that both keepers say this of a command, and answer it alike.
-fn foretold_by_both(
+fn check_matches_both(
     rt: &impl Abort,
     lists: &mut ListKeeper,
     desk: &mut Desk<MemStore>,
     command: &Envelope,
     wanted: Checked,
 ) -> Result<(), Fail> {
-    let over_lists = foretold_by(rt, lists, command, wanted)?;
-    let by_key = foretold_by(rt, desk, command, wanted)?;
+    let over_lists = check_matches(rt, lists, command, wanted)?;
+    let by_key = check_matches(rt, desk, command, wanted)?;
     assert!(rt; over_lists == by_key);
     Ok(())
 }
@@ -176,11 +176,11 @@ fn a_check_names_the_item_and_tells_the_reply(rt: HostRuntime) -> Result<(), Fai
     let mut lists = ListKeeper::new(rt.alloc());
     let mut desk = desk_over(rt.alloc(), in_memory(rt.alloc())?)?;
     for command in &first_commands(rt.alloc(), 20)? {
-        foretold_by_both(&rt, &mut lists, &mut desk, command, Checked::Accepted)?;
+        check_matches_both(&rt, &mut lists, &mut desk, command, Checked::Accepted)?;
     }
     for (line, wanted) in &CHECKED {
         let command = command_of(rt.alloc(), line)?;
-        foretold_by_both(&rt, &mut lists, &mut desk, &command, *wanted)?;
+        check_matches_both(&rt, &mut lists, &mut desk, &command, *wanted)?;
     }
     Ok(())
 }

@@ -1,4 +1,4 @@
-//! Each of twenty commands decided by look-ups over a store and over lists of the same state: the decisions are equal.
+//! Each of twenty commands decided by lookups over a store and over lists of the same state: the decisions are equal.
 use crate::commands::first_commands;
 use crate::stores::{desk_over, in_memory};
 use plant_base::Envelope;
@@ -7,18 +7,18 @@ use plant_desk_store::Desk;
 use plant_keyed::{Keyed, LookupCache};
 use plant_rules::decide;
 use plant_view::{Decision, RowChange, RowParts, ViewFault};
-use sql_tables::Fault;
+use sql_tables::StoreFault;
 use sqlite::{Alter, Connection, MemStore};
 use std::alloc::{AllocGlobal, Global};
 use std::process::Abort;
 use std::test::Fail;
 
-/// Decides a command by look-ups.
+/// Decides a command by lookups.
 fn decided_by_key<S: Alter>(
     alloc: Global,
     connection: &mut Connection<S>,
     envelope: &Envelope,
-) -> Result<Decision, ViewFault<Fault>> {
+) -> Result<Decision, ViewFault<StoreFault>> {
     let mut cache = LookupCache::unread(alloc);
     let mut view = Keyed::new(alloc, connection, &mut cache);
     decide(alloc, &mut view, envelope)
@@ -71,7 +71,7 @@ fn are_same(some: &[RowChange], others: &[RowChange]) -> bool {
     true
 }
 
-/// Checks that a command is decided alike by look-ups and over lists.
+/// Checks that a command is decided alike by lookups and over lists.
 fn check_alike(
     rt: &(impl Abort + AllocGlobal),
     connection: &mut Connection<MemStore>,
@@ -82,7 +82,7 @@ fn check_alike(
     let over_lists = lists.decide(envelope)?;
     match by_key {
         Ok(decision) => assert!(rt; is_same(&decision, &over_lists)),
-        Err(_) => return Err(Fail::from("a look-up fails")),
+        Err(_) => return Err(Fail::from("a lookup fails")),
     }
     Ok(over_lists)
 }

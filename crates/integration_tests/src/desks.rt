@@ -4,7 +4,7 @@ use plant_desk::{DeskFault, Keeper, ListKeeper, Question, Reply, RunReport};
 use plant_desk_store::Desk;
 use plant_tables::{commit_changes, commit_opening};
 use plant_view::RowChange;
-use sql_tables::Fault;
+use sql_tables::StoreFault;
 use sqlite::{Connection, FileStore, Files, MemStore, Options};
 use sqlite_disk::{Disk, Fuse, Memory};
 use std::alloc::Global;
@@ -166,7 +166,7 @@ fn a_row_that_no_column_holds_leaves_nothing(rt: HostRuntime) -> Result<(), Fail
         return Err(Fail::from("a transaction is open"));
     }
     let reported = commit_changes(&mut connection, &overfull(rt.alloc())?);
-    assert!(rt; reported == Err(Fault::Store));
+    assert!(rt; reported == Err(StoreFault::Store));
     assert_eq!(rt; classes(&mut connection)?, 0);
     Ok(())
 }

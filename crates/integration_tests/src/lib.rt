@@ -1,5 +1,5 @@
 //! What the crates do that no built program comes to: sources of edges that count, fail and lie, keepers that fail and runs whose reads
-//! run out, a list of commands run at once, a desk that a fault has shut, a row that no column holds, rows by any key, tables raised by a
+//! run out, a list of commands run at once, a desk that a fault has shut, a row that no column holds, rows by any key, tables migrated by a
 //! version, the first broken rule of loaded tables, decisions and checks by key and over lists, requests over readers that count, and tasks
 //! over both kinds of store.
 #![tactic(auto)]
@@ -17,9 +17,9 @@ mod groups;
 #[cfg(test)]
 mod keepers;
 #[cfg(test)]
-mod programs;
+mod migration;
 #[cfg(test)]
-mod raising;
+mod programs;
 #[cfg(test)]
 mod reopening;
 #[cfg(test)]

@@ -4,7 +4,7 @@ use crate::stores::{desk_over, in_memory};
 use crate::streams::{Narrow, Trickle};
 use plant_desk::{Answer, Keeper, ListKeeper, Question};
 use plant_http::{ServeFault, Served, serve_one};
-use plant_http_requests::{Profile, Routes};
+use plant_http_requests::{Profile, Routes, Terms};
 use std::alloc::AllocGlobal;
 use std::process::Abort;
 use std::test::Fail;
@@ -114,7 +114,11 @@ fn served<K: Keeper>(
     let end = serve_one(
         rt.alloc(),
         &routes,
-        Profile::Open,
+        Terms {
+            profile: Profile::Open,
+            most_ahead: None,
+            now: None,
+        },
         request,
         &mut writer,
         keeper,

@@ -4,9 +4,7 @@ ghost use Rattle.std.specs.Prelude.{◌≡◌, ◌<◌, refl};
 ghost use Rattle.plant_trace.specs.HoldsIfHonest.{same_along};
 
 use plant_base::Id;
-use plant_trace::{
-    Direction, Edges, Listed, Node, TraceFault, acyclic, closure, closure_in_rounds,
-};
+use plant_trace::{Direction, Edges, Node, PairList, TraceFault, acyclic, closure};
 use std::alloc::Global;
 use std::test::Fail;
 
@@ -27,7 +25,7 @@ enum End<'a> {
 /// A source that can be trusted for all of its calls but the last.
 #[derive(Drop)]
 struct Ending<'a> {
-    inner: Listed<'a>,
+    inner: PairList<'a>,
     asked: Vec<Node>,
     calls: u32,
     end: End<'a>,
@@ -37,7 +35,7 @@ impl<'a> Ending<'a> {
     /// A source over these pairs, with so many calls.
     fn new(alloc: Global, pairs: &'a [(Node, Node)], calls: u32, end: End<'a>) -> Ending<'a> {
         Ending {
-            inner: Listed { alloc, pairs },
+            inner: PairList { alloc, pairs },
             asked: Vec::new(alloc),
             calls,
             end,
@@ -165,8 +163,6 @@ fn a_liar_is_listed_in_order(rt: HostRuntime) -> Result<(), Fail> {
     let mut source = Ending::new(alloc, &pairs, 2, End::Lies(&lies));
     let nodes = closure(alloc, &mut source, lot("L-1")?, Direction::Forward)?;
     assert_eq!(rt; nodes, lots(alloc, &["A-1", "L-2", "L-3", "Z-1"])?);
-    let slow = closure_in_rounds(alloc, &mut source, lot("L-1")?, Direction::Back)?;
-    assert_eq!(rt; slow, lots(alloc, &["A-1", "Z-1"])?);
     Ok(())
 }
 

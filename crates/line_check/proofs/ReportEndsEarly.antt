@@ -3,7 +3,7 @@ use Rattle.std.proofs.Common.{◌≡◌, ℕ, ◌<◌, List, [], ◌∷◌, ◌+
 use Rattle.std.specs.Io.KnownBytes.{Appends, Consumes, IsAtEnd, Keeps}
 use Rattle.plant_base.specs.{Agrees}
 use Rattle.plant_text.specs.{held_after, AppendsPrefix}
-use Rattle.plant_text.proofs.HeldLine.{each-append}
+use Rattle.plant_text.proofs.BufferSuffices.{each-append}
 use Rattle.plant_text.proofs.KnownBytes.{Appends-nil, Appends-append}
 use Rattle.desk_cli.specs.{CheckFault}
 use Rattle.desk_cli.specs.declared.check_fault.CheckFault.TheVariants as fault

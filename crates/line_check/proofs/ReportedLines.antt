@@ -6,14 +6,14 @@ use Rattle.std.specs.Io.KnownBytes.{Appends, Consumes, IsAtEnd}
 use Rattle.std.specs.Str.Lines.{lines}
 use Rattle.plant_text.specs.{part_from, ended_lines, held_after, longest_line}
 use Rattle.plant_text.proofs.KnownBytes.{Appends-nil, Appends-append}
-use Rattle.plant_text.proofs.LinesAreStd.{lines_are}
+use Rattle.plant_text.proofs.LinesMatchStd.{lines_are}
 use Rattle.line_check.specs.declared.judge.Verdict.{Verdict}
 use Rattle.line_check.specs.declared.judge.Verdict.TheVariants as verdict
 use Rattle.line_check.specs.declared.lines.Tally.{Tally}
 use Rattle.desk_cli.specs.{CheckFault}
 use Rattle.line_check.specs.{verdict_of, verdicts, line_text, texts, tally_with, tally_after, end_text, no_lines, report, some_bad, verdicts_after, AreWrittenAndCounted}
 use Rattle.line_check.proofs.VerdictOfLine.{verdict_empty, verdict_long}
-use Rattle.plant_text.proofs.HeldLine.{each-append, each-prefix, last_as_whole}
+use Rattle.plant_text.proofs.BufferSuffices.{each-append, each-prefix, last_as_whole}
 
 -- one verdict counts one line
 tally_with_lines : (t : Tally) (v : Verdict) → (tally_with t v).lines ≡ t.lines + 1

@@ -4,7 +4,7 @@ use Rattle.std.proofs.lemmas.Bool.Decides.{nat_tests}
 use Rattle.plant_json_in.specs.{FormatError}
 use Rattle.plant_json_in.specs.declared.format_errors.FormatError.TheVariants as format_error
 use Rattle.plant_text.specs.{Line, longest_line, line_says}
-use Rattle.plant_text.proofs.LineSays.{says_long}
+use Rattle.plant_text.proofs.LineMeaning.{says_long}
 use Rattle.line_check.specs.declared.judge.Verdict.TheVariants as verdict
 use Rattle.plant_text_checks.specs.declared.reason.Reason.TheVariants as reason
 use Rattle.line_check.specs.{verdict_where, verdict_of}

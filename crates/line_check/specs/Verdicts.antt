@@ -11,7 +11,7 @@ use Rattle.line_check.specs.declared.judge.Verdict.TheVariants as verdict
 
 abbrev pub verdict_without : Option CommandError → Verdict
 verdict_without None = verdict.Command
-verdict_without (Some m) = verdict.Bad (reason.Whole m)
+verdict_without (Some m) = verdict.Bad (reason.Command m)
 
 -- a command is bad where the desk refuses it as BadForm whatever its state
 abbrev pub command_verdict : Command → Verdict

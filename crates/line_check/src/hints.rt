@@ -1,7 +1,7 @@
 //! Hints on bad lines: what is probably meant. A hint goes to standard error, apart from the report; nothing is promised of it.
 
+use crate::command_words::command_words;
 use crate::question_words::question_words;
-use crate::words::command_words;
 use jiff::Timestamp;
 use plant_json_in::{FormatError, Member, ShapeError, command_kind, own_of, shared_members};
 use plant_text::write_line;

@@ -3,7 +3,7 @@ ghost use Rattle.std.specs.Prelude.{◌≡◌, true, IfOk};
 ghost use Rattle.line_check.specs.Verdicts.{command_verdict, verdict_of, has_reason};
 
 use plant_base::Command;
-use plant_text::{Fault, Line, read_line_or_error};
+use plant_text::{Line, ReadFault, read_line_or_error};
 use plant_text_checks::{Reason, command_error_of};
 use std::alloc::Global;
 
@@ -29,7 +29,7 @@ fn judge_command(body: &Command) -> Verdict
     ensures { result ≡ command_verdict body.now }
 {
     match command_error_of(body) {
-        Some(command_error) => Verdict::Bad(Reason::Whole(command_error)),
+        Some(command_error) => Verdict::Bad(Reason::Command(command_error)),
         None => Verdict::Command,
     }
 }
@@ -47,7 +47,7 @@ pub(crate) fn judge(alloc: Global, line: &[u8]) -> Result<Verdict, MemoryError>
         Ok(Line::Command(envelope)) => Ok(judge_command(&envelope.body)),
         Ok(Line::Question(_)) => Ok(Verdict::Question),
         Ok(Line::Check(_)) => Ok(Verdict::Question),
-        Err(Fault::Reported(format_error)) => Ok(Verdict::Bad(Reason::Shape(format_error))),
-        Err(Fault::Memory) => Err(MemoryError),
+        Err(ReadFault::Reported(format_error)) => Ok(Verdict::Bad(Reason::Shape(format_error))),
+        Err(ReadFault::Memory) => Err(MemoryError),
     }
 }

@@ -96,7 +96,7 @@ fn write_verdict_line<W: Write>(
     }
 }
 
-/// Writes the counts.
+/// Writes the line of the counts, as `3 commands, 2 questions`.
 fn write_counts<W: Write>(alloc: Global, writer: &mut W, tally: Tally) -> Result<(), CheckFault>
     ensures text { OnOk result (Appends (W.contents writer.old) (W.contents writer.new)
         (with_lf (counts_text tally))) }
@@ -151,12 +151,10 @@ fn take_verdict<W: Write>(
 {
     let now = tally_with(tally, verdict)?;
     match &verdict {
-        Verdict::Bad(reason) => match write_verdict_line(alloc, writer, now.lines, *reason) {
-            Ok(()) => Ok(now),
-            Err(fault) => Err(fault),
-        },
-        Verdict::Nothing | Verdict::Command | Verdict::Question => Ok(now),
+        Verdict::Bad(reason) => write_verdict_line(alloc, writer, now.lines, *reason)?,
+        Verdict::Nothing | Verdict::Command | Verdict::Question => {}
     }
+    Ok(now)
 }
 
 /// Gives a hint on the line after so many, where it is a bad one among the first.
@@ -234,13 +232,9 @@ fn end_line<W: Write, H: Write>(
     ensures early { IfErr result (λ fault. EndsEarly fault (W.contents writer.old) (W.contents writer.new)
         (texts tally.lines (verdict_of (strip_carriage_return held.old.items) ∷ []))) }
 {
-    match take_line(alloc, writer, hints, tally, without_carriage_return(held)) {
-        Ok(now) => {
-            held.clear();
-            Ok(now)
-        }
-        Err(fault) => Err(fault),
-    }
+    let now = take_line(alloc, writer, hints, tally, without_carriage_return(held))?;
+    held.clear();
+    Ok(now)
 }
 
 /// Holds a byte more of the line, while there is room.
@@ -314,10 +308,8 @@ fn write_end<W: Write>(alloc: Global, writer: &mut W, tally: Tally) -> Result<bo
     if tally.bad {
         return Ok(true);
     }
-    match write_counts(alloc, writer, tally) {
-        Ok(()) => Ok(false),
-        Err(fault) => Err(fault),
-    }
+    write_counts(alloc, writer, tally)?;
+    Ok(false)
 }
 
 /// Takes the last line, which no LF ended, and writes the end.
@@ -391,7 +383,7 @@ fn check_pieces<R: Read, W: Write, H: Write>(
 /// `Read`: a read failed, or the input had not ended after 10^9 reads. `Write`: a write failed, or took no byte. `Memory`: memory was refused.
 /// At each of them a front of the report on the input was written, at `Write` not all of it. `Open` never comes.
 ///
-/// In the clauses, `bytes` are those that the reader has lost, to its end; after a fault those that it had left, where it reports them, and some bytes
+/// In the clauses, `bytes` are those that were read, up to the end; after a fault those that the reader had left, where it reports them, and some bytes
 /// where it reports none.
 pub(crate) fn check_lines<R: Read, W: Write, H: Write>(
     alloc: Global,

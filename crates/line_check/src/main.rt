@@ -1,6 +1,7 @@
 //! Checks lines before they are sent: what is wrong with each that the desk would answer BadForm.
 #![tactic(auto)]
 
+mod command_words;
 mod ending;
 mod hints;
 mod judge;
@@ -8,7 +9,6 @@ mod lines;
 mod question_words;
 mod rules;
 mod schema;
-mod words;
 
 use desk_cli::{CheckFault, WordsFault, print_refused, read_arguments, read_line_check, texts_of};
 use ending::status_of;

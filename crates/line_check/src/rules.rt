@@ -1,7 +1,7 @@
 //! The JSON Schema of a value by its rule. What a value is is said in the words of the reports on lines.
 
 use plant_base::{GREATEST_AMOUNT, GREATEST_MOMENT};
-use plant_json_in::Rule;
+use plant_json_in::MemberRule;
 use serde_json::{Value, json};
 use std::alloc::{AllocError, Global};
 
@@ -45,41 +45,41 @@ const ORDER_STATES: [&str; 4] = ["open", "cancelled", "released", "finished"];
 const RECIPE_STATES: [&str; 3] = ["draft", "approved", "withdrawn"];
 
 /// The rules that have a definition of their own, to which members refer.
-pub(crate) const DEFINED: [Rule; 13] = [
-    Rule::Id,
-    Rule::Text,
-    Rule::Unit,
-    Rule::Due,
-    Rule::Amount,
-    Rule::Moment,
-    Rule::Word,
-    Rule::OrderState,
-    Rule::RecipeState,
-    Rule::RecipeCursor,
-    Rule::DueCursor,
-    Rule::HoldCursor,
-    Rule::MovementCursor,
+pub(crate) const DEFINED: [MemberRule; 13] = [
+    MemberRule::Id,
+    MemberRule::Text,
+    MemberRule::Unit,
+    MemberRule::Due,
+    MemberRule::Amount,
+    MemberRule::Moment,
+    MemberRule::Word,
+    MemberRule::OrderState,
+    MemberRule::RecipeState,
+    MemberRule::RecipeCursor,
+    MemberRule::DueCursor,
+    MemberRule::HoldCursor,
+    MemberRule::MovementCursor,
 ];
 
 /// The name of a rule's definition, `None` where it has none.
-pub(crate) fn name_of(rule: Rule) -> Option<&'static str> {
+pub(crate) fn name_of(rule: MemberRule) -> Option<&'static str> {
     match rule {
-        Rule::Id => Some("id"),
-        Rule::Text => Some("text"),
-        Rule::Unit => Some("unit"),
-        Rule::Due => Some("due"),
-        Rule::Amount => Some("amount"),
-        Rule::Moment => Some("moment"),
-        Rule::Word => Some("batch_word"),
-        Rule::OrderState => Some("order_state"),
-        Rule::RecipeState => Some("recipe_state"),
-        Rule::RecipeCursor => Some("recipe_cursor"),
-        Rule::DueCursor => Some("due_cursor"),
-        Rule::HoldCursor => Some("hold_cursor"),
-        Rule::MovementCursor => Some("movement_cursor"),
-        Rule::Number(_, _) | Rule::Small(_, _) => None,
-        Rule::Command | Rule::Question | Rule::Kind => None,
-        Rule::List | Rule::Object => None,
+        MemberRule::Id => Some("id"),
+        MemberRule::Text => Some("text"),
+        MemberRule::Unit => Some("unit"),
+        MemberRule::Due => Some("due"),
+        MemberRule::Amount => Some("amount"),
+        MemberRule::Moment => Some("moment"),
+        MemberRule::Word => Some("batch_word"),
+        MemberRule::OrderState => Some("order_state"),
+        MemberRule::RecipeState => Some("recipe_state"),
+        MemberRule::RecipeCursor => Some("recipe_cursor"),
+        MemberRule::DueCursor => Some("due_cursor"),
+        MemberRule::HoldCursor => Some("hold_cursor"),
+        MemberRule::MovementCursor => Some("movement_cursor"),
+        MemberRule::Number(_, _) | MemberRule::Small(_, _) => None,
+        MemberRule::Command | MemberRule::Question | MemberRule::Kind => None,
+        MemberRule::List | MemberRule::Object => None,
     }
 }
 
@@ -103,33 +103,33 @@ fn words_value(alloc: Global, says: &str, words: &[&str]) -> Result<Value, Alloc
 }
 
 /// The JSON Schema of the values that obey a rule.
-pub(crate) fn rule_value(alloc: Global, rule: Rule) -> Result<Value, AllocError> {
+pub(crate) fn rule_value(alloc: Global, rule: MemberRule) -> Result<Value, AllocError> {
     let text = rule.to_string(alloc)?;
     let says = text.as_str();
     match rule {
-        Rule::Id => pattern_value(alloc, says, ID),
-        Rule::Text => pattern_value(alloc, says, TEXT),
-        Rule::Unit => pattern_value(alloc, says, UNIT),
-        Rule::Due => pattern_value(alloc, says, DUE),
-        Rule::RecipeCursor => pattern_value(alloc, says, RECIPE_CURSOR),
-        Rule::DueCursor => pattern_value(alloc, says, DUE_CURSOR),
-        Rule::HoldCursor => pattern_value(alloc, says, HOLD_CURSOR),
-        Rule::MovementCursor => pattern_value(alloc, says, MOVEMENT_CURSOR),
-        Rule::Amount => range_value(alloc, says, 1, GREATEST_AMOUNT),
-        Rule::Moment => range_value(alloc, says, 0, GREATEST_MOMENT),
-        Rule::Number(least, greatest) => {
+        MemberRule::Id => pattern_value(alloc, says, ID),
+        MemberRule::Text => pattern_value(alloc, says, TEXT),
+        MemberRule::Unit => pattern_value(alloc, says, UNIT),
+        MemberRule::Due => pattern_value(alloc, says, DUE),
+        MemberRule::RecipeCursor => pattern_value(alloc, says, RECIPE_CURSOR),
+        MemberRule::DueCursor => pattern_value(alloc, says, DUE_CURSOR),
+        MemberRule::HoldCursor => pattern_value(alloc, says, HOLD_CURSOR),
+        MemberRule::MovementCursor => pattern_value(alloc, says, MOVEMENT_CURSOR),
+        MemberRule::Amount => range_value(alloc, says, 1, GREATEST_AMOUNT),
+        MemberRule::Moment => range_value(alloc, says, 0, GREATEST_MOMENT),
+        MemberRule::Number(least, greatest) => {
             range_value(alloc, says, u64::from(least), u64::from(greatest))
         }
-        Rule::Small(least, greatest) => {
+        MemberRule::Small(least, greatest) => {
             range_value(alloc, says, u64::from(least), u64::from(greatest))
         }
-        Rule::Word => words_value(alloc, says, &BATCH_WORDS),
-        Rule::OrderState => words_value(alloc, says, &ORDER_STATES),
-        Rule::RecipeState => words_value(alloc, says, &RECIPE_STATES),
-        Rule::Command | Rule::Question | Rule::Kind => {
+        MemberRule::Word => words_value(alloc, says, &BATCH_WORDS),
+        MemberRule::OrderState => words_value(alloc, says, &ORDER_STATES),
+        MemberRule::RecipeState => words_value(alloc, says, &RECIPE_STATES),
+        MemberRule::Command | MemberRule::Question | MemberRule::Kind => {
             json!(in alloc; {"description": says, "type": "string"})
         }
-        Rule::List => json!(in alloc; {"description": says, "type": "array"}),
-        Rule::Object => json!(in alloc; {"description": says, "type": "object"}),
+        MemberRule::List => json!(in alloc; {"description": says, "type": "array"}),
+        MemberRule::Object => json!(in alloc; {"description": says, "type": "object"}),
     }
 }

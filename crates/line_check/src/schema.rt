@@ -1,13 +1,13 @@
 //! The JSON Schema (draft 2020-12) of lines. Its members and their rules are those of the tables by which lines are read, so that a further
 //! command, question or member is in it without being named here.
 
+use crate::command_words::command_words;
 use crate::question_words::question_words;
 use crate::rules::{DEFINED, name_of, rule_value};
-use crate::words::command_words;
 use plant_base::{GREATEST_ORDERS, GREATEST_PARTS};
 use plant_json_in::{
-    AskedKind, Member, NodeKind, QuestionKind, Row, Rule, asked_kind, check_members, command_kind,
-    own_of, question_members, row_own, shared_members,
+    AskedKind, Member, MemberRule, NodeKind, QuestionKind, RowKind, asked_kind, check_members,
+    command_kind, own_of, question_members, row_own, shared_members,
 };
 use plant_recipe::GREATEST_LINES;
 use serde_json::{Map, Value, json};
@@ -17,17 +17,17 @@ use std::alloc::{AllocError, Global};
 const DRAFT: &str = "https://json-schema.org/draft/2020-12/schema";
 
 /// The rows of lists, each with its name in the JSON Schema and the word of its kind, where it has one.
-const ROWS: [(Row, &str, &str); 6] = [
-    (Row::Part, "part", ""),
-    (Row::Order, "import_order", ""),
-    (Row::In, "line_in", "in"),
-    (Row::Out, "line_out", "out"),
-    (Row::Parameter, "line_par", "par"),
-    (Row::Phase, "line_phase", "phase"),
+const ROWS: [(RowKind, &str, &str); 6] = [
+    (RowKind::Part, "part", ""),
+    (RowKind::Order, "import_order", ""),
+    (RowKind::In, "line_in", "in"),
+    (RowKind::Out, "line_out", "out"),
+    (RowKind::Parameter, "line_par", "par"),
+    (RowKind::Phase, "line_phase", "phase"),
 ];
 
 /// The definitions of the JSON Schema, by their names.
-type Definitions = Map<String, Value>;
+type SchemaDefinitions = Map<String, Value>;
 
 /// A reference to a definition.
 fn reference(alloc: Global, name: &str) -> Result<Value, AllocError> {
@@ -38,7 +38,7 @@ fn reference(alloc: Global, name: &str) -> Result<Value, AllocError> {
 /// Adds a definition.
 fn define(
     alloc: Global,
-    definitions: &mut Definitions,
+    definitions: &mut SchemaDefinitions,
     name: &str,
     value: Value,
 ) -> Result<(), AllocError> {
@@ -75,8 +75,9 @@ fn list_value(alloc: Global, member: Member) -> Result<Value, AllocError> {
 fn member_value(alloc: Global, member: Member, word: &str) -> Result<Value, AllocError> {
     let rule = member.rule();
     match (rule, name_of(rule)) {
-        (Rule::Command | Rule::Question | Rule::Kind, _) => json!(in alloc; {"const": word}),
-        (Rule::List, _) => list_value(alloc, member),
+        (MemberRule::Command | MemberRule::Question | MemberRule::Kind, _) =>
+            json!(in alloc; {"const": word}),
+        (MemberRule::List, _) => list_value(alloc, member),
         (_, Some(name)) => reference(alloc, name),
         (_, None) => rule_value(alloc, rule),
     }
@@ -85,7 +86,7 @@ fn member_value(alloc: Global, member: Member, word: &str) -> Result<Value, Allo
 /// Adds members to the properties of an object that has this word, and to those that it needs.
 fn add_members(
     alloc: Global,
-    properties: &mut Definitions,
+    properties: &mut SchemaDefinitions,
     needed: &mut Vec<Value>,
     members: &[Member],
     word: &str,
@@ -141,7 +142,7 @@ fn asked_value(alloc: Global, kind: AskedKind, word: &str) -> Result<Value, Allo
 }
 
 /// Adds each command, and what is one of them.
-fn define_commands(alloc: Global, definitions: &mut Definitions) -> Result<(), AllocError> {
+fn define_commands(alloc: Global, definitions: &mut SchemaDefinitions) -> Result<(), AllocError> {
     let mut names = Vec::new(alloc);
     for word in command_words() {
         if let Some(kind) = command_kind(*word) {
@@ -155,7 +156,7 @@ fn define_commands(alloc: Global, definitions: &mut Definitions) -> Result<(), A
 }
 
 /// Adds each question, and what is one of them.
-fn define_questions(alloc: Global, definitions: &mut Definitions) -> Result<(), AllocError> {
+fn define_questions(alloc: Global, definitions: &mut SchemaDefinitions) -> Result<(), AllocError> {
     let mut names = Vec::new(alloc);
     for word in question_words() {
         if let Some(kind) = asked_kind(*word) {
@@ -173,7 +174,7 @@ fn define_questions(alloc: Global, definitions: &mut Definitions) -> Result<(), 
 }
 
 /// Adds the rows of lists, and what is a line of a recipe.
-fn define_rows(alloc: Global, definitions: &mut Definitions) -> Result<(), AllocError> {
+fn define_rows(alloc: Global, definitions: &mut SchemaDefinitions) -> Result<(), AllocError> {
     let mut lines = Vec::new(alloc);
     for (row, name, word) in ROWS {
         let value = object_value(alloc, row_own(row), &[], word)?;
@@ -186,7 +187,7 @@ fn define_rows(alloc: Global, definitions: &mut Definitions) -> Result<(), Alloc
 }
 
 /// Adds the rules of values.
-fn define_rules(alloc: Global, definitions: &mut Definitions) -> Result<(), AllocError> {
+fn define_rules(alloc: Global, definitions: &mut SchemaDefinitions) -> Result<(), AllocError> {
     for rule in DEFINED {
         if let Some(name) = name_of(rule) {
             define(alloc, definitions, name, rule_value(alloc, rule)?)?;

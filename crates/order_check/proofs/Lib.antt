@@ -1,1 +1,1 @@
-pub mod ConflictsInSequence
+pub mod ConflictsConcatenate

@@ -7,10 +7,10 @@ use Rattle.plant_rules_production.specs.{is_same_order}
 use Rattle.plant_json_in.specs.{shape_error_text}
 use Rattle.plant_json_in.specs.declared.members.Member.TheVariants as member
 use Rattle.plant_json_in.specs.declared.format_errors.ShapeError.TheVariants as shape_error
-use Rattle.order_check.specs.declared.reason.Reason.{Reason}
-use Rattle.order_check.specs.declared.reason.Reason.TheVariants as reason
+use Rattle.order_check.specs.declared.reason.CsvReason.{CsvReason}
+use Rattle.order_check.specs.declared.reason.CsvReason.TheVariants as reason
 use Rattle.order_check.specs.declared.conflicts.Conflict.{Conflict}
-use Rattle.order_check.specs.declared.verdict.Verdict.{Verdict}
+use Rattle.order_check.specs.declared.verdict.FileVerdict.{FileVerdict}
 
 -- ---- conflicts
 
@@ -38,17 +38,17 @@ conflicts_of orders = conflicts_among orders orders
 -- ---- the verdict
 
 -- every fault of the file, each order that conflicts with an earlier one, and how many orders there are
-abbrev pub verdict_of : List ℕ → Verdict
+abbrev pub verdict_of : List ℕ → FileVerdict
 verdict_of text = record { faults = faults_of text; conflicts = conflicts_of (numbered_orders_of text); orders = length (numbered_orders_of text) }
 
 -- whether it is an order file that an import takes, whatever is in the desk
-abbrev pub is_good : Verdict → Bool
+abbrev pub is_good : FileVerdict → Bool
 is_good v = (length v.faults == 0) && (length v.conflicts == 0)
 
 -- ---- texts
 
 -- why a file has a fault of this kind
-abbrev pub reason_of : CsvKind → Reason
+abbrev pub reason_of : CsvKind → CsvReason
 reason_of kind.TooLong = reason.TooLong
 reason_of kind.Header = reason.Header
 reason_of kind.Shape = reason.Shape
@@ -61,7 +61,7 @@ reason_of kind.Priority = reason.Field (shape_error.Breaks member.Priority)
 reason_of kind.TooManyRows = reason.TooManyRows
 reason_of kind.Memory = reason.Memory
 
-abbrev pub reason_text : Reason → List ℕ
+abbrev pub reason_text : CsvReason → List ℕ
 reason_text reason.TooLong = codes "the file is longer than 262144 bytes"
 reason_text reason.Header = codes "the first line isn't order,recipe,version,size,due,priority, with commas between and neither semicolons nor tabs"
 reason_text reason.Shape = codes "the row hasn't six fields with commas between"

@@ -11,7 +11,7 @@ use ending::{end_of, status_of};
 use std::fs::File;
 use std::io;
 use std::process::ExitCode;
-use verdict::{Count, FaultLine, Verdict, judge};
+use verdict::{Count, FaultLine, FileVerdict, judge};
 
 fn main(rt: HostRuntime) -> ExitCode {
     let status = match check_named(&rt) {
@@ -37,7 +37,7 @@ fn check_named(rt: &HostRuntime) -> Result<u8, WordsFault> {
 }
 
 /// The verdict on the file of a name, on standard input where there is none.
-fn judge_file(rt: &HostRuntime, file: Option<&str>) -> Result<Verdict, CheckFault> {
+fn judge_file(rt: &HostRuntime, file: Option<&str>) -> Result<FileVerdict, CheckFault> {
     match file {
         None => judge(rt.alloc(), &mut rt.reader()),
         Some(name) => match File::open(rt, name) {
@@ -48,7 +48,7 @@ fn judge_file(rt: &HostRuntime, file: Option<&str>) -> Result<Verdict, CheckFaul
 }
 
 /// Prints a verdict: each fault and each conflict in a line, or how many orders there are.
-fn write_verdict(rt: &HostRuntime, verdict: &Verdict) -> io::Result<()> {
+fn write_verdict(rt: &HostRuntime, verdict: &FileVerdict) -> io::Result<()> {
     if verdict.is_good() {
         let count = Count(verdict.orders);
         return println!(rt; "{count}");

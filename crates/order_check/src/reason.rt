@@ -8,7 +8,7 @@ use std::fmt;
 
 /// Why a file has a fault.
 #[derive(Clone, Copy, Debug, PartialEq, Eq)]
-pub(crate) enum Reason {
+pub(crate) enum CsvReason {
     /// It is longer than 262,144 bytes.
     TooLong,
     /// Its first line isn't the header: also where semicolons or tabs are between the fields.
@@ -23,38 +23,38 @@ pub(crate) enum Reason {
     Memory,
 }
 
-impl fmt::Display for Reason {
+impl fmt::Display for CsvReason {
     ghost output = { λ reason. Some (reason_text reason) };
 
     fn fmt<W: fmt::Write>(&self, f: &mut fmt::Formatter<W>) -> fmt::Result {
         match self {
-            Reason::TooLong => f.write_str("the file is longer than 262144 bytes"),
-            Reason::Header => f.write_str(
+            CsvReason::TooLong => f.write_str("the file is longer than 262144 bytes"),
+            CsvReason::Header => f.write_str(
                 "the first line isn't order,recipe,version,size,due,priority, with commas between and neither semicolons nor tabs",
             ),
-            Reason::Shape => f.write_str("the row hasn't six fields with commas between"),
-            Reason::Field(shape_error) => write!(f, "{shape_error}"),
-            Reason::TooManyRows => f.write_str("the file has more than 1000 orders"),
-            Reason::Memory => f.write_str("memory was refused"),
+            CsvReason::Shape => f.write_str("the row hasn't six fields with commas between"),
+            CsvReason::Field(shape_error) => write!(f, "{shape_error}"),
+            CsvReason::TooManyRows => f.write_str("the file has more than 1000 orders"),
+            CsvReason::Memory => f.write_str("memory was refused"),
         }
     }
 }
 
 /// Why a file has a fault of this kind.
-pub(crate) fn reason_of(kind: CsvKind) -> Reason
+pub(crate) fn reason_of(kind: CsvKind) -> CsvReason
     ensures { result ≡ reason_of kind }
 {
     match kind {
-        CsvKind::TooLong => Reason::TooLong,
-        CsvKind::Header => Reason::Header,
-        CsvKind::Shape => Reason::Shape,
-        CsvKind::Order => Reason::Field(ShapeError::Breaks(Member::Order)),
-        CsvKind::Recipe => Reason::Field(ShapeError::Breaks(Member::Recipe)),
-        CsvKind::Version => Reason::Field(ShapeError::Breaks(Member::Version)),
-        CsvKind::Size => Reason::Field(ShapeError::Breaks(Member::Size)),
-        CsvKind::Due => Reason::Field(ShapeError::Breaks(Member::Due)),
-        CsvKind::Priority => Reason::Field(ShapeError::Breaks(Member::Priority)),
-        CsvKind::TooManyRows => Reason::TooManyRows,
-        CsvKind::Memory => Reason::Memory,
+        CsvKind::TooLong => CsvReason::TooLong,
+        CsvKind::Header => CsvReason::Header,
+        CsvKind::Shape => CsvReason::Shape,
+        CsvKind::Order => CsvReason::Field(ShapeError::Breaks(Member::Order)),
+        CsvKind::Recipe => CsvReason::Field(ShapeError::Breaks(Member::Recipe)),
+        CsvKind::Version => CsvReason::Field(ShapeError::Breaks(Member::Version)),
+        CsvKind::Size => CsvReason::Field(ShapeError::Breaks(Member::Size)),
+        CsvKind::Due => CsvReason::Field(ShapeError::Breaks(Member::Due)),
+        CsvKind::Priority => CsvReason::Field(ShapeError::Breaks(Member::Priority)),
+        CsvKind::TooManyRows => CsvReason::TooManyRows,
+        CsvKind::Memory => CsvReason::Memory,
     }
 }

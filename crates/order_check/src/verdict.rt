@@ -8,23 +8,23 @@ use crate::conflicts::{Conflict, conflicts_among};
 use crate::reason::reason_of;
 use desk_cli::CheckFault;
 use plant_base::Items;
-use plant_orders::{CsvFault, Examined, OrdersFault, RowFault, examine_from};
+use plant_orders::{CsvFault, Examined, OrdersFault, RecordFault, examine_from};
 use std::alloc::{AllocError, Global};
 use std::fmt;
 use std::io::Read;
 
 /// The verdict on an order file.
 #[derive(Drop)]
-pub(crate) struct Verdict {
+pub(crate) struct FileVerdict {
     /// Its faults, in the order of its rows and of their fields.
-    pub(crate) faults: Items<RowFault>,
+    pub(crate) faults: Items<RecordFault>,
     /// The orders that conflict with earlier ones, among those rows that have no fault.
     pub(crate) conflicts: Items<Conflict>,
     /// How many rows are orders.
     pub(crate) orders: usize,
 }
 
-impl Verdict {
+impl FileVerdict {
     /// Whether the file is one of orders that an import takes, whatever is in the desk.
     pub(crate) fn is_good(&self) -> bool
         ensures { result ≡ is_good self.now }
@@ -66,7 +66,7 @@ const MOST_SHOWN: usize = 60;
 /// The text of a fault: what is wrong, and of a field that isn't empty also its first bytes, as C writes those that aren't printable ASCII,
 /// and ` ..` where there are more.
 #[derive(Clone, Copy)]
-pub(crate) struct FaultLine<'a>(pub(crate) &'a RowFault);
+pub(crate) struct FaultLine<'a>(pub(crate) &'a RecordFault);
 
 impl fmt::Display for FaultLine<'_> {
     fn fmt<W: fmt::Write>(&self, f: &mut fmt::Formatter<W>) -> fmt::Result {
@@ -87,7 +87,7 @@ impl fmt::Display for FaultLine<'_> {
 /// `Read` comes where a read failed, and `Memory` where memory was refused. No other fault comes.
 ///
 /// In the clauses, `bytes` are those that the reader has left, where it knows them, and some bytes where it knows none.
-pub(crate) fn judge<R: Read>(alloc: Global, reader: &mut R) -> Result<Verdict, CheckFault>
+pub(crate) fn judge<R: Read>(alloc: Global, reader: &mut R) -> Result<FileVerdict, CheckFault>
     ensures judged { IfOk result (λ verdict. (bytes : List ℕ) × Agrees (R.remaining reader.old) bytes
         × (verdict ≡ verdict_of bytes)) }
     ensures cause { IfErr result (λ fault. (fault ≡ CheckFault.Read) ⊎ (fault ≡ CheckFault.Memory)) }
@@ -100,14 +100,14 @@ pub(crate) fn judge<R: Read>(alloc: Global, reader: &mut R) -> Result<Verdict, C
 }
 
 /// The verdict on a file that was examined. The only fault is want of memory.
-fn judge_examined(alloc: Global, examined: Examined) -> Result<Verdict, CheckFault>
+fn judge_examined(alloc: Global, examined: Examined) -> Result<FileVerdict, CheckFault>
     ensures judged { (bytes : List ℕ) → IsExaminedOf bytes examined
         → IfOk result (λ verdict. verdict ≡ verdict_of bytes) }
     ensures cause { IfErr result (λ fault. fault ≡ CheckFault.Memory) }
 {
     let orders = examined.orders.as_slice();
     match conflicts_among(alloc, orders, orders) {
-        Ok(conflicts) => Ok(Verdict {
+        Ok(conflicts) => Ok(FileVerdict {
             orders: orders.len(),
             conflicts: Items::new(conflicts),
             faults: examined.faults,

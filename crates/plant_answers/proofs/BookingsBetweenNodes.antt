@@ -22,8 +22,8 @@ use Rattle.plant_questions.specs.{movements_into, other_lot}
 use Rattle.plant_answers.specs.{Fits, booked_at, booked_if, bookings_around, counted, movements_at, summed, reported_at, reported_by, total_along, amount_of, booked_along, booked_edge, edges_between, is_among, is_between, is_made}
 use Rattle.plant_questions.specs.{BookedEdge}
 use Rattle.plant_answers.proofs.SumsByEdge.{edge_exact, booked_pair, totalled}
-use Rattle.plant_answers.proofs.NarrowedMovements.{reported_of}
-use Rattle.plant_answers.proofs.PickedRows.{picked_in, picked_from}
+use Rattle.plant_answers.proofs.BatchMovementsSuffice.{reported_of}
+use Rattle.plant_answers.proofs.FilterKeepsOrder.{picked_in, picked_from}
 
 -- ---- sums
 

@@ -13,7 +13,7 @@ use Rattle.plant_view.proofs.Membership.{all_in, filter_in, filter_from, map_in,
 use Rattle.plant_answers.specs.{nodes_around, booked_edge, edges_between, is_among, is_between, IsBooked, booked_order}
 use Rattle.plant_questions.specs.{BookedEdge}
 use Rattle.plant_answers.proofs.GoodsAreReached.{around_lists}
-use Rattle.plant_answers.proofs.PickedRows.{picked_in, picked_from}
+use Rattle.plant_answers.proofs.FilterKeepsOrder.{picked_in, picked_from}
 use Rattle.std.proofs.lemmas.Bool.{and_parts, and_from}
 
 pub among_in : (nodes : List Node) (y : Node) → is_among nodes y ≡ true → Contains nodes y

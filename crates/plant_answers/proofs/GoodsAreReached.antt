@@ -12,7 +12,7 @@ use Rattle.plant_view.specs.{edges_of}
 use Rattle.plant_view.proofs.Membership.{put_in, put_from, put_stays}
 use Rattle.plant_answers.specs.{nodes_around, stocked_if, stocked_at, lots_standing, IsAround, StandsFrom, standing_order, trace_of, if_stocked, standing_lot}
 use Rattle.plant_questions.specs.{StandingLot}
-use Rattle.plant_answers.proofs.PickedRows.{picked_in, picked_from, picked_sorted}
+use Rattle.plant_answers.proofs.FilterKeepsOrder.{picked_in, picked_from, picked_sorted}
 use Rattle.plant_answers.proofs.ReachedIsTrace.{trace_lists}
 
 -- ---- nodes

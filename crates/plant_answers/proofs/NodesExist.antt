@@ -19,7 +19,7 @@ use Rattle.plant_answers.specs.{nodes_around, lot_node, named, node_answer, node
 use Rattle.plant_questions.specs.{NodeAnswer}
 use Rattle.plant_questions.specs.declared.genealogy.NodeAnswer.TheVariants as known
 use Rattle.plant_answers.proofs.GoodsAreReached.{around_lists}
-use Rattle.plant_answers.proofs.PickedRows.{picked_from}
+use Rattle.plant_answers.proofs.FilterKeepsOrder.{picked_from}
 
 module _ (s : State) (sound : DecisionInvariant s) where
   -- the lot is there, if the node is one

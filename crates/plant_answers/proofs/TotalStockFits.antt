@@ -11,7 +11,7 @@ use Rattle.plant_view.proofs.ListLemmas.{same_id, all_weaker, all_of, sum_map}
 use Rattle.plant_view.specs.DecisionInvariant.{DecisionInvariant}
 use Rattle.plant_view.specs.{sublot_row, sublots_of}
 use Rattle.std.proofs.lemmas.Bool.{cases_order}
-use Rattle.plant_answers.proofs.NarrowedMovements.{sum_filtered}
+use Rattle.plant_answers.proofs.BatchMovementsSuffice.{sum_filtered}
 
 -- ---- numbers of one lot rise
 

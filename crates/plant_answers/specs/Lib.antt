@@ -4,6 +4,7 @@ pub mod Surroundings
 pub mod BatchLines
 pub mod BatchViews
 pub mod CommandHeads
+pub mod CommandWords
 pub mod Booked
 pub mod Genealogy
 pub mod AnswerLaws

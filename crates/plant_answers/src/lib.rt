@@ -7,6 +7,7 @@ mod batch_answers;
 mod batch_lines;
 mod booked;
 mod bookings;
+mod command_words;
 mod commands;
 mod each_told;
 mod edge_answers;

@@ -31,7 +31,7 @@ place_order_total = then_total (on_total (λ p. p.lot) nat_list_cmp_total) (on_t
 pub same_key_tie : (p q : Place) → (same p.lot q.lot && p.number == q.number) ≡ is_eq (place_order p q)
 same_key_tie p q = both_tied _ _ (slice_cmp nat_cmp p.lot q.lot) (nat_cmp p.number q.number) (texts_ties p.lot q.lot) (unsigned_ties p.number q.number)
 
--- and so is the test that a look-up makes
+-- and so is the test that a lookup makes
 pub test_tie : (p q : Place) → (same q.lot p.lot && q.number == p.number) ≡ is_eq (place_order p q)
 test_tie p q = same_key_tie q p ∙ (eq_by_cmp_equiv place_order_total).symm q p
 

@@ -32,26 +32,26 @@ from_start b = grind (arith, nat_tests)
 
 -- ---- rows by their numbers and moments
 
-module _ {R : Type 0} (mark_of : R → Mark) (early : Mark → R → RowFault) where
+module _ {R : Type 0} (time_key_of : R → Mark) (early : Mark → R → RowFault) where
   -- where one of them is reported, after these marks and before those
   fall_after : (xs : List Mark) (before : Mark) (rs : List R) (rest : List Mark)
-      → IfSome (fall_fault_in mark_of early before rs) (λ _. never_fall (xs ++ before ∷ (map mark_of rs ++ rest)) ≡ false)
+      → IfSome (fall_fault_in time_key_of early before rs) (λ _. never_fall (xs ++ before ∷ (map time_key_of rs ++ rest)) ≡ false)
   fall_after xs before [] rest = tt
-  fall_after xs before (r ∷ rs) rest = at (fall_after (xs ++ before ∷ []) (mark_of r) rs rest) (is_no_later before (mark_of r)) refl
+  fall_after xs before (r ∷ rs) rest = at (fall_after (xs ++ before ∷ []) (time_key_of r) rs rest) (is_no_later before (time_key_of r)) refl
     where
       behind : List Mark
-      behind = map mark_of rs ++ rest
+      behind = map time_key_of rs ++ rest
 
-      at : IfSome (fall_fault_in mark_of early (mark_of r) rs) (λ _. never_fall ((xs ++ before ∷ []) ++ mark_of r ∷ behind) ≡ false) → (b : Bool) → is_no_later before (mark_of r) ≡ b
-          → IfSome (or_fault (fault_unless b (early before r)) (fall_fault_in mark_of early (mark_of r) rs)) (λ _. never_fall (xs ++ before ∷ mark_of r ∷ behind) ≡ false)
-      at later false e = neighbours_fail xs behind before (mark_of r) e
-      at later true e = subst (λ l. IfSome (fall_fault_in mark_of early (mark_of r) rs) (λ _. never_fall l ≡ false)) (append_assoc xs (before ∷ []) (mark_of r ∷ behind)) later
+      at : IfSome (fall_fault_in time_key_of early (time_key_of r) rs) (λ _. never_fall ((xs ++ before ∷ []) ++ time_key_of r ∷ behind) ≡ false) → (b : Bool) → is_no_later before (time_key_of r) ≡ b
+          → IfSome (or_fault (fault_unless b (early before r)) (fall_fault_in time_key_of early (time_key_of r) rs)) (λ _. never_fall (xs ++ before ∷ time_key_of r ∷ behind) ≡ false)
+      at later false e = neighbours_fail xs behind before (time_key_of r) e
+      at later true e = subst (λ l. IfSome (fall_fault_in time_key_of early (time_key_of r) rs) (λ _. never_fall l ≡ false)) (append_assoc xs (before ∷ []) (time_key_of r ∷ behind)) later
 
-  fall_breaks : (xs : List Mark) (rs : List R) (rest : List Mark) → IfSome (fall_fault_in mark_of early (0, 0) rs) (λ _. never_fall (xs ++ (map mark_of rs ++ rest)) ≡ false)
+  fall_breaks : (xs : List Mark) (rs : List R) (rest : List Mark) → IfSome (fall_fault_in time_key_of early (0, 0) rs) (λ _. never_fall (xs ++ (map time_key_of rs ++ rest)) ≡ false)
   fall_breaks xs [] rest = tt
-  fall_breaks xs (r ∷ rs) rest = rw (from_start (mark_of r)) (fall_after xs (mark_of r) rs rest)
+  fall_breaks xs (r ∷ rs) rest = rw (from_start (time_key_of r)) (fall_after xs (time_key_of r) rs rest)
 
   -- a row that is reported breaks the rule, whatever other rows there are
-  pub reported_breaks : (o : Option RowFault) (rs : List R) → o ≡ fall_fault_in mark_of early (0, 0) rs → IfSome o (λ _. (xs rest : List Mark) → never_fall (xs ++ (map mark_of rs ++ rest)) ≡ false)
+  pub reported_breaks : (o : Option RowFault) (rs : List R) → o ≡ fall_fault_in time_key_of early (0, 0) rs → IfSome o (λ _. (xs rest : List Mark) → never_fall (xs ++ (map time_key_of rs ++ rest)) ≡ false)
   reported_breaks None rs is = tt
   reported_breaks (Some f) rs is = λ xs rest. (rw (sym is) at (fall_breaks xs rs rest))

@@ -9,7 +9,7 @@ use Rattle.plant_stock.specs.{goes_to, comes_from}
 use Rattle.plant_view.specs.{batch_by, is_defined, is_known, rows_among, lines_among, phases_among, events_among}
 use Rattle.plant_tables_columns.specs.{movement_from, BookedRow}
 use Rattle.plant_tables.specs.{Rows}
-use Rattle.plant_requirements.specs.{is_row_among, is_run, kept_progress, has_right_run, are_numbered, is_recipe_among, is_whole_recipe}
+use Rattle.plant_requirements.specs.{is_row_among, is_run, kept_progress, has_right_run, are_numbered, is_recipe_among, is_consistent_recipe}
 use Rattle.plant_requirements.specs.{are_by, are_lines, are_numbers, has_right_number, is_apart, is_entered_before, is_given, is_next_line, is_there, is_batch_there, is_of_right_definition, is_of_right_merge, names_known, is_right_movement}
 use Rattle.plant_check_rules.specs.{movements_in, obeys, has_right_stock, are_from_zero, sublots_among, is_lot_among, is_born, is_right_lot, is_right_sublot, Rule}
 use Rattle.plant_check_rules.specs.declared.rule.Rule.TheVariants as rule
@@ -18,8 +18,8 @@ use Rattle.plant_check.proofs.FaultIfBroken.{reported_none, two_none, three_none
 
 -- ---- rows
 
-recipe_none : (definitions : List Definition) (rows : List MasterLine) (r : Recipe) → is_none (recipe_fault definitions rows r) ≡ is_whole_recipe definitions rows r
-unfolding is_whole_recipe
+recipe_none : (definitions : List Definition) (rows : List MasterLine) (r : Recipe) → is_none (recipe_fault definitions rows r) ≡ is_consistent_recipe definitions rows r
+unfolding is_consistent_recipe
 recipe_none definitions rows r =
     let own = rows_among rows r.header.recipe r.header.version in
     let lines = lines_among rows r.header.recipe r.header.version in
@@ -80,7 +80,7 @@ found_by_row rule.Tables r by_row = refl
 found_by_row rule.Values r by_row = refl
 found_by_row rule.Classes r by_row = refl
 found_by_row rule.Recipes r by_row =
-    both_none _ _ _ _ (first_none _ (is_whole_recipe r.definitions r.master_lines) (recipe_none r.definitions r.master_lines) r.recipes)
+    both_none _ _ _ _ (first_none _ (is_consistent_recipe r.definitions r.master_lines) (recipe_none r.definitions r.master_lines) r.recipes)
     (first_none _ (λ l. is_recipe_among r.recipes l.recipe l.version) (λ l. reported_none _ _) r.master_lines)
 found_by_row rule.Orders r by_row = refl
 found_by_row rule.Batches r by_row = refl

@@ -6,7 +6,7 @@ use Rattle.plant_base.specs.{edge_order, EdgeRow, Movement}
 use Rattle.plant_view.specs.{edge_row_of, edges_in}
 use Rattle.plant_requirements.specs.{edge_key}
 use Rattle.plant_requirements.specs.{as_a_whole, fault_unless, or_fault, first_reported, RowFault}
-use Rattle.plant_requirements.specs.declared.fault.Table.TheVariants as table
+use Rattle.plant_requirements.specs.declared.table_names.Table.TheVariants as table
 use Rattle.plant_requirements.specs.declared.fault.Found.TheVariants as found
 use Rattle.plant_requirements.specs.declared.fault.Wanted.TheVariants as wanted
 

@@ -8,7 +8,7 @@ use Rattle.plant_view.specs.{phases_among, events_among}
 use Rattle.plant_requirements.specs.{is_row_among, kept_progress}
 use Rattle.plant_requirements.specs.{id_key, number_key}
 use Rattle.plant_requirements.specs.{Column, Found, RowFault, Wanted, in_column, names_none, fault_unless, or_fault, first_reported}
-use Rattle.plant_requirements.specs.declared.fault.Table.TheVariants as table
+use Rattle.plant_requirements.specs.declared.table_names.Table.TheVariants as table
 use Rattle.plant_requirements.specs.declared.fault.Column.TheVariants as column
 use Rattle.plant_requirements.specs.declared.fault.Found.TheVariants as found
 use Rattle.plant_requirements.specs.declared.fault.Wanted.TheVariants as wanted

@@ -6,7 +6,7 @@ use Rattle.plant_tables_columns.specs.{BookedRow}
 use Rattle.plant_check_rules.specs.{are_from_zero, sublots_among, is_lot_among, is_born}
 use Rattle.plant_requirements.specs.{id_key, sublot_key, hold_key}
 use Rattle.plant_requirements.specs.{names_none, as_a_whole, fault_unless, or_fault, first_reported, RowFault}
-use Rattle.plant_requirements.specs.declared.fault.Table.TheVariants as table
+use Rattle.plant_requirements.specs.declared.table_names.Table.TheVariants as table
 use Rattle.plant_requirements.specs.declared.fault.Column.TheVariants as column
 use Rattle.plant_requirements.specs.declared.fault.Wanted.TheVariants as wanted
 

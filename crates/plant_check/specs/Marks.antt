@@ -6,7 +6,7 @@ use Rattle.plant_base.specs.{mark_order, Mark, Movement, Recall}
 use Rattle.plant_view.specs.{edges_among, marks}
 use Rattle.plant_requirements.specs.{mark_key}
 use Rattle.plant_requirements.specs.{fault_unless, or_fault, first_reported, Found, RowFault, Wanted}
-use Rattle.plant_requirements.specs.declared.fault.Table.TheVariants as table
+use Rattle.plant_requirements.specs.declared.table_names.Table.TheVariants as table
 use Rattle.plant_requirements.specs.declared.fault.Found.TheVariants as found
 use Rattle.plant_requirements.specs.declared.fault.Wanted.TheVariants as wanted
 

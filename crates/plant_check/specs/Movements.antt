@@ -7,14 +7,14 @@ use Rattle.plant_tables_columns.specs.{movement_from, BookedRow}
 use Rattle.plant_requirements.specs.{is_there, is_batch_there, is_of_right_definition, is_of_right_merge}
 use Rattle.plant_requirements.specs.{booked_key}
 use Rattle.plant_requirements.specs.{Column, Found, RowFault, Wanted, in_column, fault_unless, or_fault, first_reported}
-use Rattle.plant_requirements.specs.declared.fault.Table.TheVariants as table
+use Rattle.plant_requirements.specs.declared.table_names.Table.TheVariants as table
 use Rattle.plant_requirements.specs.declared.fault.Column.TheVariants as column
 use Rattle.plant_requirements.specs.declared.fault.Found.TheVariants as found
 use Rattle.plant_requirements.specs.declared.fault.Wanted.TheVariants as wanted
 
 -- the row, where its columns aren't those of its kind
 abbrev pub kind_fault : BookedRow → Option RowFault
-kind_fault r = fault_unless (is_some (movement_from r)) (in_column (table.Movement, booked_key r.seq r.line) column.Kind (found.Sort r.kind_code) wanted.Columns)
+kind_fault r = fault_unless (is_some (movement_from r)) (in_column (table.Movement, booked_key r.seq r.line) column.Kind (found.MovementKind r.kind_code) wanted.Columns)
 
 -- the fault of the movement: this is in a column, or in the row as a whole, where that is wanted
 abbrev pub movement_as : Movement → Option Column → Found → Wanted → RowFault

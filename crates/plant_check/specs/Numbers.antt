@@ -5,8 +5,8 @@ use Rattle.plant_stock.specs.{comes_from}
 use Rattle.plant_requirements.specs.{is_given, is_next_line, is_apart, is_entered_before, is_no_later}
 use Rattle.plant_requirements.specs.{booked_key, id_key, number_key, hold_key}
 use Rattle.plant_check.specs.Movements.{movement_as}
-use Rattle.plant_requirements.specs.{Column, Found, Key, RowFault, Table, Wanted, in_column, fault_unless, or_fault, first_reported}
-use Rattle.plant_requirements.specs.declared.fault.Table.TheVariants as table
+use Rattle.plant_requirements.specs.{Column, Found, RowKey, RowFault, Table, Wanted, in_column, fault_unless, or_fault, first_reported}
+use Rattle.plant_requirements.specs.declared.table_names.Table.TheVariants as table
 use Rattle.plant_requirements.specs.declared.fault.Column.TheVariants as column
 use Rattle.plant_requirements.specs.declared.fault.Found.TheVariants as found
 use Rattle.plant_requirements.specs.declared.fault.Wanted.TheVariants as wanted
@@ -49,7 +49,7 @@ number_fault_in greatest events ms =
 -- ---- moments
 
 -- the row of the table, where its moment is later than the desk's
-abbrev pub moment_fault : ℕ → Table → Key → ℕ → Option RowFault
+abbrev pub moment_fault : ℕ → Table → RowKey → ℕ → Option RowFault
 moment_fault at t k moment = fault_unless (nat_le moment at) (in_column (t, k) column.At (found.Number moment) (wanted.NotAfter at))
 
 abbrev pub late_movement : ℕ → Movement → Option RowFault
@@ -83,5 +83,5 @@ event_before before e = event_as e column.At (found.Number e.at) (wanted.NotBefo
 
 -- the first row that is earlier than the one before it, which has a lower number
 abbrev pub fall_fault_in : {R : Type 0} → (R → ℕ × ℕ) → (ℕ × ℕ → R → RowFault) → ℕ × ℕ → List R → Option RowFault
-fall_fault_in mark_of early before [] = None
-fall_fault_in mark_of early before (r ∷ rs) = or_fault (fault_unless (is_no_later before (mark_of r)) (early before r)) (fall_fault_in mark_of early (mark_of r) rs)
+fall_fault_in time_key_of early before [] = None
+fall_fault_in time_key_of early before (r ∷ rs) = or_fault (fault_unless (is_no_later before (time_key_of r)) (early before r)) (fall_fault_in time_key_of early (time_key_of r) rs)

@@ -5,7 +5,7 @@ use Rattle.plant_tables_columns.specs.{recall_from, StatedRecall}
 use Rattle.plant_requirements.specs.{lot_among, is_timely}
 use Rattle.plant_requirements.specs.{id_key}
 use Rattle.plant_requirements.specs.{Column, Found, RowFault, Wanted, in_column, fault_unless, or_fault, first_reported}
-use Rattle.plant_requirements.specs.declared.fault.Table.TheVariants as table
+use Rattle.plant_requirements.specs.declared.table_names.Table.TheVariants as table
 use Rattle.plant_requirements.specs.declared.fault.Column.TheVariants as column
 use Rattle.plant_requirements.specs.declared.fault.Found.TheVariants as found
 use Rattle.plant_requirements.specs.declared.fault.Wanted.TheVariants as wanted

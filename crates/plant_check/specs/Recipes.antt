@@ -7,7 +7,7 @@ use Rattle.plant_view.specs.{is_defined, is_known, rows_among, lines_among}
 use Rattle.plant_requirements.specs.{are_numbered, is_recipe_among}
 use Rattle.plant_requirements.specs.{recipe_key, recipe_line_key}
 use Rattle.plant_requirements.specs.{Found, RowFault, in_column, names_none, as_a_whole, fault_unless, or_fault, first_reported}
-use Rattle.plant_requirements.specs.declared.fault.Table.TheVariants as table
+use Rattle.plant_requirements.specs.declared.table_names.Table.TheVariants as table
 use Rattle.plant_requirements.specs.declared.fault.Column.TheVariants as column
 use Rattle.plant_requirements.specs.declared.fault.Found.TheVariants as found
 use Rattle.plant_requirements.specs.declared.fault.Wanted.TheVariants as wanted

@@ -5,7 +5,7 @@ use Rattle.plant_tables_columns.specs.{BookedRow}
 use Rattle.plant_check_rules.specs.{entries, exits, total_booked}
 use Rattle.plant_requirements.specs.{in_column, fault_unless, first_reported, RowFault}
 use Rattle.plant_requirements.specs.{sublot_key}
-use Rattle.plant_requirements.specs.declared.fault.Table.TheVariants as table
+use Rattle.plant_requirements.specs.declared.table_names.Table.TheVariants as table
 use Rattle.plant_requirements.specs.declared.fault.Column.TheVariants as column
 use Rattle.plant_requirements.specs.declared.fault.Found.TheVariants as found
 use Rattle.plant_requirements.specs.declared.fault.Wanted.TheVariants as wanted

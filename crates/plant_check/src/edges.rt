@@ -18,9 +18,9 @@ use std::alloc::{AllocError, Global};
 
 /// Edges, each under itself.
 #[derive(Clone, Copy)]
-struct Kept;
+struct EdgesByKey;
 
-impl Grouping for Kept {
+impl Grouping for EdgesByKey {
     ghost use Rattle.std.specs.Prelude.{Some};
 
     type Row = EdgeRow;
@@ -34,7 +34,7 @@ impl Grouping for Kept {
     }
 }
 
-fn has_edge(edges: &Grouped<Kept>, edge: EdgeRow) -> bool
+fn has_edge(edges: &Grouped<EdgesByKey>, edge: EdgeRow) -> bool
     ensures { result ≡ is_edge_among edges.now.rows.now edge }
 {
     edges.has(edge)
@@ -43,7 +43,7 @@ fn has_edge(edges: &Grouped<Kept>, edge: EdgeRow) -> bool
 /// That an edge is one that a movement makes.
 #[derive(Drop)]
 struct Made<'a> {
-    made: Grouped<'a, Kept>,
+    made: Grouped<'a, EdgesByKey>,
 }
 
 impl<'a> RowRule<EdgeRow> for Made<'a> {
@@ -59,7 +59,7 @@ impl<'a> RowRule<EdgeRow> for Made<'a> {
 #[derive(Drop)]
 struct Keeping<'a> {
     schema: u64,
-    edges: Grouped<'a, Kept>,
+    edges: Grouped<'a, EdgesByKey>,
 }
 
 impl<'a> Keeping<'a> {
@@ -100,7 +100,7 @@ fn stray_edge(
 ) -> Result<Option<RowFault>, AllocError>
     ensures { IfOk result (λ reported. reported ≡ first_reported (stray_edge_fault made.now) rows.now) }
 {
-    let made = Grouped::<Kept>::new(alloc, made)?;
+    let made = Grouped::<EdgesByKey>::new(alloc, made)?;
     first_fault(alloc, &Made { made }, rows)
 }
 
@@ -112,7 +112,7 @@ fn unkept_edge(
 ) -> Result<Option<RowFault>, AllocError>
     ensures { IfOk result (λ reported. reported ≡ first_reported (missing_edge_fault schema rows.now) movements.now) }
 {
-    let edges = Grouped::<Kept>::new(alloc, rows)?;
+    let edges = Grouped::<EdgesByKey>::new(alloc, rows)?;
     first_fault(alloc, &Keeping { schema, edges }, movements)
 }
 

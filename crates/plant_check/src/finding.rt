@@ -88,7 +88,7 @@ fn tested_rules() -> [Rule; 12]
 }
 
 /// The first row that breaks the rule, where one is known.
-#[tactic(auto, unfolding(plant_tables::specs::Collecting::rows_listed))]
+#[tactic(auto, unfolding(plant_tables::specs::RowLists::rows_listed))]
 fn row_fault(alloc: Global, rule: Rule, rows: &DeskRows) -> Result<Option<RowFault>, AllocError>
     ensures { IfOk result (λ reported. reported ≡ spec.row_fault rule (rows_listed rows.now)) }
 {
@@ -139,7 +139,7 @@ fn passes_by_row(alloc: Global, rule: Rule, rows: &DeskRows) -> Result<bool, All
 
 /// Whether the rows obey the rule. Where a row breaks it in any case, they obey it where none is found; the others are tested apart.
 /// The only error is that memory was refused.
-#[tactic(auto, unfolding(plant_tables::specs::Collecting::rows_listed))]
+#[tactic(auto, unfolding(plant_tables::specs::RowLists::rows_listed))]
 fn obeys(alloc: Global, rule: Rule, rows: &DeskRows) -> Result<bool, AllocError>
     ensures { IfOk result (λ b. b ≡ obeys rule (rows_listed rows.now)) }
 {
@@ -178,7 +178,7 @@ fn first_broken_among(
 }
 
 /// The first rule that rows break whose values obey theirs, if they break one. The only error is that memory was refused.
-#[tactic(auto, unfolding(plant_check_rules::specs::Broken::first_broken_of))]
+#[tactic(auto, unfolding(plant_check_rules::specs::Rules::first_broken_of))]
 pub fn check_rows(alloc: Global, rows: &DeskRows) -> Result<Option<Rule>, AllocError>
     ensures { IfOk result (λ broken. broken ≡ first_broken_of (rows_listed rows.now)) }
 {
@@ -187,7 +187,7 @@ pub fn check_rows(alloc: Global, rows: &DeskRows) -> Result<Option<Rule>, AllocE
 
 /// The first rule that loaded tables break, if they break one: of tables without one valid row of meta the first, where a value
 /// breaks its rule the second, else the first that the rows break. The only error is that memory was refused.
-#[tactic(auto, unfolding(plant_check_rules::specs::Broken::first_broken))]
+#[tactic(auto, unfolding(plant_check_rules::specs::Rules::first_broken))]
 pub fn check(alloc: Global, loaded: &Loaded) -> Result<Option<Rule>, AllocError>
     ensures { IfOk result (λ broken. broken ≡ first_broken loaded.now) }
 {

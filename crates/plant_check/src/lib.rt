@@ -13,6 +13,7 @@ mod recalls;
 mod recipes;
 mod stocks;
 mod stored;
+mod table_rules;
 mod value_rule;
 mod values;
 
@@ -20,4 +21,6 @@ pub use finding::{
     Finding, Findings, Tested, check, check_rows, findings_law, rule_text, test_loaded, test_rows,
 };
 pub use plant_check_rules::Rule;
-pub use plant_requirements::{Column, Found, Key, RowFault, Table, ValueRule, Wanted};
+pub use plant_requirements::{
+    Column, Found, RowFault, RowKey, Table, ValueRule, Wanted, all_tables,
+};

@@ -96,7 +96,7 @@ fn undefined_lot(alloc: Global, rows: &DeskRows) -> Result<Option<RowFault>, All
     first_fault(alloc, &defined, rows.lots.as_slice())
 }
 
-fn unborn_sublot(alloc: Global, rows: &DeskRows) -> Result<Option<RowFault>, AllocError>
+fn sublot_without_birth(alloc: Global, rows: &DeskRows) -> Result<Option<RowFault>, AllocError>
     ensures { IfOk result (λ reported. reported ≡ first_reported
         (sublot_fault rows.now.lots.items rows.now.movements.items) rows.now.sublots.items) }
 {
@@ -105,7 +105,7 @@ fn unborn_sublot(alloc: Global, rows: &DeskRows) -> Result<Option<RowFault>, All
     first_fault(alloc, &Born { lots, entered }, rows.sublots.as_slice())
 }
 
-fn stray_hold(alloc: Global, rows: &DeskRows) -> Result<Option<RowFault>, AllocError>
+fn hold_without_lot(alloc: Global, rows: &DeskRows) -> Result<Option<RowFault>, AllocError>
     ensures { IfOk result (λ reported. reported ≡ first_reported (hold_fault rows.now.lots.items) rows.now.holds.items) }
 {
     let lots = Grouped::<Lots>::new(alloc, rows.lots.as_slice())?;
@@ -119,7 +119,7 @@ pub(crate) fn lot_fault(alloc: Global, rows: &DeskRows) -> Result<Option<RowFaul
         rows.now.sublots.items rows.now.holds.items rows.now.movements.items) }
 {
     let undefined = undefined_lot(alloc, rows)?;
-    let unborn = unborn_sublot(alloc, rows)?;
-    let stray = stray_hold(alloc, rows)?;
+    let unborn = sublot_without_birth(alloc, rows)?;
+    let stray = hold_without_lot(alloc, rows)?;
     Ok(or_fault(undefined, or_fault(unborn, stray)))
 }

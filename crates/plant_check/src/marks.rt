@@ -15,9 +15,9 @@ use std::alloc::{AllocError, Global};
 
 /// Marks, each under itself.
 #[derive(Clone, Copy)]
-struct Marked;
+struct MarksByKey;
 
-impl Grouping for Marked {
+impl Grouping for MarksByKey {
     ghost use Rattle.std.specs.Prelude.{Some};
 
     type Row = Mark;
@@ -31,7 +31,7 @@ impl Grouping for Marked {
     }
 }
 
-fn has_mark(among: &Grouped<Marked>, mark: Mark) -> bool
+fn has_mark(among: &Grouped<MarksByKey>, mark: Mark) -> bool
     ensures { result ≡ is_mark_among among.now.rows.now mark }
 {
     among.has(mark)
@@ -40,7 +40,7 @@ fn has_mark(among: &Grouped<Marked>, mark: Mark) -> bool
 /// That a mark is one of these, else what is reported as found and as wanted.
 #[derive(Drop)]
 struct Among<'a> {
-    among: Grouped<'a, Marked>,
+    among: Grouped<'a, MarksByKey>,
     found: Found,
     wanted: Wanted,
 }
@@ -72,7 +72,7 @@ fn first_apart(
 ) -> Result<Option<RowFault>, AllocError>
     ensures { IfOk result (λ reported. reported ≡ first_reported (mark_fault found wanted among.now) rows.now) }
 {
-    let among = Grouped::<Marked>::new(alloc, among)?;
+    let among = Grouped::<MarksByKey>::new(alloc, among)?;
     let rule = Among {
         among,
         found,

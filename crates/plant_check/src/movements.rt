@@ -31,7 +31,7 @@ impl RowRule<BookedRow> for Kinds {
             return Ok(None);
         }
         let place = (Table::Movement, booked_key(row.seq, row.line));
-        let found = Found::Sort(row.kind_code);
+        let found = Found::MovementKind(row.kind_code);
         Ok(Some(in_column(place, Column::Kind, found, Wanted::Columns)))
     }
 }

@@ -18,7 +18,7 @@ use plant_requirements::first::{RowRule, fault_unless, first_fault, in_column, o
 use plant_requirements::keys::{booked_key, hold_key, id_key, number_key};
 use plant_requirements::numbering::{is_entered_before, is_given, is_next_line};
 use plant_requirements::stock_keys::{EnteredSublots, EventNumbers, has_event};
-use plant_requirements::{Column, Found, Key, RowFault, Table, Wanted, moments_never_fall};
+use plant_requirements::{Column, Found, RowFault, RowKey, Table, Wanted, moments_never_fall};
 use plant_stock::source;
 use plant_tables::DeskRows;
 use std::alloc::{AllocError, Global};
@@ -155,7 +155,7 @@ fn wrong_number(
 }
 
 /// The row of the table, where its moment is later than the desk's.
-fn moment_fault(at: Moment, table: Table, key: Key, moment: Moment) -> Option<RowFault>
+fn moment_fault(at: Moment, table: Table, key: RowKey, moment: Moment) -> Option<RowFault>
     ensures { result ≡ moment_fault at table key moment }
 {
     let found = Found::Number(moment.get());
@@ -240,34 +240,34 @@ fn is_no_later(before: (u64, u64), row: (u64, u64)) -> bool
 }
 
 /// A row with a number and a moment.
-trait Marked {
+trait TimedRow {
     ghost use Rattle.std.specs.Prelude.{◌≡◌, ℕ};
     ghost use Rattle.plant_requirements.specs.{RowFault as Reported};
 
     /// Its number and its moment.
-    ghost mark_of: { Self → ℕ × ℕ };
+    ghost time_key_of: { Self → ℕ × ℕ };
 
     /// That it is earlier than this row.
     ghost early: { ℕ × ℕ → Self → Reported };
 
     /// Its number and its moment.
-    fn mark(&self) -> (u64, u64)
-        ensures { result ≡ mark_of self.now };
+    fn time_key(&self) -> (u64, u64)
+        ensures { result ≡ time_key_of self.now };
 
     /// That it is earlier than this row.
     fn as_early(&self, before: (u64, u64)) -> RowFault
         ensures { result ≡ early before self.now };
 }
 
-impl Marked for Movement {
+impl TimedRow for Movement {
     ghost use Rattle.plant_requirements.specs.{row_mark_of};
     ghost use Rattle.plant_check.specs.Numbers.{movement_before};
 
-    ghost mark_of = { row_mark_of };
+    ghost time_key_of = { row_mark_of };
 
     ghost early = { movement_before };
 
-    fn mark(&self) -> (u64, u64) {
+    fn time_key(&self) -> (u64, u64) {
         (self.seq, self.at.get())
     }
 
@@ -277,15 +277,15 @@ impl Marked for Movement {
     }
 }
 
-impl Marked for BatchEvent {
+impl TimedRow for BatchEvent {
     ghost use Rattle.plant_requirements.specs.{row_mark_of_event};
     ghost use Rattle.plant_check.specs.Numbers.{event_before};
 
-    ghost mark_of = { row_mark_of_event };
+    ghost time_key_of = { row_mark_of_event };
 
     ghost early = { event_before };
 
-    fn mark(&self) -> (u64, u64) {
+    fn time_key(&self) -> (u64, u64) {
         (self.seq, self.at.get())
     }
 
@@ -296,30 +296,30 @@ impl Marked for BatchEvent {
 }
 
 /// The first row that is earlier than the one before it, which has a lower number.
-fn first_fall<R: Marked>(rows: &[R]) -> Option<RowFault>
-    ensures { result ≡ fall_fault_in R.mark_of R.early (0, 0) rows.now }
+fn first_fall<R: TimedRow>(rows: &[R]) -> Option<RowFault>
+    ensures { result ≡ fall_fault_in R.time_key_of R.early (0, 0) rows.now }
 {
     let mut before = (0, 0);
     for row in rows {
-        if !is_no_later(before, row.mark()) {
+        if !is_no_later(before, row.time_key()) {
             return Some(row.as_early(before));
         }
-        before = row.mark();
+        before = row.time_key();
     }
     None
 }
 
 /// The same row. It breaks the rule of moments, whatever other rows there are.
-fn falling<R: Marked>(rows: &[R]) -> Option<RowFault>
-    ensures reported { result ≡ fall_fault_in R.mark_of R.early (0, 0) rows.now }
-    ensures breaks { IfSome result (λ _. (others more : List (ℕ × ℕ)) → never_fall (others ++ (map R.mark_of rows.now ++ more)) ≡ false) }
+fn first_decreasing<R: TimedRow>(rows: &[R]) -> Option<RowFault>
+    ensures reported { result ≡ fall_fault_in R.time_key_of R.early (0, 0) rows.now }
+    ensures breaks { IfSome result (λ _. (others more : List (ℕ × ℕ)) → never_fall (others ++ (map R.time_key_of rows.now ++ more)) ≡ false) }
 {
     first_fall(rows)
 }
 
 /// The first row whose number or moment breaks the rule: a number that wasn't given, or else a moment that is later than the
 /// desk's, or else one that falls. The only error is that memory was refused.
-#[tactic(auto, unfolding(plant_tables::specs::Collecting::rows_listed))]
+#[tactic(auto, unfolding(plant_tables::specs::RowLists::rows_listed))]
 pub(crate) fn number_fault(alloc: Global, rows: &DeskRows) -> Result<Option<RowFault>, AllocError>
     ensures { IfOk result (λ reported. reported
         ≡ numbered_fault_in (rows_listed rows.now) (movements_in rows.now.movements.items)) }
@@ -335,7 +335,7 @@ pub(crate) fn number_fault(alloc: Global, rows: &DeskRows) -> Result<Option<RowF
         rows.batches.as_slice(),
         rows.holds.as_slice(),
     )?;
-    let fall = or_fault(falling(movements), falling(events));
+    let fall = or_fault(first_decreasing(movements), first_decreasing(events));
     Ok(or_fault(number, or_fault(late, fall)))
 }
 
@@ -375,7 +375,7 @@ fn are_by(
 
 /// Whether numbers and lines are those of commands, no moment is later than the desk's, and moments don't fall. The only error is that
 /// memory was refused.
-#[tactic(auto, unfolding(plant_tables::specs::Collecting::rows_listed))]
+#[tactic(auto, unfolding(plant_tables::specs::RowLists::rows_listed))]
 pub(crate) fn are_right_numbers(alloc: Global, rows: &DeskRows) -> Result<bool, AllocError>
     ensures { IfOk result (λ b. b ≡ obeys rule.Numbers (rows_listed rows.now)) }
 {

@@ -25,7 +25,7 @@ fn recall_as(id: Id, column: Column, found: Found, wanted: Wanted) -> RowFault
     in_column((Table::Recall, id_key(id)), column, found, wanted)
 }
 
-/// That the columns of a lifting are those that the state of a row asks for.
+/// The rule that a recall has the columns of its lifting exactly where its state says that it was lifted.
 #[derive(Clone, Copy)]
 struct Stated;
 
@@ -82,7 +82,7 @@ fn stated_fault(
 }
 
 /// The first row that breaks the rule, or else the mark that does. The only error is that memory was refused.
-#[tactic(auto, unfolding(plant_tables::specs::Collecting::rows_listed))]
+#[tactic(auto, unfolding(plant_tables::specs::RowLists::rows_listed))]
 pub(crate) fn recall_fault(alloc: Global, rows: &DeskRows) -> Result<Option<RowFault>, AllocError>
     ensures { IfOk result (λ reported. reported ≡ recalled_fault_in (rows_listed rows.now)
         (recalls_read rows.now.recalls.items) (movements_in rows.now.movements.items)) }

@@ -19,7 +19,7 @@ use Rattle.plant_check_laws.proofs.EqualIsSame.{control_is}
 use Rattle.plant_check_laws.proofs.EventsExact.{row_exact, HasRun}
 use Rattle.plant_check_laws.proofs.NumberedRows.{rows_exact, owned_numbers}
 use Rattle.plant_check_laws.proofs.OrdersExact.{IsRightJob, Closes, batch_found}
-use Rattle.plant_check_laws.proofs.KeysApart.{AreApart, one_left, one_found, apart_alone, ids_apart}
+use Rattle.plant_check_laws.proofs.DistinctKeys.{AreApart, one_left, one_found, apart_alone, ids_apart}
 
 -- ---- one batch an order
 

@@ -3,7 +3,7 @@ use Rattle.std.proofs.Common.{◌≡◌, ◌∙◌, ℕ, true, List, map, refl, 
 use Rattle.plant_base.specs.{State, newest_schema, EdgeRow, Movement}
 use Rattle.plant_trace.specs.{IsAcyclic, Node}
 use Rattle.plant_view.specs.{tables_of, edges_in}
-use Rattle.plant_view.specs.Tables.{Tables}
+use Rattle.plant_view.specs.TableRows.{Tables}
 use Rattle.plant_tables_columns.specs.{booked_of}
 use Rattle.plant_tables.proofs.TablesOfRows.{same_tables}
 use Rattle.plant_check_rules.specs.{movements_in, are_acyclic, are_same_edges, are_kept_edges}

@@ -6,7 +6,7 @@ use Rattle.std.proofs.lemmas.Bool.Decides.{Decides-and}
 pub use Rattle.std.proofs.lemmas.Bool.Decides.{Decides-eqb as equal_exact}
 use Rattle.plant_view.proofs.ListLemmas.{all_weaker, all_two, all_append, all_mapped, all_unmapped, all_filtered, filtered_passes, and_left, and_right, not_true, each_fails, any_map}
 use Rattle.plant_requirements.proofs.KeyTests.{found_any}
-use Rattle.plant_invariant.proofs.ListsThatGrow.{all_passing}
+use Rattle.plant_invariant.proofs.AppendKeepsOrder.{all_passing}
 
 -- of the fact that it passes
 pub passing : (b : Bool) → Decides b (b ≡ true)

@@ -1,6 +1,6 @@
 pub mod ExactTests
 pub mod RowsMadeOfRows
-pub mod KeysApart
+pub mod DistinctKeys
 pub mod NumberedRows
 pub mod EqualIsSame
 pub mod ValuesSound

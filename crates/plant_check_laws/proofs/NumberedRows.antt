@@ -6,7 +6,7 @@ use Rattle.plant_view.proofs.ListLemmas.{found_passes, found_keeps, all_weaker, 
 use Rattle.plant_view.specs.{numbered}
 use Rattle.plant_requirements.specs.{are_numbered}
 use Rattle.plant_invariant.specs.{AreCounted}
-use Rattle.plant_invariant.proofs.ListsThatGrow.{all_passing}
+use Rattle.plant_invariant.proofs.AppendKeepsOrder.{all_passing}
 use Rattle.plant_check_laws.proofs.ExactTests.{equal_exact, both, all_apart}
 
 pub counted_exact : (k : ℕ) (ns : List ℕ) → Decides (are_numbered k ns) (AreCounted k ns)

@@ -13,7 +13,7 @@ use Rattle.plant_view.proofs.ListLemmas.{same_id, all_weaker, none_left, all_of,
 use Rattle.plant_stock.specs.{goes_to, comes_from, is_sublot_key, entries, are_one_merge, is_one_source, greatest_parts}
 use Rattle.plant_rules_production.proofs.ReleaseRows.{filter_both}
 use Rattle.plant_invariant.specs.{AreCounted, booked, AreDistinct, IsBooking, IsEnteredBefore, IsNumbered}
-use Rattle.plant_invariant.proofs.ListsThatGrow.{numbers_differ, all_left}
+use Rattle.plant_invariant.proofs.AppendKeepsOrder.{numbers_differ, all_left}
 use Rattle.plant_requirements.specs.{are_distinct, is_merged, parts_of, are_parts, is_of_right_merge, is_given, is_next_part, is_next_line, are_lines, is_apart, is_entered_before, has_right_number, are_numbers}
 use Rattle.plant_check_laws.proofs.ExactTests.{le_exact, lt_exact, equal_exact, passing, both, in_words, all_exact, all_apart, all_joined, none_exact, of_passing}
 use Rattle.plant_check_laws.proofs.ReceiptsExact.{given_exact}

@@ -11,7 +11,7 @@ use Rattle.plant_view.proofs.HeadersFound.{header_found, size_of_recipe}
 use Rattle.plant_requirements.specs.{recipe_among, row_of_order, is_started, of_order, order_fault, order_fault_in}
 use Rattle.plant_requirements.proofs.NoFault.{met_exact, no_more, rows_exact as each_row}
 use Rattle.plant_check_laws.proofs.ExactTests.{passing, both, in_words, by_test}
-use Rattle.plant_check_laws.proofs.KeysApart.{one_found, apart_sorted, ids_apart}
+use Rattle.plant_check_laws.proofs.DistinctKeys.{one_found, apart_sorted, ids_apart}
 
 -- the batch that is found is that of the row
 pub batch_found : (batches : List BatchRow) (order : List ℕ) → batch_among (map batch_of_row batches) order ≡ option_map batch_of_row (row_of_order batches order)

@@ -5,7 +5,7 @@ use Rattle.std.specs.List.Sorted.{IsStrictlySortedBy}
 use Rattle.plant_base.specs.{mark_order, HasLiftingValues, HasRecallValues, State, is_text, is_moment, Lifting, Lot, Mark, Movement, Recall}
 use Rattle.plant_view.proofs.ListLemmas.{all_weaker}
 use Rattle.plant_view.specs.{edges_among, marks, recalls_in, marks_in, tables_of}
-use Rattle.plant_view.specs.Tables.{Tables}
+use Rattle.plant_view.specs.TableRows.{Tables}
 use Rattle.plant_view.proofs.MarkChanges.{marks_sorted}
 use Rattle.plant_invariant.specs.{IsLiftedBetween, IsValidRecall, AreValidRecalls}
 use Rattle.plant_requirements.specs.{are_same_marks, are_marks, lot_among, is_lifted_between, is_right_recall, are_recalls}

@@ -9,7 +9,7 @@ use Rattle.plant_invariant.specs.{HasReceiptValues, AreApart, AreValidReceipts}
 use Rattle.plant_requirements.specs.{is_given, of_receipt, receipt_fault, receipt_fault_in, seqs_of}
 use Rattle.plant_requirements.proofs.NoFault.{met_exact, no_more, rows_exact as each_row}
 use Rattle.plant_check_laws.proofs.ExactTests.{passing, equal_exact, le_exact, both, by_test, in_words, all_apart, all_joined}
-use Rattle.plant_check_laws.proofs.KeysApart.{AreApart as AreApartBy, one_left, apart_alone}
+use Rattle.plant_check_laws.proofs.DistinctKeys.{AreApart as AreApartBy, one_left, apart_alone}
 
 -- the number of an accepted command
 pub given_exact : (greatest n : ℕ) → Decides (is_given greatest n) ((1 ≤ n) × (n ≤ greatest))

@@ -5,8 +5,8 @@ use Rattle.std.specs.List.Sorted.{IsStrictlySortedBy}
 use Rattle.plant_base.specs.{HasLineValues, same, recipe_order, master_line_order, Class, Definition, Header, MasterLine, Recipe, RecipeLine}
 use Rattle.plant_view.proofs.ListLemmas.{same_key, key_itself, all_weaker, all_two, all_mapped, all_filtered, filtered_passes}
 use Rattle.plant_recipe.specs.{is_well_formed}
-use Rattle.plant_view.specs.{is_defined, is_known, headers_of, header_among, rows_among, lines_among, master_line, IsWholeRecipe, AreConsistentRecipes, numbered}
-use Rattle.plant_requirements.specs.{class_fault, class_fault_in, is_class_among, are_numbered, is_whole_recipe, is_recipe_among, are_recipes}
+use Rattle.plant_view.specs.{is_defined, is_known, headers_of, header_among, rows_among, lines_among, master_line, IsConsistentRecipe, AreConsistentRecipes, numbered}
+use Rattle.plant_requirements.specs.{class_fault, class_fault_in, is_class_among, are_numbered, is_consistent_recipe, is_recipe_among, are_recipes}
 use Rattle.plant_invariant.specs.{HasMasterValues}
 use Rattle.plant_requirements.proofs.NoFault.{unless_exact, rows_exact as each_row}
 use Rattle.plant_check_laws.proofs.ExactTests.{passing, both, in_words, all_exact, any_exact, any_mapped_exact, of_mapped}
@@ -31,8 +31,8 @@ module _ (definitions : List Definition) (recipes : List Recipe) (rows : List Ma
       (λ l is. let key = same_key l.recipe h.recipe l.version h.version is in λ i. record l { recipe = sym key.0 i; version = sym key.1 i })
       (λ k l. refl) 1 (filter own rows) (filtered_passes own rows)
 
-  recipe_exact : (q : Recipe) → Decides (is_whole_recipe definitions rows q) (IsListed definitions rows q.header)
-  unfolding is_whole_recipe
+  recipe_exact : (q : Recipe) → Decides (is_consistent_recipe definitions rows q) (IsListed definitions rows q.header)
+  unfolding is_consistent_recipe
   recipe_exact q =
       let lines = lines_among rows q.header.recipe q.header.version in
       let known = all_exact (is_known definitions) (λ (l : RecipeLine). is_known definitions l ≡ true) (λ l. passing (is_known definitions l)) lines in
@@ -45,13 +45,13 @@ module _ (definitions : List Definition) (recipes : List Recipe) (rows : List Ma
 
   pub recipes_exact : Decides (are_recipes definitions recipes rows) (AllByRecursion (IsListed definitions rows) (headers_of recipes) × AreListed)
   recipes_exact = both
-      (of_mapped (IsListed definitions rows) (λ (q : Recipe). q.header) recipes (all_exact (is_whole_recipe definitions rows) (λ q. IsListed definitions rows q.header) recipe_exact recipes))
+      (of_mapped (IsListed definitions rows) (λ (q : Recipe). q.header) recipes (all_exact (is_consistent_recipe definitions rows) (λ q. IsListed definitions rows q.header) recipe_exact recipes))
       (all_exact (λ (l : MasterLine). is_recipe_among recipes l.recipe l.version) _ (λ l. any_mapped_exact (λ (h : Header). same h.recipe l.recipe && h.version == l.version) (λ (q : Recipe). q.header) recipes) rows)
 
   -- a consistent recipe keeps to the rule
   pub listed_recipes : AreConsistentRecipes definitions recipes rows → are_recipes definitions recipes rows ≡ true
   listed_recipes c = recipes_exact.1 (
-    all_weaker (IsWholeRecipe definitions rows) (IsListed definitions rows) (λ h w. record { formed = w.formed; numbered = w.numbered; product = w.product; materials = w.materials }) (headers_of recipes) c.whole,
+    all_weaker (IsConsistentRecipe definitions rows) (IsListed definitions rows) (λ h w. record { formed = w.formed; numbered = w.numbered; product = w.product; materials = w.materials }) (headers_of recipes) c.whole,
     c.listed,
   )
 
@@ -75,11 +75,11 @@ module _ (definitions : List Definition) (recipes : List Recipe) (rows : List Ma
         record {
           sorted = sorted;
           rows_sorted = rows_sorted;
-          whole = all_two (λ (h : Header). IsValidHeader h) (IsListed definitions rows) (IsWholeRecipe definitions rows) whole (headers_of recipes) (all_mapped (λ (h : Header). IsValidHeader h) (λ q. q.header) recipes values) listed.0;
+          whole = all_two (λ (h : Header). IsValidHeader h) (IsListed definitions rows) (IsConsistentRecipe definitions rows) whole (headers_of recipes) (all_mapped (λ (h : Header). IsValidHeader h) (λ q. q.header) recipes values) listed.0;
           listed = listed.1;
         }
       where
-        whole : (h : Header) → IsValidHeader h → IsListed definitions rows h → IsWholeRecipe definitions rows h
+        whole : (h : Header) → IsValidHeader h → IsListed definitions rows h → IsConsistentRecipe definitions rows h
         whole h v w =
             let own = λ (l : MasterLine). same l.recipe h.recipe && l.version == h.version in
             record {

@@ -1,4 +1,4 @@
 pub mod BookedRowsMove
 pub mod CycleTestIsExact
 pub mod EdgeListsCompared
-mod SortedOnceIsPutAll
+mod SortedDistinctIsPutAll

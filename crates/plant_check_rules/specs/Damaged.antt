@@ -5,7 +5,7 @@ use Rattle.plant_base.specs.{newest_schema}
 use Rattle.sql_tables.specs.{IsFree}
 use Rattle.plant_tables.specs.{desk_table_defs}
 use Rattle.plant_tables.specs.{AreLoaded, IsVersion, HasTablesOf, Loaded}
-use Rattle.plant_check_rules.specs.Broken.{first_broken}
+use Rattle.plant_check_rules.specs.Rules.{first_broken}
 use Rattle.plant_check_rules.specs.declared.rule.Rule.{Rule}
 use Rattle.plant_check_rules.specs.declared.rule.Rule.TheVariants as rule
 

@@ -6,7 +6,7 @@ use Rattle.plant_requirements.specs.{are_numbered}
 use Rattle.plant_view.specs.{is_defined}
 use Rattle.plant_tables_columns.specs.{BookedRow, MovementKindCode}
 use Rattle.plant_tables_columns.specs.declared.booked.MovementKindCode.TheVariants as kind_code
-use Rattle.plant_check_rules.specs.Ends.{entries, total_booked}
+use Rattle.plant_check_rules.specs.SublotFlows.{entries, total_booked}
 
 -- 0, or 0 and 1, and so on
 abbrev pub are_from_zero : List ℕ → Bool

@@ -1,7 +1,7 @@
 //! The rules on edges and recalls, which are tested apart from the rows that break them.
 ghost use Rattle.std.specs.Prelude.{◌≡◌, IfOk};
 ghost use Rattle.plant_tables.specs.{rows_listed};
-ghost use Rattle.plant_check_rules.specs.Broken.{are_kept_recalls, obeys};
+ghost use Rattle.plant_check_rules.specs.Rules.{are_kept_recalls, obeys};
 ghost use Rattle.plant_check_rules.specs.declared.rule.Rule.{Rule};
 
 use crate::edges::are_kept_edges;
@@ -14,7 +14,7 @@ use std::alloc::{AllocError, Global};
 
 /// Whether nothing was made from itself, and the edges that are kept are those of the movements. The only error is that memory
 /// was refused.
-#[tactic(auto, unfolding(plant_tables::specs::Collecting::rows_listed))]
+#[tactic(auto, unfolding(plant_tables::specs::RowLists::rows_listed))]
 pub fn are_edges_of(alloc: Global, rows: &DeskRows) -> Result<bool, AllocError>
     ensures { IfOk result (λ b. b ≡ obeys Rule.Descent (rows_listed rows.now)) }
 {
@@ -32,7 +32,7 @@ pub fn are_edges_of(alloc: Global, rows: &DeskRows) -> Result<bool, AllocError>
 
 /// Whether each recall's lot is there, its lifting fits its state and no moment of it is to come, and the marks are those of what
 /// the open ones reach. The only error is that memory was refused.
-#[tactic(auto, unfolding(plant_tables::specs::Collecting::rows_listed))]
+#[tactic(auto, unfolding(plant_tables::specs::RowLists::rows_listed))]
 pub fn are_right_recalls(alloc: Global, rows: &DeskRows) -> Result<bool, AllocError>
     ensures { IfOk result (λ b. b ≡ obeys Rule.Recalls (rows_listed rows.now)) }
 {
@@ -45,7 +45,7 @@ pub fn are_right_recalls(alloc: Global, rows: &DeskRows) -> Result<bool, AllocEr
     are_kept_recalls(alloc, rows, recalls.as_slice(), movements.as_slice())
 }
 
-#[tactic(auto, unfolding(plant_tables::specs::Collecting::rows_listed))]
+#[tactic(auto, unfolding(plant_tables::specs::RowLists::rows_listed))]
 fn are_kept_recalls(
     alloc: Global,
     rows: &DeskRows,

@@ -4,7 +4,7 @@ ghost use Rattle.std.specs.Prelude.{◌≡◌, [], IfOk};
 ghost use Rattle.std.specs.List.{filter_map};
 ghost use Rattle.plant_base.specs.{edge_order};
 ghost use Rattle.plant_view.specs.{edge_row_of, edge_rows, put_all, edges_in};
-ghost use Rattle.plant_check_rules.specs.Broken.{are_kept_edges};
+ghost use Rattle.plant_check_rules.specs.Rules.{are_kept_edges};
 
 use plant_base::{EdgeRow, Movement};
 use plant_view::edge_row;

@@ -1,8 +1,8 @@
 //! What rows of table movement bring to a sublot and take from it, as their columns say.
 
 ghost use Rattle.std.specs.Prelude.{◌≡◌, ◌<◌, ◌^◌};
-ghost use Rattle.plant_check_rules.specs.Ends.{other_end, entered_by, left_by, entries, exits};
-ghost use Rattle.plant_check_rules.specs.Ends.{total_booked};
+ghost use Rattle.plant_check_rules.specs.SublotFlows.{other_end, entered_by, left_by, entries, exits};
+ghost use Rattle.plant_check_rules.specs.SublotFlows.{total_booked};
 
 use grouped_rows::{Grouped, Grouping};
 use plant_base::Id;
@@ -12,7 +12,7 @@ use plant_tables::{BookedRow, MovementKindCode};
 pub struct BySublotEntered;
 
 impl Grouping for BySublotEntered {
-    ghost use Rattle.plant_check_rules.specs.Ends.{entered_by};
+    ghost use Rattle.plant_check_rules.specs.SublotFlows.{entered_by};
 
     type Row = BookedRow;
 
@@ -29,7 +29,7 @@ impl Grouping for BySublotEntered {
 pub struct BySublotLeft;
 
 impl Grouping for BySublotLeft {
-    ghost use Rattle.plant_check_rules.specs.Ends.{left_by};
+    ghost use Rattle.plant_check_rules.specs.SublotFlows.{left_by};
 
     type Row = BookedRow;
 

@@ -2,7 +2,7 @@
 
 ghost use Rattle.std.specs.Prelude.{◌≡◌, IfOk};
 ghost use Rattle.plant_view.specs.{edges_among};
-ghost use Rattle.plant_check_rules.specs.Broken.{movements_in, are_acyclic};
+ghost use Rattle.plant_check_rules.specs.Rules.{movements_in, are_acyclic};
 
 use plant_base::Movement;
 use plant_tables::BookedRow;

@@ -1,7 +1,7 @@
 //! The recalls that are decoded from rows of table recall.
 
 ghost use Rattle.std.specs.Prelude.{◌≡◌, IfOk};
-ghost use Rattle.plant_check_rules.specs.Broken.{are_fitting, recalls_read};
+ghost use Rattle.plant_check_rules.specs.Rules.{are_fitting, recalls_read};
 
 use plant_base::Recall;
 use plant_tables::StatedRecall;

@@ -6,7 +6,7 @@ use Rattle.plant_base.specs.{State, same, put, receipt_order, content_of, stamp_
 use Rattle.plant_view.proofs.ListLemmas.{found_put, found_same, same_itself, same_id, id_tie}
 use Rattle.plant_base.specs.declared.refusal.Refusal.TheVariants.{BadForm, MomentBack}
 use Rattle.plant_view.specs.{refuse}
-use Rattle.plant_rules.specs.{is_whole, wrong, wrong_plain, wrong_there, kept_among, kept_for, decoded, step, step_body, step_plain, unless_refused, noted, taken}
+use Rattle.plant_rules.specs.{is_well_formed_body, wrong, wrong_plain, wrong_there, kept_among, kept_for, decoded, step, step_body, step_plain, unless_refused, noted, taken}
 use Rattle.plant_rules.proofs.ReceiptDecisions.{next_receipts, blind_step, blind_wrong}
 use Rattle.plant_desk.specs.{fold, Outcome, answered, stopped_before, stopped_after, Sending, after, state_after_sending, with_answer, answered_of, BeginsWith, IsResent, IsPersistent, accepted, is_same_reference, is_known, once_after, plain, but_receipts}
 use Rattle.plant_desk.specs.AppliedOnce.{AppliedOnce}
@@ -50,12 +50,12 @@ same_next s t e p =
     ∙ blind_step t (stamp_of e) e.body []
 
 acts_by : (s t : State) (e : Envelope) (k : Option Receipt) → is_some k ≡ false → but_receipts s ≡ but_receipts t
-    → but_receipts (unless_refused (refuse (not (is_whole e.body)) BadForm (decoded k (content_of e) (wrong_there s e))) s (taken k s e)) ≡ but_receipts (unless_refused (refuse (not (is_whole e.body)) BadForm (wrong_there t e)) t (step_body t (stamp_of e) e.body))
+    → but_receipts (unless_refused (refuse (not (is_well_formed_body e.body)) BadForm (decoded k (content_of e) (wrong_there s e))) s (taken k s e)) ≡ but_receipts (unless_refused (refuse (not (is_well_formed_body e.body)) BadForm (wrong_there t e)) t (step_body t (stamp_of e) e.body))
 acts_by s t e (Some r) f p = absurd (false≢true (sym f))
 acts_by s t e None f p =
     let next = step_body s (stamp_of e) e.body in
-    but_unless (refuse (not (is_whole e.body)) BadForm (wrong_there s e)) s t (noted e.reference (content_of e) (step_body s (stamp_of e) e.body)) (step_body t (stamp_of e) e.body) p (but_noted e.reference (content_of e) (step_body s (stamp_of e) e.body) ∙ same_next s t e p)
-    ∙ (λ i. but_receipts (unless_refused (refuse (not (is_whole e.body)) BadForm (same_wrong s t e p i)) t (step_body t (stamp_of e) e.body)))
+    but_unless (refuse (not (is_well_formed_body e.body)) BadForm (wrong_there s e)) s t (noted e.reference (content_of e) (step_body s (stamp_of e) e.body)) (step_body t (stamp_of e) e.body) p (but_noted e.reference (content_of e) (step_body s (stamp_of e) e.body) ∙ same_next s t e p)
+    ∙ (λ i. but_receipts (unless_refused (refuse (not (is_well_formed_body e.body)) BadForm (same_wrong s t e p i)) t (step_body t (stamp_of e) e.body)))
 
 acts : (s t : State) (e : Envelope) → is_kept s e ≡ false → but_receipts s ≡ but_receipts t → but_receipts (step s e) ≡ but_receipts (step_plain t e)
 unfolding step step_plain wrong wrong_plain is_kept

@@ -5,7 +5,7 @@ use Rattle.plant_view.specs.DecisionInvariant.{DecisionInvariant}
 use Rattle.plant_view.proofs.ListLemmas.{same_itself}
 use Rattle.plant_base.specs.declared.refusal.Refusal.TheVariants.{BadForm, RefReused}
 use Rattle.plant_view.specs.{refuse}
-use Rattle.plant_rules.specs.{step, unless_refused, taken, IsRepeated, is_whole, wrong, wrong_there, kept_for, decoded}
+use Rattle.plant_rules.specs.{step, unless_refused, taken, IsRepeated, is_well_formed_body, wrong, wrong_there, kept_for, decoded}
 use Rattle.plant_desk.specs.{writes_nothing, reply, reply_by, number_of}
 use Rattle.plant_questions.specs.{DeskFault, Reply}
 use Rattle.plant_questions.specs.declared.reply.Reply.TheVariants.{Accepted, Refused}
@@ -52,14 +52,14 @@ kept_some s e n None is h = absurd h
 kept_some s e n (Some r) is h = (r, is, h.0, h.1)
 
 -- a repeat fails nothing
-repeat_fine : (s : State) (e : Envelope) (r : Receipt) → is_whole e.body ≡ true → kept_for s e ≡ Some r → r.content ≡ content_of e → wrong s e ≡ None
+repeat_fine : (s : State) (e : Envelope) (r : Receipt) → is_well_formed_body e.body ≡ true → kept_for s e ≡ Some r → r.content ≡ content_of e → wrong s e ≡ None
 unfolding wrong
 repeat_fine s e r whole kept equal =
     (λ i. refuse (not (whole i)) BadForm (decoded (kept i) (content_of e) (wrong_there s e)))
     ∙ ap (λ b. if b then None else Some RefReused) (ap (λ c. same c (content_of e)) equal ∙ same_itself (content_of e))
 
 -- it is answered its number, and leaves the state as it was
-pub repeated : (s : State) (e : Envelope) (n : ℕ) → is_whole e.body ≡ true → IsRepeated (content_of e) n (kept_for s e) → (Accepted n ≡ reply s e) × (s ≡ step s e)
+pub repeated : (s : State) (e : Envelope) (n : ℕ) → is_well_formed_body e.body ≡ true → IsRepeated (content_of e) n (kept_for s e) → (Accepted n ≡ reply s e) × (s ≡ step s e)
 unfolding reply
 repeated s e n whole again =
     let k = kept_some s e n (kept_for s e) refl again in

@@ -4,7 +4,7 @@ use Rattle.plant_base.specs.{State, newest_schema, batch_order, place_order}
 use Rattle.plant_view.proofs.ListLemmas.{put_kept}
 use Rattle.plant_view.specs.{RowChange, state_without_kept, tables_of, changed, changed_all, batch_row_order, sublot_order, place_of_row, batch_of_row}
 use Rattle.plant_view.specs.declared.change.RowChange.TheVariants as row
-use Rattle.plant_view.specs.Tables.{Tables}
+use Rattle.plant_view.specs.TableRows.{Tables}
 use Rattle.plant_answers.proofs.PlainTables.{plain_tables, whole_in_newest}
 use Rattle.plant_desk.specs.{applied, applied_all}
 

@@ -13,21 +13,21 @@ use Rattle.plant_questions.specs.declared.reply.DeskFault.TheVariants.{Store, Me
 abbrev pub States : Type 1
 States = State → Type 0
 
--- what comes of `execute` at an open keeper that represented s: the reply, what it represents afterwards, and what a stop leaves
+-- the outcome of `execute` at an open keeper that represented s: the reply, what it represents afterwards, and what a stop leaves
 abbrev pub Executes : State → States → (States → Type 0) → Envelope → Result Reply DeskFault → Type 0
 Executes s represents crash_states e (Ok r) = (r ≡ reply s e) × represents (step s e)
 Executes s represents crash_states e (Err Store) = represents s × crash_states (λ u. (u ≡ s) ⊎ (u ≡ step s e))
 Executes s represents crash_states e (Err Memory) = represents s
 Executes s represents crash_states e (Err Shut) = ⊥
 
--- what comes of `check` at an open keeper that represented s: what would become of the command, and what it represents afterwards
+-- the outcome of `check` at an open keeper that represented s: what would become of the command, and what it represents afterwards
 abbrev pub Checks : State → States → Envelope → Result Checked DeskFault → Type 0
 Checks s represents e (Ok c) = (c ≡ checked s e) × represents s
 Checks s represents e (Err Store) = represents s
 Checks s represents e (Err Memory) = represents s
 Checks s represents e (Err Shut) = ⊥
 
--- what comes of `ask` at an open keeper of schema k that represented s: the answer, and what it represents afterwards
+-- the outcome of `ask` at an open keeper of schema k that represented s: the answer, and what it represents afterwards
 abbrev pub Asks : ℕ → State → States → Question → Result Answer DeskFault → Type 0
 Asks k s represents q (Ok a) = (a ≡ answer k s q) × represents s
 Asks k s represents q (Err Store) = represents s

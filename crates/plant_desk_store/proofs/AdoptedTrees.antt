@@ -9,9 +9,9 @@ use Rattle.sql_tables.specs.{AreFree, IsSettled}
 use Rattle.plant_tables.specs.{desk_table_defs, FindsTables, opening_tables}
 use Rattle.plant_tables.specs.{rows_in, rows_listed, DeskRows}
 use Rattle.plant_invariant_tables.proofs.RowsInKeyOrder.{keyed}
-use Rattle.plant_migrate.specs.{edges_from, IsRaisedBy}
-use Rattle.plant_migrate.proofs.RaisingEnds.{position_reported, bookings_reported, finds_raised}
-use Rattle.plant_desk_store.specs.{HoldsValidState, AreMade, IsRaised}
+use Rattle.plant_migrate.specs.{edges_from, IsMigratedBy}
+use Rattle.plant_migrate.proofs.MigrationEnds.{position_reported, bookings_reported, finds_migrated}
+use Rattle.plant_desk_store.specs.{HoldsValidState, AreMade, IsMigrated}
 use Rattle.plant_desk_store.specs.Adopting.{IsOpened}
 
 pub opened : (old : Database) (trees : Trees) → AreFree desk_table_defs old.schema → IsDatabase old → AreMade old trees → IsOpened old trees
@@ -22,10 +22,10 @@ opened old trees free sound are =
       finds = subst (λ (d : Trees). FindsTables old d opening_tables) (sym are.2) (record { schema = are.0.schema; holds = made.0; others = made.1 });
     }
 
--- valid tables were raised from rows that are those of whatever valid state was there
-pub raised_from : (schema : ℕ) (old : store.State) (trees : Trees) (rows : DeskRows) → IsSettled old → (s : State) × HoldsValidState schema old.now s → ((s : State) → HoldsValidState schema old.now s → rows_listed rows ≡ rows_in (tables_of schema s))
-    → IsRaisedBy schema (newest_schema - schema) rows.meta.position (edges_from schema rows.movements.items) old trees → IsRaised old.now trees
-raised_from schema old trees rows settled represented reported made =
+-- valid tables were migrated from rows that are those of whatever valid state was there
+pub migrated_from : (schema : ℕ) (old : store.State) (trees : Trees) (rows : DeskRows) → IsSettled old → (s : State) × HoldsValidState schema old.now s → ((s : State) → HoldsValidState schema old.now s → rows_listed rows ≡ rows_in (tables_of schema s))
+    → IsMigratedBy schema (newest_schema - schema) rows.meta.position (edges_from schema rows.movements.items) old trees → IsMigrated old.now trees
+migrated_from schema old trees rows settled represented reported made =
     let high : schema ≤ newest_schema = represented.1.known.1 in
     record {
       version = schema;
@@ -36,6 +36,6 @@ raised_from schema old trees rows settled represented reported made =
       free = made.free;
       finds = λ s held.
           let are = reported s held in
-          finds_raised schema newest_schema s rows.meta.position (edges_from schema rows.movements.items) held.known.0 held.known.1 (omega arith) held.whole
+          finds_migrated schema newest_schema s rows.meta.position (edges_from schema rows.movements.items) held.known.0 held.known.1 (omega arith) held.whole
           (position_reported schema s rows are) (ap (edges_from schema) (bookings_reported schema s rows are)) old trees settled held.holds (keyed schema s held.valid) made;
     }

@@ -1,4 +1,4 @@
--- What comes of an adoption, by what was found.
+-- The outcome of an adoption, by what was found.
 use Rattle.std.proofs.Common.{◌≡◌, ℕ, pos, Result, Ok, Err, sym, subst, inl, inr, arith, All, MatchResult}
 use Rattle.sqlite.specs.Effect.{Database}
 use Rattle.sqlite.specs.State as store
@@ -9,12 +9,12 @@ use Rattle.sql_tables.specs.{Keeps, AreFree, IsFree}
 use Rattle.sql_tables.proofs.TransactionEnds.{IsStore}
 use Rattle.plant_tables.specs.{desk_table_defs}
 use Rattle.plant_tables.specs.{IsVersion}
-use Rattle.plant_desk_store.specs.{Adopts, HoldsValidState, IsRaised, IsRefusedBy, IsRisingAt, IsUnraised, NamesFirst, HasAdopted, HasRefused, HasMade, HasTaken, KeepsForeignTables}
+use Rattle.plant_desk_store.specs.{Adopts, HoldsValidState, IsMigrated, IsRefusedBy, IsRisingAt, IsUnmigrated, NamesFirst, HasAdopted, HasRefused, HasMade, HasTaken, KeepsForeignTables}
 use Rattle.plant_desk_store.specs.declared.adopting.AdoptFault.{AdoptFault}
-use Rattle.plant_desk_store.proofs.ValidIsAdoptedAgain.{not_free, one_reported, pos_le}
+use Rattle.plant_desk_store.proofs.ValidTablesAreAdopted.{not_free, one_reported, pos_le}
 use Rattle.plant_desk_store.proofs.CheckedStore.{IsThere, still_new, none_newer, refused_so}
 use Rattle.plant_desk_store.proofs.AdoptedTrees.{opened}
-use Rattle.plant_desk_store.proofs.RaisedTables.{shows_trans, survives_if, newest_reported}
+use Rattle.plant_desk_store.proofs.MigratedTables.{shows_trans, survives_if, newest_reported}
 use Rattle.plant_desk_store.proofs.FaultsOfCalls.{IsFoundKnown}
 
 abbrev Adoption : store.State → store.State → Result (Unit {0}) AdoptFault → Type 0
@@ -47,12 +47,12 @@ module _ (version : ℕ) (old mid new : store.State) (first : IsStore mid) (laws
     (found : HasCleanDisk mid → IsFoundKnown old mid version) (taken : ¬ All (IsFree old.now.schema) desk_table_defs) where
   crash_of : (r : Result (Unit {0}) AdoptFault) → HasTaken version mid new r → Survives old new (Adopts old)
   crash_of r did = survives_then old mid new _ _ _ (λ _ db none. absurd none)
-      (λ clean trees raised newly.
+      (λ clean trees migrated newly.
       let was : HasCleanDisk mid = omega (arith, did.crash.clean, clean) in
       let it = found was in
-      inr (subst (λ (db : Database). IsRaised db trees) it.same.0.now_is (raised (still_new old mid newly it.same first) it.known))) reads did.crash
+      inr (subst (λ (db : Database). IsMigrated db trees) it.same.0.now_is (migrated (still_new old mid newly it.same first) it.known))) reads did.crash
 
-  no_crash_state_added_by : (r : Result (Unit {0}) AdoptFault) → HasTaken version mid new r → IsUnraised old.now → Survives old new (λ _. ⊥)
+  no_crash_state_added_by : (r : Result (Unit {0}) AdoptFault) → HasTaken version mid new r → IsUnmigrated old.now → Survives old new (λ _. ⊥)
   no_crash_state_added_by r did whole = survives_if old new _ _ (crash_of r did)
       (λ clean.
       let was : HasCleanDisk mid = omega (arith, did.crash.clean, clean) in

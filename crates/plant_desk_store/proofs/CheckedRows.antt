@@ -5,7 +5,7 @@ use Rattle.sqlite.specs.Order.{Row}
 use Rattle.plant_base.specs.{Meta}
 use Rattle.plant_view.proofs.ListLemmas.{and_left}
 use Rattle.plant_tables.specs.{contents_loaded, DeskRows, Loaded, Rows, rows_from, rows_listed}
-use Rattle.plant_tables.proofs.RowsRepresentTables.{rows_back}
+use Rattle.plant_tables.proofs.EachTable.{rows_back}
 use Rattle.plant_tables_columns.specs.{only_meta}
 use Rattle.plant_tables_columns.proofs.RowLaws.{meta_reads}
 use Rattle.plant_check_rules.specs.{first_broken, first_broken_of, broken_rows}

@@ -5,7 +5,7 @@ use Rattle.plant_base.specs.{State, content_of, stamp_of, Envelope, Refusal}
 use Rattle.sql_tables.proofs.TransactionEnds.{IsStore}
 use Rattle.plant_view.specs.{Decision}
 use Rattle.plant_view.specs.declared.change.Decision.TheVariants as decision
-use Rattle.plant_rules.specs.{step, step_body, noted, IsRepeated, IsDecision, is_whole, wrong, kept_for}
+use Rattle.plant_rules.specs.{step, step_body, noted, IsRepeated, IsDecision, is_well_formed_body, wrong, kept_for}
 use Rattle.plant_rules.proofs.ReceiptDecisions.{next_number, step_new}
 use Rattle.plant_desk.specs.{reply, reply_by, number_of}
 use Rattle.plant_questions.specs.{DeskFault, Reply}
@@ -33,13 +33,13 @@ refused_reply : (s : State) (e : Envelope) (r : Refusal) → wrong s e ≡ Some 
 unfolding reply
 refused_reply s e r w = sym (ap (λ o. reply_by o (number_of (kept_for s e) (step s e))) w)
 
--- ---- what comes of it
+-- ---- the outcome
 
 pub refused : (s : State) (new : store.State) (e : Envelope) (r : Refusal) → wrong s e ≡ Some r → IsDurablyAt new s → Executed s new e (Ok (Refused r))
 refused s new e r w at = (refused_reply s e r w, subst (IsDurablyAt new) (refused_step s e r w) at)
 
 -- a command that was accepted before
-pub repeats : (s : State) (new : store.State) (e : Envelope) (n : ℕ) → is_whole e.body ≡ true → IsRepeated (content_of e) n (kept_for s e) → IsDurablyAt new s → Executed s new e (Ok (Accepted n))
+pub repeats : (s : State) (new : store.State) (e : Envelope) (n : ℕ) → is_well_formed_body e.body ≡ true → IsRepeated (content_of e) n (kept_for s e) → IsDurablyAt new s → Executed s new e (Ok (Accepted n))
 repeats s new e n whole again at = let both = repeated s e n whole again in (both.0, subst (IsDurablyAt new) both.1 at)
 
 pub committed : (s : State) (new : store.State) (e : Envelope) (r : Result Reply DeskFault) → wrong s e ≡ None → kept_for s e ≡ None → MatchResult r (λ x. x ≡ Accepted (s.seq + 1)) (λ f. f ≡ Store)

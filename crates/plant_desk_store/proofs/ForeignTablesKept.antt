@@ -6,9 +6,9 @@ use Rattle.sqlite.specs.Effect.{Database, IsDatabase}
 use Rattle.sqlite.specs.State as store
 use Rattle.sqlite.specs.State.{HasCleanDisk, Survives}
 use Rattle.sqlite_catalog.specs.Listing.{IsSound}
-use Rattle.plant_view.specs.Tables.{Tables}
+use Rattle.plant_view.specs.TableRows.{Tables}
 use Rattle.sql_tables.specs.{KeepsOtherTables, Keeps, IsSettled}
-use Rattle.sql_tables.proofs.WritesInTurn.{others_then}
+use Rattle.sql_tables.proofs.StatementSequence.{others_then}
 use Rattle.plant_tables.specs.{desk_table_defs, IsAt, FindsTables, FailureLeaves}
 use Rattle.plant_base.specs.{Envelope, State}
 use Rattle.plant_desk.specs.{shuts}

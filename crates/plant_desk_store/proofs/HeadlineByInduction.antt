@@ -17,13 +17,13 @@ use Rattle.plant_rules.specs.{Checked}
 use Rattle.plant_desk.specs.{States, Executes, Checks, Asks, shuts, reply, fold, replies}
 use Rattle.plant_questions.specs.{Answer, DeskFault, Question, Reply}
 use Rattle.plant_questions.specs.declared.reply.DeskFault.TheVariants.{Store, Memory, Shut}
-use Rattle.plant_desk_store.specs.{AdoptedFrom, Adopts, IsAdopted, IsRefusedBy, HasAdopted, HasRefused, IsAtState, IsFoundAt, IsKeptAt, IsSoAt, HasOpenableCrashState, IsAdoptable, IsOpenedAfter, Attempt, acknowledged, in_flight, PossibleOutcome, attempt_as, cut_off, StorePhase, opened, desk, refused, Execution, begun, found, adopted, unadopted, executed, ran, foretold, asked, verified, indexed, stopped, given_back, RunEnds, IsDurablyAt, Represents, HasCrashStates}
+use Rattle.plant_desk_store.specs.{AdoptedFrom, Adopts, IsAdopted, IsRefusedBy, HasAdopted, HasRefused, IsAtState, IsFoundAt, IsKeptAt, IsSoAt, HasOpenableCrashState, IsAdoptable, IsOpenedAfter, Attempt, acknowledged, in_flight, PossibleOutcome, attempt_as, cut_off, StorePhase, opened, desk, refused, Execution, begun, found, adopted, unadopted, executed, ran, command_checked, asked, verified, indexed, stopped, given_back, RunEnds, IsDurablyAt, Represents, HasCrashStates}
 use Rattle.plant_desk_store.specs.Headline.{Headline}
 use Rattle.plant_desk_store.specs.Executions.{IsOpened}
 use Rattle.plant_desk_store.specs.declared.adopting.AdoptFault.{AdoptFault}
 use Rattle.plant_desk_store.specs.declared.adopting.AdoptFault.TheVariants as fault
 use Rattle.plant_tables.proofs.OneVersion.{each_free, free_reports_nothing}
-use Rattle.plant_desk_store.proofs.ValidIsAdoptedAgain.{not_free, unrefused}
+use Rattle.plant_desk_store.proofs.ValidTablesAreAdopted.{not_free, unrefused}
 use Rattle.plant_desk_store.proofs.AnswersFollowMovements.{answered}
 use Rattle.plant_desk_store.proofs.RunsPreserveInvariant.{accounted_valid}
 use Rattle.plant_desk_store.proofs.CrashStatesReopen.{same_database, none_later, reopened, adopted_again, opening_adopted}
@@ -141,7 +141,7 @@ states_open c states crash_states = ∥∥₁_map crash_states.something (λ lef
 
 made_open : (old : Database) (trees : Trees) → IsAdopted old trees → IsOpenable trees
 made_open old trees (inl made) = (made.finds.schema, made.finds.holds.sound)
-made_open old trees (inr raised) = let found = (raised.finds raised.represented.0 raised.represented.1).finds in (found.schema, found.holds.sound)
+made_open old trees (inr migrated) = let found = (migrated.finds migrated.represented.0 migrated.represented.1).finds in (found.schema, found.holds.sound)
 
 refused_openable : (f : AdoptFault) (old new : store.State) → IsOpened old → HasRefused f old new → HasCleanDisk new → (trees : Trees) → new.may_leave trees → IsOpenable trees
 refused_openable f old new newly did clean trees left = elim (did.crash.crash clean trees left) [
@@ -200,11 +200,11 @@ ended_at s t attempts list n new shut (Some Memory) lead did = subst (λ (b : Bo
 ended_at s t attempts list n new shut (Some Shut) lead did = absurd did
 
 -- a check
-foretold_at : (s u : State) (attempts : List Attempt) (new : store.State) (e : Envelope) (r : Result Checked DeskFault) → PossibleOutcome s attempts u → Checks u (Represents new false) e r → Reached s attempts new (desk false)
-foretold_at s u attempts new e (Ok c) lead did = (u, lead, open_at new u did.1)
-foretold_at s u attempts new e (Err Store) lead did = (u, lead, open_at new u did)
-foretold_at s u attempts new e (Err Memory) lead did = (u, lead, open_at new u did)
-foretold_at s u attempts new e (Err Shut) lead did = absurd did
+command_checked_at : (s u : State) (attempts : List Attempt) (new : store.State) (e : Envelope) (r : Result Checked DeskFault) → PossibleOutcome s attempts u → Checks u (Represents new false) e r → Reached s attempts new (desk false)
+command_checked_at s u attempts new e (Ok c) lead did = (u, lead, open_at new u did.1)
+command_checked_at s u attempts new e (Err Store) lead did = (u, lead, open_at new u did)
+command_checked_at s u attempts new e (Err Memory) lead did = (u, lead, open_at new u did)
+command_checked_at s u attempts new e (Err Shut) lead did = absurd did
 
 -- a question
 asked_at : (s u : State) (attempts : List Attempt) (new : store.State) (q : Question) (r : Result Answer DeskFault) → PossibleOutcome s attempts u → Asks newest_schema u (Represents new false) q r → Reached s attempts new (desk false)
@@ -256,10 +256,10 @@ module _ {S : Type 0} (g : Ghosts S) where
         subst (λ (xs : List Attempt). Reached was.0 xs c (desk shut)) (append_assoc attempts taken (cut_off end (slice_get list n)))
             (ended_at was.0 (fold at.0 (take n list)) (attempts ++ taken) list n c shut end lead run.ended),
       )
-  execution first newly (foretold old new attempts e r before did) clean =
+  execution first newly (command_checked old new attempts e r before did) clean =
       let was = execution first newly before (did.honest clean) in
       let at = was.2 in
-      (was.0, was.1, foretold_at was.0 at.0 attempts (state g new) e r at.1 (did.checks clean at.0 (at.2.represents, λ _. at.2.crash_states)))
+      (was.0, was.1, command_checked_at was.0 at.0 attempts (state g new) e r at.1 (did.checks clean at.0 (at.2.represents, λ _. at.2.crash_states)))
   execution first newly (asked old new attempts q r before did) clean =
       let was = execution first newly before (did.honest clean) in
       let at = was.2 in
@@ -300,7 +300,7 @@ module _ {S : Type 0} (g : Ghosts S) where
     valid = at.represents.valid;
     accounted = accounted_valid u at.represents.valid;
     tables = λ is_live. (at.represents.shows is_live).holds;
-    foretold = λ e said new did clean. (did.checks clean u (at.represents, λ _. at.crash_states)).0;
+    command_checked = λ e said new did clean. (did.checks clean u (at.represents, λ _. at.crash_states)).0;
     reported = λ q a new did clean. (
         let it = did.asks clean u (at.represents, λ _. at.crash_states) in
         answered u at.represents.valid.sound q a it.0);

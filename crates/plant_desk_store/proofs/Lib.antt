@@ -1,8 +1,8 @@
 pub mod ExecutionsApplyOnce
 pub mod AdoptionOutcomes
-pub mod ValidIsAdoptedAgain
+pub mod ValidTablesAreAdopted
 pub mod AnswersFollowMovements
-pub mod AskedDesk
+pub mod ReadKeepsState
 pub mod CheckedRows
 pub mod CheckedStore
 pub mod RunsPreserveInvariant
@@ -12,7 +12,7 @@ pub mod MarksAreReached
 pub mod MissingIndexesAreCreated
 pub mod SchemaIsUnique
 pub mod ForeignTablesKept
-pub mod RaisedTables
+pub mod MigratedTables
 pub mod CrashStatesReopen
 pub mod ReadingKeepsState
 pub mod LookupsAreHonest

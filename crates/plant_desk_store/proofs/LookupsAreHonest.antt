@@ -1,4 +1,4 @@
--- Look-ups over a store that represents a state are honest, and show that state.
+-- Lookups over a store that represents a state are honest, and show that state.
 use Rattle.std.proofs.Common.{◌≡◌, ◌∙◌, Bool, false, IsTrue, sym, subst, arith}
 use Rattle.sqlite.specs.Effect.{Database}
 use Rattle.sqlite.specs.State as store
@@ -11,7 +11,7 @@ use Rattle.plant_keyed.specs.{IsHonest, PreservesFrame, IsCacheOf, CacheStaysVal
 use Rattle.plant_keyed.proofs.AbstractionIsState.{abstraction_is_state}
 use Rattle.plant_desk_store.specs.{ShowsState}
 
--- after a first look-up over an open store, which left it open, and further ones, none of which failed
+-- after a first lookup over an open store, which left it open, and further ones, none of which failed
 pub record AreHonest (old mid new : store.State) (failed : Bool) (is : LookupCache) (s : State) : Type 0 where
   pub ends : IsHonest new failed
   pub true_of : IsCacheOf (abstraction new.now) is

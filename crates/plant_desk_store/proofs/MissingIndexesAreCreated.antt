@@ -6,7 +6,7 @@ use Rattle.sqlite.specs.State as store
 use Rattle.sqlite.specs.State.{HasCleanDisk, IsUnchanged, Survives}
 use Rattle.plant_base.specs.{State, newest_schema}
 use Rattle.plant_view.specs.{tables_of}
-use Rattle.sql_tables.specs.{Fault, Keeps}
+use Rattle.sql_tables.specs.{StoreFault, Keeps}
 use Rattle.sql_tables.proofs.TransactionEnds.{IsStore}
 use Rattle.plant_tables.specs.{IsAt, AddsMissing, AreAllTaken, HasCreatedIndexes}
 use Rattle.plant_questions.specs.{DeskFault}
@@ -35,7 +35,7 @@ module _ (old mid new : store.State) (early : IsStore mid) (same : HasCleanDisk 
   abstraction : HasCleanDisk mid → (s : State) → IsDurablyAt old s → IsAt mid (tables_of newest_schema s)
   abstraction clean s at = (represented clean s at).represents.shows (is_live clean)
 
-  left_before : (r : Result (Unit {0}) Fault) → HasCreatedIndexes mid new r → HasCleanDisk new → AreAllTaken old.now.schema → (trees : Trees) → new.may_leave trees → old.may_leave trees
+  left_before : (r : Result (Unit {0}) StoreFault) → HasCreatedIndexes mid new r → HasCleanDisk new → AreAllTaken old.now.schema → (trees : Trees) → new.may_leave trees → old.may_leave trees
   left_before r did clean taken trees left =
       let taken_still = subst (λ (d : Database). AreAllTaken d.schema) (sym (same (did.honest clean)).0.now_is) taken in
       left_still old mid crash (did.honest clean) trees (left_still mid new (did.no_crash_state_added taken_still) clean trees left)
@@ -54,7 +54,7 @@ module _ (old mid new : store.State) (early : IsStore mid) (same : HasCleanDisk 
     no_crash_state_added = left_before (Ok tt) did;
   }
 
-  pub unmended : (f : Fault) → HasCreatedIndexes mid new (Err f) → HasMended old new (Err (desk_fault f))
+  pub unmended : (f : StoreFault) → HasCreatedIndexes mid new (Err f) → HasMended old new (Err (desk_fault f))
   unmended f did = record {
     rests = rests;
     clean = λ clean. omega (arith, crash.clean, did.honest clean);
@@ -70,7 +70,7 @@ module _ (old mid new : store.State) (early : IsStore mid) (same : HasCleanDisk 
   }
 
 -- where it couldn't be read
-pub unread : (old new : store.State) (f : Fault) → IsStore new → new.in_transaction ≡ false → (HasCleanDisk new → Keeps old new) → Survives old new (λ _. ⊥) → HasMended old new (Err (desk_fault f))
+pub unread : (old new : store.State) (f : StoreFault) → IsStore new → new.in_transaction ≡ false → (HasCleanDisk new → Keeps old new) → Survives old new (λ _. ⊥) → HasMended old new (Err (desk_fault f))
 unread old new f laws rests kept crash = record {
   rests = rests;
   clean = λ clean. omega (arith, crash.clean, clean);

@@ -12,7 +12,7 @@ pub use Rattle.sql_queries.specs.Opened.{IsNewlyOpened}
 pub use Rattle.plant_check_rules.specs.Damaged.{LacksTables, AreFirstBroken, IsFirstBroken, IsDamaged}
 use Rattle.plant_tables.specs.{desk_table_defs, later_table_defs, MakesDesk, IsAtOf, FindsTables, opening_tables, HoldsTablesOf}
 use Rattle.plant_tables.specs.{IsVersion, IsKnown, Loaded}
-use Rattle.plant_migrate.specs.{IsBetween, FindsRisable}
+use Rattle.plant_migrate.specs.{IsBetween, FindsMigratable}
 use Rattle.plant_check_rules.specs.{first_broken, Rule}
 use Rattle.plant_desk.specs.{States}
 use Rattle.plant_desk_store.specs.DeskStates.{IsDurablyAt, FindsStateOf}
@@ -53,15 +53,15 @@ ValidStateSurvives old new = HasCleanDisk new → IsNewlyOpened old → (version
 
 -- The tables of a valid state were there in an older version, and the store is at those of the same state in one between
 -- that and the newest, with the same foreign tables.
-pub record HasRisen (old new : store.State) : Type 0 where
+pub record HasMigratedInPart (old new : store.State) : Type 0 where
   pub version : ℕ
   pub state : State
   pub represented : HoldsValidState version old.now state
   pub between : IsBetween version newest_schema old new state
 
--- The store, where it is open, shows what it showed; or, after a fault of the store and no other, what was raised.
+-- The store, where it is open, shows what it showed; or, after a fault of the store and no other, what was migrated.
 abbrev pub ShowsUnchanged : AdoptFault → store.State → store.State → Type 0
-ShowsUnchanged f old new = IsTrue new.is_open → Keeps old new ⊎ ((f ≡ fault.Store) × HasRisen old new)
+ShowsUnchanged f old new = IsTrue new.is_open → Keeps old new ⊎ ((f ≡ fault.Store) × HasMigratedInPart old new)
 
 -- where a rule is named, it is this one, and where one is broken, it isn't reported as a fault of the store
 abbrev pub IsBroken : Option Rule → AdoptFault → Type 0
@@ -104,24 +104,24 @@ pub record IsOpened (old : Database) (trees : Trees) : Type 0 where
 -- The tables of a valid state were there in a schema below the newest, with the names free that later ones add, and in the
 -- trees those of the same state in a later schema are to be found, with the same foreign tables and with the names
 -- free that later ones than that add.
-pub record IsRaised (old : Database) (trees : Trees) : Type 0 where
+pub record IsMigrated (old : Database) (trees : Trees) : Type 0 where
   pub version : ℕ
   pub later : ℕ
   pub above : version < later
   pub known : later ≤ newest_schema
   pub represented : (s : State) × HoldsValidState version old s
   pub free : AreFree (later_table_defs version) old.schema
-  pub finds : (s : State) → HoldsValidState version old s → FindsRisable later old trees (tables_of later s)
+  pub finds : (s : State) → HoldsValidState version old s → FindsMigratable later old trees (tables_of later s)
 
 -- what an adoption may have made of a database, in what a stop leaves
 abbrev pub IsAdopted : Database → Trees → Type 0
-IsAdopted old trees = IsOpened old trees ⊎ IsRaised old trees
+IsAdopted old trees = IsOpened old trees ⊎ IsMigrated old trees
 
 -- the same of a store as it was just opened
 abbrev pub Adopts : store.State → Trees → Type 0
 Adopts c trees = IsNewlyOpened c → IsAdopted c.now trees
 
--- some of the desk's tables are there, and not of a version that is raised
-pub record IsUnraised (db : Database) : Type 0 where
+-- some of the desk's tables are there, and not of a version that is migrated
+pub record IsUnmigrated (db : Database) : Type 0 where
   pub taken : AreFree desk_table_defs db.schema → ⊥
   pub newest : (n : ℕ) → n < newest_schema → ¬ IsVersion db (pos n)

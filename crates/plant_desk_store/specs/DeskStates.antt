@@ -57,7 +57,7 @@ pub record HasForeignTables (c : store.State) (shut : Bool) (before : Database) 
   pub represents : Represents c shut state
   pub others : KeepsForeignTables before c
 
--- what comes of a command over a store that represented s
+-- the outcome of a command over a store that represented s
 abbrev pub Executed : State → store.State → Envelope → Result Reply DeskFault → Type 0
 Executed s new e (Ok r) = (r ≡ reply s e) × IsDurablyAt new (step s e)
 Executed s new e (Err Store) = ShowsState new s × HasCrashStates new (λ u. (u ≡ s) ⊎ (u ≡ step s e))

@@ -15,7 +15,7 @@ use Rattle.plant_rules.specs.{Checked}
 use Rattle.plant_desk.specs.{reply}
 use Rattle.plant_questions.specs.{Answer, DeskFault, Question, Reply}
 use Rattle.plant_questions.specs.declared.reply.DeskFault.TheVariants.{Store, Memory, Shut}
-use Rattle.plant_desk_store.specs.Calls.{HasAdopted, HasRefused, HasExecuted, HasForetold, HasAsked, HasRun, HasVerified, HasIndexed}
+use Rattle.plant_desk_store.specs.CallContracts.{HasAdopted, HasRefused, HasExecuted, HasCheckedCommand, HasAsked, HasRun, HasVerified, HasIndexed}
 use Rattle.plant_desk_store.specs.DeskLaws.{IsAdoptable}
 use Rattle.plant_desk_store.specs.declared.adopting.AdoptFault.{AdoptFault}
 
@@ -76,7 +76,7 @@ pub data Execution {S : Type 0} (g : Ghosts S) (first : Held S) : Held S → Sto
   unadopted : (old new : Held S) (attempts : List Attempt) (f : AdoptFault) → Execution g first old opened attempts → HasRefused f (state g old) (state g new) → Execution g first new refused attempts
   executed : (old new : Held S) (shut : Bool) (attempts : List Attempt) (e : Envelope) (r : Result Reply DeskFault) → Execution g first old (desk false) attempts → HasExecuted (state g old) (state g new) shut e r → Execution g first new (desk shut) (attempts ++ attempt_as e r)
   ran : (old new : Held S) (shut : Bool) (attempts : List Attempt) (list : List Envelope) (answered : List Reply) (end : Option DeskFault) → Execution g first old (desk false) attempts → HasRun (state g old) (state g new) shut list answered end → Execution g first new (desk shut) (attempts ++ attempts_of list answered end)
-  foretold : (old new : Held S) (attempts : List Attempt) (e : Envelope) (r : Result Checked DeskFault) → Execution g first old (desk false) attempts → HasForetold (state g old) (state g new) e r → Execution g first new (desk false) attempts
+  command_checked : (old new : Held S) (attempts : List Attempt) (e : Envelope) (r : Result Checked DeskFault) → Execution g first old (desk false) attempts → HasCheckedCommand (state g old) (state g new) e r → Execution g first new (desk false) attempts
   asked : (old new : Held S) (attempts : List Attempt) (q : Question) (r : Result Answer DeskFault) → Execution g first old (desk false) attempts → HasAsked (state g old) (state g new) q r → Execution g first new (desk false) attempts
   verified : (old new : Held S) (attempts : List Attempt) (r : Result (Option Rule) DeskFault) → Execution g first old (desk false) attempts → HasVerified (state g old) (state g new) r → Execution g first new (desk false) attempts
   indexed : (old new : Held S) (attempts : List Attempt) (r : Result (Unit {0}) DeskFault) → Execution g first old (desk false) attempts → HasIndexed (state g old) (state g new) r → Execution g first new (desk false) attempts

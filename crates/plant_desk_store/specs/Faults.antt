@@ -1,7 +1,7 @@
 -- What calls below the desk came to, as the desk and an adoption report it.
 use Rattle.std.specs.Prelude.{ℕ, ℤ, pos, negsuc, nat_lt, if◌then◌else◌, Option, Some, None, Result, Ok, Err}
-use Rattle.sql_tables.specs.{Fault}
-use Rattle.sql_tables.specs.declared.fault.Fault.TheVariants as below
+use Rattle.sql_tables.specs.{StoreFault}
+use Rattle.sql_tables.specs.declared.fault.StoreFault.TheVariants as below
 use Rattle.plant_base.specs.{newest_schema}
 use Rattle.plant_view.specs.{ViewFault}
 use Rattle.plant_view.specs.declared.fault.ViewFault.TheVariants as view
@@ -14,33 +14,33 @@ use Rattle.plant_desk_store.specs.declared.adopting.AdoptFault.{AdoptFault}
 use Rattle.plant_desk_store.specs.declared.adopting.AdoptFault.TheVariants as adopting
 
 -- a fault of the store, as the desk reports it
-abbrev pub desk_fault : Fault → DeskFault
+abbrev pub desk_fault : StoreFault → DeskFault
 desk_fault below.Store = desk.Store
 desk_fault below.Memory = desk.Memory
 
--- a fault of look-ups, or of what is made of their rows
-abbrev pub lookup_fault : ViewFault Fault → DeskFault
+-- a fault of lookups, or of what is made of their rows
+abbrev pub lookup_fault : ViewFault StoreFault → DeskFault
 lookup_fault (view.View f) = desk_fault f
 lookup_fault view.Memory = desk.Memory
 
 -- a fault of the store, as an adoption reports it
-abbrev pub adopt_fault : Fault → AdoptFault
+abbrev pub adopt_fault : StoreFault → AdoptFault
 adopt_fault below.Store = adopting.Store
 adopt_fault below.Memory = adopting.Memory
 
--- what look-ups came to
-abbrev pub looked_up : {A : Type 0} → Result A (ViewFault Fault) → Result A DeskFault
+-- what lookups came to
+abbrev pub looked_up : {A : Type 0} → Result A (ViewFault StoreFault) → Result A DeskFault
 looked_up (Ok a) = Ok a
 looked_up (Err f) = Err (lookup_fault f)
 
 -- the rows that a test reads: a table that isn't declared as its definition says is a fault of the store
-abbrev pub rows_to_test : Result (Option Loaded) Fault → Result Loaded DeskFault
+abbrev pub rows_to_test : Result (Option Loaded) StoreFault → Result Loaded DeskFault
 rows_to_test (Ok (Some x)) = Ok x
 rows_to_test (Ok None) = Err desk.Store
 rows_to_test (Err f) = Err (desk_fault f)
 
 -- the rows that an adoption reads: there such a table breaks the first rule
-abbrev pub rows_to_adopt : Result (Option Loaded) Fault → Result Loaded AdoptFault
+abbrev pub rows_to_adopt : Result (Option Loaded) StoreFault → Result Loaded AdoptFault
 rows_to_adopt (Ok (Some x)) = Ok x
 rows_to_adopt (Ok None) = Err (adopting.Damaged rule.Tables)
 rows_to_adopt (Err f) = Err (adopt_fault f)
@@ -51,7 +51,7 @@ schema_of_version (pos n) = if nat_lt newest_schema n then Err (adopting.Newer n
 schema_of_version (negsuc n) = Ok (Some 0)
 
 -- what an adoption finds: none of the desk's tables, or those of a schema
-abbrev pub schema_found : Result FoundTables Fault → Result (Option ℕ) AdoptFault
+abbrev pub schema_found : Result FoundTables StoreFault → Result (Option ℕ) AdoptFault
 schema_found (Ok tables.Nothing) = Ok None
 schema_found (Ok tables.NoMeta) = Err (adopting.Damaged rule.Tables)
 schema_found (Ok (tables.Version v)) = schema_of_version v

@@ -19,7 +19,7 @@ use Rattle.plant_answers.specs.{StandsFrom, standing_order, answer, missing}
 use Rattle.plant_questions.specs.{Answer, LotAnswer, Question, StandingLot}
 use Rattle.plant_questions.specs.declared.question.Question.TheVariants as Q
 use Rattle.plant_questions.specs.declared.question.Answer.TheVariants as A
-use Rattle.plant_desk_store.specs.Calls.{IsAccounted, HasRefused, HasForetold, HasAsked}
+use Rattle.plant_desk_store.specs.CallContracts.{IsAccounted, HasRefused, HasCheckedCommand, HasAsked}
 use Rattle.plant_desk_store.specs.Executions.{Attempt, PossibleOutcome, IsOpened, StorePhase, opened, desk, refused, Execution}
 use Rattle.plant_desk_store.specs.declared.adopting.AdoptFault.{AdoptFault}
 use Rattle.plant_desk_store.specs.declared.adopting.AdoptFault.TheVariants.{Store, Memory}
@@ -69,7 +69,7 @@ pub record IsAnsweredIn (s : State) (q : Question) (a : Answer) : Type 0 where
 abbrev pub IsAtState : State → Database → Type 0
 IsAtState s db = (AreFree desk_table_defs db.schema × (s ≡ opening)) ⊎ ((version : ℕ) × HoldsTablesOf version db (tables_of version s) × IsWholeIn version s)
 
--- A store that was opened is at the state, which is valid: nothing in it is lost or made. An adoption refuses it by a fault of
+-- A store that was opened is at the state, which is valid, with no row lost or added. An adoption refuses it by a fault of
 -- the store or for want of memory alone.
 pub record IsFoundAt {S : Type 0} (g : Ghosts S) (c : Held S) (s : State) : Type 0 where
   pub valid : StateInvariant s
@@ -83,7 +83,7 @@ pub record IsKeptAt {S : Type 0} (g : Ghosts S) (c : Held S) (s : State) : Type 
   pub valid : StateInvariant s
   pub accounted : IsAccounted s
   pub tables : IsTrue (state g c).is_open → HoldsTables (state g c).now (tables_of newest_schema s)
-  pub foretold : (e : Envelope) (said : Checked) (new : Held S) → HasForetold (state g c) (state g new) e (Ok said) → HasCleanDisk (state g new) → said ≡ checked s e
+  pub command_checked : (e : Envelope) (said : Checked) (new : Held S) → HasCheckedCommand (state g c) (state g new) e (Ok said) → HasCleanDisk (state g new) → said ≡ checked s e
   pub reported : (q : Question) (a : Answer) (new : Held S) → HasAsked (state g c) (state g new) q (Ok a) → HasCleanDisk (state g new) → IsAnsweredIn s q a
 
 -- a stop leaves something that can be opened: the trees of a sound database

@@ -1,4 +1,4 @@
--- What is decided by look-ups over a store.
+-- What is decided by lookups over a store.
 use Rattle.std.specs.Prelude.{◌≡◌, Some, None}
 use Rattle.plant_base.specs.{State, Envelope, Receipt}
 use Rattle.plant_rules.specs.{IsDecision, wrong, kept_for}

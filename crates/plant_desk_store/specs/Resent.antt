@@ -1,4 +1,4 @@
--- What comes of clients who send each command that was under way at a stop again, until it is acknowledged.
+-- Clients that send each command in flight at a stop again, until it is acknowledged.
 use Rattle.std.specs.Prelude.{◌≡◌, ◌⊎◌, List, [], ◌∷◌, ◌++◌, IsSome, ⊤}
 use Rattle.sqlite.specs.Held.{Held, state}
 use Rattle.sqlite.specs.State.{HasCleanDisk}

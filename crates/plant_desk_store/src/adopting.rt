@@ -4,18 +4,18 @@ ghost use Rattle.std.specs.Prelude.{◌≡◌, ◌≤◌, ◌<◌, false, IfOk, 
 ghost use Rattle.sqlite.specs.Held.{state};
 ghost use Rattle.plant_base.specs.{newest_schema};
 ghost use Rattle.plant_desk_store.specs.Adopting.{BrokenBy};
-ghost use Rattle.plant_desk_store.specs.Calls.{HasAdopted, HasRefused};
+ghost use Rattle.plant_desk_store.specs.CallContracts.{HasAdopted, HasRefused};
 ghost use Rattle.plant_desk_store.specs.Faults as spec;
-ghost use Rattle.plant_desk_store.specs.Parts.{HasMade, HasChecked, HasRaised, HasTaken};
+ghost use Rattle.plant_desk_store.specs.PrivateContracts.{HasMade, HasChecked, HasMigrated, HasTaken};
 ghost use Rattle.plant_desk_store.specs.Checks.{PassesChecks};
 
 use crate::check_error::{CheckError, check_desk};
 use crate::stored::Desk;
 use plant_base::NEWEST_SCHEMA;
 use plant_check_rules::Rule;
-use plant_migrate::raise_rows;
+use plant_migrate::migrate_rows;
 use plant_tables::{DeskRows, FoundTables, Loaded, commit_opening, found};
-use sql_tables::Fault;
+use sql_tables::StoreFault;
 use sqlite::{Alter, Connection};
 use std::alloc::Global;
 
@@ -45,18 +45,18 @@ pub struct AdoptRefused<S: Alter> {
     pub fault: AdoptFault,
 }
 
-fn fault_of(fault: Fault) -> AdoptFault
+fn fault_of(fault: StoreFault) -> AdoptFault
     ensures { result ≡ spec.adopt_fault fault }
 {
     match fault {
-        Fault::Store => AdoptFault::Store,
-        Fault::Memory => AdoptFault::Memory,
+        StoreFault::Store => AdoptFault::Store,
+        StoreFault::Memory => AdoptFault::Memory,
     }
 }
 
 /// The rows that an adoption reads. `Damaged`, of the first rule, where a table isn't declared as its definition says; Store
 /// where the store failed; Memory where there was none.
-fn rows_to_adopt(read: Result<Option<Loaded>, Fault>) -> Result<Loaded, AdoptFault>
+fn rows_to_adopt(read: Result<Option<Loaded>, StoreFault>) -> Result<Loaded, AdoptFault>
     ensures { result ≡ spec.rows_to_adopt read }
 {
     match read {
@@ -68,7 +68,7 @@ fn rows_to_adopt(read: Result<Option<Loaded>, Fault>) -> Result<Loaded, AdoptFau
 
 impl<S: Alter> Desk<S> {
     /// Adopts a store in which no transaction is open. One that has none of the desk's tables gets them, with the
-    /// opening state, in one transaction; valid tables of an older schema are raised to the newest, one schema after the
+    /// opening state, in one transaction; valid tables of an older schema are migrated to the newest, one schema after the
     /// other, each in a transaction of its own; foreign tables aren't read and stay.
     /// What a stop leaves is then that state, and after a fault what it left before, the opening state, or the valid state that
     /// was there, in its schema or a later one.
@@ -78,7 +78,7 @@ impl<S: Alter> Desk<S> {
     ///   it. Nothing is changed.
     /// - `Memory`: nothing is changed.
     /// - `Store`: the tables are as they were, or, where there were none, made with the opening state, or, where they were
-    ///   valid and of an older schema, raised, to the newest or to one between.
+    ///   valid and of an older schema, migrated, to the newest or to one between.
     pub fn adopt(alloc: Global, mut connection: Connection<S>) -> Result<Desk<S>, AdoptRefused<S>>
         requires { (state S.Store connection).in_transaction ≡ false }
         ensures adopted { IfOk result (λ desk. HasAdopted (state S.Store connection)
@@ -98,7 +98,7 @@ impl<S: Alter> Desk<S> {
     }
 }
 
-/// Makes the desk's tables where the store has none of them, else tests those that are there, and raises older ones.
+/// Makes the desk's tables where the store has none of them, else tests those that are there, and migrates older ones.
 fn adopt_on<S: Alter>(alloc: Global, connection: &mut Connection<S>) -> Result<(), AdoptFault>
     requires { (state S.Store connection.old).in_transaction ≡ false }
     ensures { MatchResult result (λ _. HasAdopted (state S.Store connection.old)
@@ -114,7 +114,7 @@ fn adopt_on<S: Alter>(alloc: Global, connection: &mut Connection<S>) -> Result<(
 /// The schema of the tables that were found, `None` where there are none of the desk's. `Damaged`, of the first rule, where
 /// table meta has no version; `Newer` where it has one above the newest; Store where the store failed; Memory where
 /// there was none.
-fn schema_found(found: Result<FoundTables, Fault>) -> Result<Option<u64>, AdoptFault>
+fn schema_found(found: Result<FoundTables, StoreFault>) -> Result<Option<u64>, AdoptFault>
     ensures { result ≡ spec.schema_found found }
 {
     match found {
@@ -137,7 +137,7 @@ fn schema_of_version(version: i64) -> Result<Option<u64>, AdoptFault>
     Ok(Some(schema))
 }
 
-/// Tests the tables of a schema, which are there, and raises them where they are valid and the schema isn't the newest.
+/// Tests the tables of a schema, which are there, and migrates them where they are valid and the schema isn't the newest.
 fn adopt_tables<S: Alter>(
     alloc: Global,
     connection: &mut Connection<S>,
@@ -148,7 +148,7 @@ fn adopt_tables<S: Alter>(
 {
     let rows = check_tables(alloc, connection, schema)?;
     if schema < NEWEST_SCHEMA {
-        raise_tables(alloc, connection, schema, &rows)
+        migrate_tables(alloc, connection, schema, &rows)
     } else {
         Ok(())
     }
@@ -191,8 +191,8 @@ fn check_loaded(alloc: Global, loaded: Loaded, schema: u64) -> Result<DeskRows, 
     }
 }
 
-/// Raises valid tables of an older schema, whose rows these are, to the newest, one schema after the other.
-fn raise_tables<S: Alter>(
+/// Migrates valid tables of an older schema, whose rows these are, to the newest, one schema after the other.
+fn migrate_tables<S: Alter>(
     alloc: Global,
     connection: &mut Connection<S>,
     schema: u64,
@@ -201,10 +201,10 @@ fn raise_tables<S: Alter>(
     requires rest { (state S.Store connection.old).in_transaction ≡ false }
     requires numbered { 1 ≤ schema }
     requires older { schema < newest_schema }
-    ensures { HasRaised schema rows.now (state S.Store connection.old) (state S.Store connection.new)
+    ensures { HasMigrated schema rows.now (state S.Store connection.old) (state S.Store connection.new)
         result }
 {
-    match raise_rows(alloc, connection, schema, NEWEST_SCHEMA, rows) {
+    match migrate_rows(alloc, connection, schema, NEWEST_SCHEMA, rows) {
         Ok(()) => Ok(()),
         Err(fault) => Err(fault_of(fault)),
     }

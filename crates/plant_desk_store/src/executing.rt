@@ -5,7 +5,7 @@ ghost use Rattle.sqlite.specs.Held.{state};
 ghost use Rattle.plant_base.specs.{greatest_seq};
 ghost use Rattle.plant_view.specs.{PutsOneBatch};
 ghost use Rattle.plant_desk.specs.{writes_nothing};
-ghost use Rattle.plant_desk_store.specs.Parts.{HasCommitted, HasStepped, HasWritten};
+ghost use Rattle.plant_desk_store.specs.PrivateContracts.{HasCommitted, HasStepped, HasWritten};
 
 use crate::lookups::{Decided, decide_on};
 use plant_base::Envelope;
@@ -15,7 +15,7 @@ use plant_view::{Decision, RowChange, RowParts};
 use sqlite::{Alter, Connection};
 use std::alloc::Global;
 
-/// Executes a command over a store in which no transaction is open: it is decided by look-ups, and what it changes is
+/// Executes a command over a store in which no transaction is open: it is decided by lookups, and what it changes is
 /// written in one transaction.
 pub(crate) fn execute_on<S: Alter>(
     alloc: Global,

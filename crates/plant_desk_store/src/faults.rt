@@ -6,20 +6,20 @@ ghost use Rattle.plant_desk_store.specs.Faults as spec;
 use plant_questions::DeskFault;
 use plant_tables::Loaded;
 use plant_view::ViewFault;
-use sql_tables::Fault;
+use sql_tables::StoreFault;
 
 /// The fault of the desk that a fault of its store is.
-pub(crate) fn fault_of(fault: Fault) -> DeskFault
+pub(crate) fn fault_of(fault: StoreFault) -> DeskFault
     ensures { result ≡ spec.desk_fault fault }
 {
     match fault {
-        Fault::Store => DeskFault::Store,
-        Fault::Memory => DeskFault::Memory,
+        StoreFault::Store => DeskFault::Store,
+        StoreFault::Memory => DeskFault::Memory,
     }
 }
 
-/// The fault of the desk where look-ups over its store, or what is made of their rows, came to none.
-pub(crate) fn fault_in(fault: ViewFault<Fault>) -> DeskFault
+/// The fault of the desk where lookups over its store, or what is made of their rows, came to none.
+pub(crate) fn fault_in(fault: ViewFault<StoreFault>) -> DeskFault
     ensures { result ≡ spec.lookup_fault fault }
 {
     match fault {
@@ -28,8 +28,8 @@ pub(crate) fn fault_in(fault: ViewFault<Fault>) -> DeskFault
     }
 }
 
-/// What look-ups came to, as the desk reports it.
-pub(crate) fn looked_up<T>(answer: Result<T, ViewFault<Fault>>) -> Result<T, DeskFault>
+/// What lookups came to, as the desk reports it.
+pub(crate) fn looked_up<T>(answer: Result<T, ViewFault<StoreFault>>) -> Result<T, DeskFault>
     ensures { result ≡ spec.looked_up answer }
 {
     match answer {
@@ -40,7 +40,7 @@ pub(crate) fn looked_up<T>(answer: Result<T, ViewFault<Fault>>) -> Result<T, Des
 
 /// The rows that a test reads. Store where a table isn't declared as its definition says, and where the store failed; Memory
 /// where there was none.
-pub(crate) fn rows_to_test(read: Result<Option<Loaded>, Fault>) -> Result<Loaded, DeskFault>
+pub(crate) fn rows_to_test(read: Result<Option<Loaded>, StoreFault>) -> Result<Loaded, DeskFault>
     ensures { result ≡ spec.rows_to_test read }
 {
     match read {

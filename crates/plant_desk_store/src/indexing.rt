@@ -2,7 +2,7 @@
 
 ghost use Rattle.std.specs.Prelude.{◌≡◌, false};
 ghost use Rattle.sqlite.specs.Held.{state};
-ghost use Rattle.plant_desk_store.specs.Parts.{HasMended};
+ghost use Rattle.plant_desk_store.specs.PrivateContracts.{HasMended};
 
 use crate::faults::fault_of;
 use plant_questions::DeskFault;

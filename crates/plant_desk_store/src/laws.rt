@@ -2,7 +2,7 @@
 
 ghost use Rattle.std.specs.Prelude.{◌≡◌, false};
 ghost use Rattle.sqlite.specs.Held.{state};
-ghost use Rattle.plant_desk_store.specs.Calls.{HasExecuted, HasForetold, HasAsked};
+ghost use Rattle.plant_desk_store.specs.CallContracts.{HasExecuted, HasCheckedCommand, HasAsked};
 ghost use Rattle.plant_desk_store.specs.Headline.{Headline};
 ghost use Rattle.plant_desk_store.specs.DeskLaws.{StopsAreReopened, ValidIsNotRefused};
 ghost use Rattle.plant_desk_store.specs.DeskLaws.{ValidIsAdoptedAgain, OpeningIsAdopted};
@@ -43,7 +43,7 @@ pub fn resend_law<S: Alter>()
     ensures stores { StoresApplyOnce S.Store }
 {}
 
-/// Executes a command over a desk that isn't shut: what comes of it, in the terms of the main theorem.
+/// Executes a command over a desk that isn't shut: the outcome, in the terms of the main theorem.
 /// `Store` where the store failed; the desk is then shut, and the command is stored or not. `Memory` where memory was
 /// refused; nothing has changed then.
 pub fn execute_with_outcome<S: Alter>(
@@ -57,21 +57,21 @@ pub fn execute_with_outcome<S: Alter>(
     desk.execute(envelope)
 }
 
-/// Checks a command at a desk that isn't shut: what comes of it, in the terms of the main theorem.
+/// Checks a command at a desk that isn't shut: the outcome, in the terms of the main theorem.
 /// `Store` where the store failed; `Memory` where memory was refused. The desk isn't shut by either.
 pub fn check_with_outcome<S: Alter>(
     desk: &mut Desk<S>,
     envelope: &Envelope,
 ) -> Result<Checked, DeskFault>
     requires { desk.old.is_shut ≡ false }
-    ensures reported { HasForetold (state S.Store desk.old.connection) (state S.Store desk.new.connection)
+    ensures reported { HasCheckedCommand (state S.Store desk.old.connection) (state S.Store desk.new.connection)
         envelope.now result }
     ensures open { desk.new.is_shut ≡ false }
 {
     desk.check(envelope)
 }
 
-/// Asks a desk that isn't shut: what comes of it, in the terms of the main theorem.
+/// Asks a desk that isn't shut: the outcome, in the terms of the main theorem.
 /// `Store` where the store failed; `Memory` where memory was refused. The desk isn't shut by either.
 pub fn ask_with_outcome<S: Alter>(
     desk: &mut Desk<S>,

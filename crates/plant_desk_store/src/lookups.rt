@@ -1,4 +1,4 @@
-//! Decisions, checks and answers by look-ups: of a store only the rows are read that a command or a question names.
+//! Decisions, checks and answers by lookups: of a store only the rows are read that a command or a question names.
 
 ghost use Rattle.std.specs.Prelude.{◌≡◌, ◌≤◌, ⊤, IfOk, OnOk, IsTrue};
 ghost use Rattle.sqlite.specs.Held.{state};
@@ -9,7 +9,7 @@ ghost use Rattle.plant_rules.specs.{checked};
 ghost use Rattle.plant_answers.specs.{answer};
 ghost use Rattle.plant_keyed.specs.{PreservesFrame, IsCacheOf};
 ghost use Rattle.plant_desk_store.specs.Lookups.{IsDecidedAt};
-ghost use Rattle.plant_desk_store.specs.Parts.{HasDecided, HasForeseen, HasAnswered, HasLookedUp};
+ghost use Rattle.plant_desk_store.specs.PrivateContracts.{HasDecided, HasLookedUpCheck, HasAnswered, HasLookedUp};
 ghost use Rattle.plant_desk_store.specs.DeskStates.{ShowsState};
 
 use crate::faults::looked_up;
@@ -20,7 +20,7 @@ use plant_questions::{Answer, DeskFault, Question};
 use plant_rules::{Checked, check, decide};
 use plant_trace::Edges;
 use plant_view::{Decision, ViewFault};
-use sql_tables::Fault;
+use sql_tables::StoreFault;
 use sqlite::{Alter, Connection};
 use std::alloc::Global;
 
@@ -33,7 +33,7 @@ pub(crate) struct Decided {
     pub decision: Decision,
 }
 
-/// Decides a command over the tables of a store. Store where a look-up fails, Memory where there is none. Nothing is
+/// Decides a command over the tables of a store. Store where a lookup fails, Memory where there is none. Nothing is
 /// changed.
 pub(crate) fn decide_on<S: Alter>(
     alloc: Global,
@@ -46,21 +46,21 @@ pub(crate) fn decide_on<S: Alter>(
     over_view(alloc, connection, &Deciding { envelope })
 }
 
-/// Says what would become of a command over the tables of a store, by the rows that it names. Store where a look-up fails,
+/// Says what would become of a command over the tables of a store, by the rows that it names. Store where a lookup fails,
 /// Memory where there is none. Nothing is changed.
 pub(crate) fn check_on<S: Alter>(
     alloc: Global,
     connection: &mut Connection<S>,
     envelope: &Envelope,
 ) -> Result<Checked, DeskFault>
-    ensures { HasForeseen (state S.Store connection.old) (state S.Store connection.new) envelope.now
+    ensures { HasLookedUpCheck (state S.Store connection.old) (state S.Store connection.new) envelope.now
         result }
 {
     over_view(alloc, connection, &Checking { envelope })
 }
 
 /// Answers a question over the tables of a store: a trace reads the edges that it follows, or all of them once where they
-/// are many. Store where a look-up fails, Memory where there is none. Nothing is changed.
+/// are many. Store where a lookup fails, Memory where there is none. Nothing is changed.
 pub(crate) fn answer_on<S: Alter>(
     alloc: Global,
     connection: &mut Connection<S>,
@@ -81,22 +81,22 @@ trait OverView {
     ghost use Rattle.plant_view.specs.DecisionInvariant.{DecisionInvariant};
     ghost use Rattle.plant_keyed.specs.{abstraction};
 
-    /// What it comes to, where no look-up fails.
+    /// What it comes to, where no lookup fails.
     type Outcome: Drop;
 
     /// What is right at a state.
     ghost is_right: { State → Self → Self.Outcome → Type 0 };
 
-    /// What is so of each outcome, also where the look-ups aren't honest.
+    /// What is so of each outcome, also where the lookups aren't honest.
     ghost is_formed: { Self.Outcome → Type 0 };
 
-    /// The outcome by look-ups over a view, where so many commands were accepted before.
+    /// The outcome by lookups over a view, where so many commands were accepted before.
     fn look_up<'k, S: Alter>(
         &self,
         alloc: Global,
         view: &mut Keyed<'k, S>,
         seq: u64,
-    ) -> Result<Self::Outcome, ViewFault<Fault>>
+    ) -> Result<Self::Outcome, ViewFault<StoreFault>>
         ensures right { ReadOnly ⟦<Keyed<'k, S> as Edges>⟧ view.old view.new
             (DecisionInvariant (abstraction (state S.Store view.old.conn.now).now)
             → seq ≡ (abstraction (state S.Store view.old.conn.now).now).seq
@@ -122,7 +122,7 @@ impl<'a> OverView for Deciding<'a> {
         alloc: Global,
         view: &mut Keyed<'k, S>,
         seq: u64,
-    ) -> Result<Decided, ViewFault<Fault>> {
+    ) -> Result<Decided, ViewFault<StoreFault>> {
         let decision = decide(alloc, view, self.envelope)?;
         Ok(Decided { seq, decision })
     }
@@ -146,7 +146,7 @@ impl<'a> OverView for Checking<'a> {
         alloc: Global,
         view: &mut Keyed<'k, S>,
         _seq: u64,
-    ) -> Result<Checked, ViewFault<Fault>> {
+    ) -> Result<Checked, ViewFault<StoreFault>> {
         check(alloc, view, self.envelope)
     }
 }
@@ -169,12 +169,12 @@ impl<'a> OverView for Asking<'a> {
         alloc: Global,
         view: &mut Keyed<'k, S>,
         _seq: u64,
-    ) -> Result<Answer, ViewFault<Fault>> {
+    ) -> Result<Answer, ViewFault<StoreFault>> {
         answer(alloc, view, self.question)
     }
 }
 
-/// The outcome over the tables of a store. Store where a look-up fails, Memory where there is none. Nothing is changed.
+/// The outcome over the tables of a store. Store where a lookup fails, Memory where there is none. Nothing is changed.
 fn over_view<T: OverView, S: Alter>(
     alloc: Global,
     connection: &mut Connection<S>,
@@ -188,13 +188,13 @@ fn over_view<T: OverView, S: Alter>(
     looked_up(outcome_over(alloc, &mut view, asked))
 }
 
-/// The outcome by look-ups. `View` where one of them fails, with its fault; `Memory` where there is none for what is made of
+/// The outcome by lookups. `View` where one of them fails, with its fault; `Memory` where there is none for what is made of
 /// their rows.
 fn outcome_over<T: OverView, S: Alter>(
     alloc: Global,
     view: &mut Keyed<'_, S>,
     asked: &T,
-) -> Result<T::Outcome, ViewFault<Fault>>
+) -> Result<T::Outcome, ViewFault<StoreFault>>
     ensures same_reference { view.new.conn.ghost_name ≡ view.old.conn.ghost_name }
     ensures frame { PreservesFrame (state S.Store view.old.conn.now) (state S.Store view.new.conn.now)
         view.old.has_failed view.new.has_failed }
@@ -208,9 +208,9 @@ fn outcome_over<T: OverView, S: Alter>(
     // A position that was read shows that the connection is open.
     let position = view.read_position().map_err(ViewFault::View)?;
     let outcome = asked.look_up(alloc, view, position.seq)?;
-    // That nothing is said after a look-up failed isn't a clause of `look_up`.
+    // That nothing is said after a lookup failed isn't a clause of `look_up`.
     if view.has_failed {
-        return Err(ViewFault::View(Fault::Store));
+        return Err(ViewFault::View(StoreFault::Store));
     }
     Ok(outcome)
 }

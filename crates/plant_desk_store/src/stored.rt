@@ -29,7 +29,7 @@ pub struct Desk<S: Alter> {
 impl<S: Alter> Desk<S> {
     ghost use Rattle.std.specs.Prelude.{◌≡◌, [], true, false, Some, IsErrOf};
     ghost use Rattle.sqlite.specs.Held.{state};
-    ghost use Rattle.plant_desk_store.specs.Calls.{HasRun, HasVerified, HasIndexed};
+    ghost use Rattle.plant_desk_store.specs.CallContracts.{HasRun, HasVerified, HasIndexed};
 
     /// Executes commands in order, up to the first fault. Room for the replies is taken first; where it is refused,
     /// nothing is executed. A desk that is shut gives no replies, ends `Shut` and stays as it is; no other ends so.

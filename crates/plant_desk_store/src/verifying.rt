@@ -3,7 +3,7 @@
 ghost use Rattle.std.specs.Prelude.{◌≡◌, IfOk, IfErr};
 ghost use Rattle.sqlite.specs.Held.{state};
 ghost use Rattle.plant_check_rules.specs.{first_broken};
-ghost use Rattle.plant_desk_store.specs.Parts.{HasTested};
+ghost use Rattle.plant_desk_store.specs.PrivateContracts.{HasTested};
 
 use crate::check_error::{CheckError, check_desk};
 use crate::faults::rows_to_test;

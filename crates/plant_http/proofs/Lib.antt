@@ -1,2 +1,2 @@
-pub mod JobPerforms
+pub mod TaskPerforms
 pub mod RequestOfInput

@@ -1,6 +1,9 @@
--- What is answered to a job.
-use Rattle.std.specs.Prelude.{◌≡◌, ℕ, Bool, false, List, [], ◌++◌, length, codes, decimal, string_bytes, if◌then◌else◌, ◌==◌, ◌⊎◌, Result, Ok, Err}
-use Rattle.desk_page.specs.declared.page.TheConstants.{PAGE}
+-- What is answered to a task.
+use Rattle.std.specs.Prelude.{◌≡◌, ℕ, Bool, false, ◌||◌, List, [], ◌++◌, length, codes, decimal, string_bytes, if◌then◌else◌, ◌==◌, ◌⊎◌, Option, Some, None, Result, Ok, Err}
+use Rattle.httpdate.specs.Date.{date_text}
+use Rattle.httpdate.specs.declared.date.HttpDate.{HttpDate}
+use Rattle.desk_page.specs.{Resource, bytes_of, media_type_of, tag_of}
+use Rattle.desk_page.specs.declared.resource.Resource.TheVariants as part
 use Rattle.desk_page.specs.declared.policy.TheConstants.{POLICY}
 use Rattle.plant_base.specs.{State, number_of}
 use Rattle.plant_base.specs.declared.refusal.Refusal.TheVariants.{BadForm}
@@ -15,15 +18,17 @@ use Rattle.plant_text_answers.specs.{record_text}
 use Rattle.plant_text_answers.specs.{text_of_answer, reply_text, fault_text}
 use Rattle.plant_text_checks.specs.{check_text, check_answer, CheckAnswer}
 use Rattle.plant_text.specs.{check_when_shut}
-use Rattle.plant_http_requests.specs.{Allow, Job, Status}
+use Rattle.plant_http_requests.specs.{Allow, HeadDecision, RequestTask, Profile, Status, Terms}
+use Rattle.plant_http_requests.specs.declared.profile.Profile.TheVariants as profile
 use Rattle.plant_http_requests.specs.{BodyFormat}
-use Rattle.plant_http_requests.specs.declared.job.Job.TheVariants as J
+use Rattle.plant_http_requests.specs.declared.task.HeadDecision.TheVariants as head
+use Rattle.plant_http_requests.specs.declared.task.RequestTask.TheVariants as J
 use Rattle.plant_http_requests.specs.declared.routes.BodyFormat.TheVariants.{Json, Record}
 use Rattle.plant_http_requests.specs.declared.status.Status.TheVariants as st
-use Rattle.plant_http_requests.specs.declared.status.Allow.TheVariants.{Unsaid, Get, Post}
+use Rattle.plant_http_requests.specs.declared.status.Allow.TheVariants.{NoHeader, Get, Post}
 use Rattle.plant_http.specs.declared.media.MediaType.{MediaType}
 use Rattle.plant_http.specs.declared.media.MediaType.TheVariants as media
-use Rattle.plant_http.specs.declared.answer.Answer.{Answer}
+use Rattle.plant_http.specs.declared.answer.Response.{Response}
 use Rattle.plant_http.specs.declared.answer.Body.{Body}
 use Rattle.plant_http.specs.declared.answer.Body.TheVariants as B
 
@@ -31,6 +36,7 @@ use Rattle.plant_http.specs.declared.answer.Body.TheVariants as B
 
 abbrev pub code_of : Status → ℕ
 code_of st.Success = 200
+code_of st.NotModified = 304
 code_of st.BadRequest = 400
 code_of st.Forbidden = 403
 code_of st.NotFound = 404
@@ -44,6 +50,7 @@ code_of st.Unavailable = 503
 
 abbrev pub phrase_of : Status → List ℕ
 phrase_of st.Success = codes "OK"
+phrase_of st.NotModified = codes "Not Modified"
 phrase_of st.BadRequest = codes "Bad Request"
 phrase_of st.Forbidden = codes "Forbidden"
 phrase_of st.NotFound = codes "Not Found"
@@ -56,7 +63,7 @@ phrase_of st.NotImplemented = codes "Not Implemented"
 phrase_of st.Unavailable = codes "Service Unavailable"
 
 abbrev pub allow_line : Allow → List ℕ
-allow_line Unsaid = []
+allow_line NoHeader = []
 allow_line Get = codes "Allow: GET, HEAD\r\n"
 allow_line Post = codes "Allow: POST\r\n"
 
@@ -67,29 +74,45 @@ media_of Record = media.Plain
 abbrev pub type_of : MediaType → List ℕ
 type_of media.Json = codes "application/json"
 type_of media.Plain = codes "text/plain"
-type_of media.Html = codes "text/html; charset=utf-8"
+type_of (media.Resource resource) = media_type_of resource
 
 -- the policy under which a browser shows the page
 unfoldable pub policy_bytes : List ℕ
 policy_bytes = POLICY.now
 
--- the lines of the fields that only the page has
-abbrev pub guard_lines : MediaType → List ℕ
-guard_lines media.Json = []
-guard_lines media.Plain = []
-guard_lines media.Html =
+-- the lines that keep a resource from misuse: each, and the page itself
+abbrev pub security_header_lines : Resource → List ℕ
+security_header_lines part.Page =
     codes "X-Frame-Options: DENY\r\n" ++ codes "X-Content-Type-Options: nosniff\r\n"
     ++ codes "Content-Security-Policy: " ++ policy_bytes ++ codes "\r\n"
+security_header_lines part.Style = codes "X-Content-Type-Options: nosniff\r\n"
+security_header_lines part.Script = codes "X-Content-Type-Options: nosniff\r\n"
+security_header_lines part.Views = codes "X-Content-Type-Options: nosniff\r\n"
+
+-- the lines by which a browser keeps a resource, and asks each time whether it still is as it was
+abbrev pub validator_lines : Resource → List ℕ
+validator_lines resource = codes "ETag: " ++ tag_of resource ++ codes "\r\nCache-Control: no-cache\r\n"
+
+-- the lines of the fields that only a resource of the page has
+abbrev pub resource_lines : MediaType → List ℕ
+resource_lines media.Json = []
+resource_lines media.Plain = []
+resource_lines (media.Resource resource) = security_header_lines resource ++ validator_lines resource
 
 -- ---- the text of an answer
 
+-- the line of the machine's time, where the answer carries it
+abbrev pub date_line : Option HttpDate → List ℕ
+date_line None = []
+date_line (Some now) = codes "Date: " ++ date_text now ++ codes "\r\n"
+
 -- the lines before a body of so many bytes
-unfoldable pub head_text : Status → Allow → MediaType → ℕ → List ℕ
-head_text status allow media_type size =
+unfoldable pub head_text : Option HttpDate → Status → Allow → MediaType → ℕ → List ℕ
+head_text date status allow media_type size =
     codes "HTTP/1.1 " ++ decimal (code_of status) ++ codes " " ++ phrase_of status
     ++ codes "\r\nContent-Type: " ++ type_of media_type
     ++ codes "\r\nContent-Length: " ++ decimal size
-    ++ codes "\r\nConnection: close\r\n" ++ allow_line allow ++ guard_lines media_type ++ codes "\r\n"
+    ++ codes "\r\nConnection: close\r\n" ++ date_line date ++ allow_line allow ++ resource_lines media_type ++ codes "\r\n"
 
 -- an answer's parts
 pub record Out : Type 0 where
@@ -99,19 +122,23 @@ pub record Out : Type 0 where
   pub body : List ℕ
 
 -- the bytes of an answer, whose body may be left out
-unfoldable pub answer_bytes : Bool → Out → List ℕ
-answer_bytes silent out = head_text out.status out.allow out.media_type (length out.body) ++ (if silent then [] else out.body)
+unfoldable pub answer_bytes : Option HttpDate → Bool → Out → List ℕ
+answer_bytes date silent out = head_text date out.status out.allow out.media_type (length out.body) ++ (if silent then [] else out.body)
 
 -- ---- bodies
 
 abbrev pub status_text : Status → List ℕ
 status_text status = codes "{\"status\":" ++ decimal (code_of status) ++ codes "}"
 
+-- a command is ahead of the machine's clock by more than so many seconds
+abbrev pub ahead_text : ℕ → List ℕ
+ahead_text most = codes "{\"ahead\":" ++ decimal most ++ codes ",\"status\":400}"
+
 abbrev pub csv_text : CsvFault → List ℕ
 csv_text f = codes "{\"csv\":\"" ++ kind_name f.kind ++ codes "\",\"row\":" ++ decimal f.row ++ codes "}"
 
 abbrev pub json_out : Status → List ℕ → Out
-json_out status body = record { status = status; allow = Unsaid; media_type = media.Json; body = body }
+json_out status body = record { status = status; allow = NoHeader; media_type = media.Json; body = body }
 
 -- a status alone
 abbrev pub error_out : Status → Allow → Out
@@ -120,6 +147,9 @@ error_out status allow = record { status = status; allow = allow; media_type = m
 -- a fault of the keeper, or want of memory
 abbrev pub fault_out : DeskFault → Out
 fault_out f = json_out st.Unavailable (fault_text f)
+
+abbrev pub ahead_out : ℕ → Out
+ahead_out most = json_out st.BadRequest (ahead_text most)
 
 abbrev pub csv_out : CsvFault → Out
 csv_out f = json_out st.BadRequest (csv_text f)
@@ -154,54 +184,77 @@ text_in body_format (A.Batch v) = batch_in body_format v
 text_in body_format a = text_of_answer a
 
 abbrev pub answer_out : BodyFormat → DeskAnswer → Out
-answer_out body_format a = record { status = answer_status a; allow = Unsaid; media_type = media_of (body_format_for body_format a); body = text_in body_format a }
+answer_out body_format a = record { status = answer_status a; allow = NoHeader; media_type = media_of (body_format_for body_format a); body = text_in body_format a }
 
 -- that a command would be refused is an answer as another is
 abbrev pub check_out : CheckAnswer → Out
 check_out a = json_out st.Success (check_text a)
 
--- what came of a check
+-- the outcome of a check
 abbrev pub checked_out : Result CheckAnswer DeskFault → Out
 checked_out (Ok a) = check_out a
 checked_out (Err f) = fault_out f
 
--- the bytes of the page
-unfoldable pub page_text : List ℕ
-page_text = PAGE.now
+-- a client that has a resource as it is learns just that
+abbrev pub resource_status : Bool → Status
+resource_status is_current = if is_current then st.NotModified else st.Success
 
-abbrev pub page_out : Out
-page_out = record { status = st.Success; allow = Unsaid; media_type = media.Html; body = page_text }
+abbrev pub resource_out : Resource → Bool → Out
+resource_out resource is_current =
+    record { status = resource_status is_current; allow = NoHeader; media_type = media.Resource resource; body = bytes_of resource }
 
--- ---- jobs
+-- ---- tasks
 
--- what is answered to a job by a keeper of schema k that represents s
-abbrev pub out_of : ℕ → State → Job → Out
-out_of k s (J.Refuse status allow silent) = error_out status allow
-out_of k s (J.Ask question body_format silent) = answer_out body_format (answer k s question)
-out_of k s (J.Page silent) = page_out
+-- what is answered to the decision of a head by a keeper of schema k that represents s
+abbrev pub decision_out : ℕ → State → HeadDecision → Out
+decision_out k s (head.Refuse status allow silent) = error_out status allow
+decision_out k s (head.Ask question body_format silent) = answer_out body_format (answer k s question)
+decision_out k s (head.Resource resource is_current silent) = resource_out resource is_current
+
+-- what is answered to it by a keeper that is shut
+abbrev pub decision_shut : HeadDecision → Out
+decision_shut (head.Refuse status allow silent) = error_out status allow
+decision_shut (head.Ask question body_format silent) = fault_out fault.Shut
+decision_shut (head.Resource resource is_current silent) = resource_out resource is_current
+
+-- whether the answer's body is left out: to a HEAD, and where the client has a resource as it is
+abbrev pub is_silent_decision : HeadDecision → Bool
+is_silent_decision (head.Refuse status allow silent) = silent
+is_silent_decision (head.Ask question body_format silent) = silent
+is_silent_decision (head.Resource resource is_current silent) = is_current || silent
+
+-- what is answered to a task by a keeper of schema k that represents s
+abbrev pub out_of : ℕ → State → RequestTask → Out
+out_of k s (J.Decided decision) = decision_out k s decision
 out_of k s (J.Command e) = reply_out (reply s e)
 out_of k s (J.Check c) = check_out (check_answer s c)
+out_of k s (J.Ahead most) = ahead_out most
 out_of k s J.BadForm = reply_out (Refused BadForm)
 out_of k s (J.BadFile f) = csv_out f
 out_of k s J.MemoryError = fault_out fault.Memory
 
 -- what is answered to it by a keeper that is shut: the fault 3 where it is asked
-abbrev pub shut_out : Job → Out
-shut_out (J.Refuse status allow silent) = error_out status allow
-shut_out (J.Ask question body_format silent) = fault_out fault.Shut
-shut_out (J.Page silent) = page_out
+abbrev pub shut_out : RequestTask → Out
+shut_out (J.Decided decision) = decision_shut decision
 shut_out (J.Command e) = fault_out fault.Shut
 shut_out (J.Check c) = checked_out (check_when_shut c)
+shut_out (J.Ahead most) = ahead_out most
 shut_out J.BadForm = reply_out (Refused BadForm)
 shut_out (J.BadFile f) = csv_out f
 shut_out J.MemoryError = fault_out fault.Memory
 
--- whether the answer's body is left out
-abbrev pub is_silent : Job → Bool
-is_silent (J.Refuse status allow silent) = silent
-is_silent (J.Ask question body_format silent) = silent
-is_silent (J.Page silent) = silent
+-- whether the body of a task's answer is left out
+abbrev pub is_silent : RequestTask → Bool
+is_silent (J.Decided decision) = is_silent_decision decision
 is_silent _ = false
+
+-- the time that an answer carries: with the page, that of the machine
+abbrev pub dated_by : Profile → Option HttpDate → Option HttpDate
+dated_by profile.Open now = None
+dated_by (profile.Page hosts) now = now
+
+abbrev pub dated : Terms → Option HttpDate
+dated terms = dated_by terms.profile terms.now
 
 -- ---- answers in the code
 
@@ -209,27 +262,27 @@ abbrev pub body_bytes : Body → List ℕ
 body_bytes (B.Reply text) = text
 body_bytes (B.Short text) = text
 body_bytes (B.Long text) = string_bytes text
-body_bytes B.Page = page_text
+body_bytes (B.Resource resource) = bytes_of resource
 
-abbrev pub rendered : Answer → Out
+abbrev pub rendered : Response → Out
 rendered a = record { status = a.status; allow = a.allow; media_type = a.media_type; body = body_bytes a.body }
 
 -- the answer has these parts
-pub record Is (out : Out) (silent : Bool) (a : Answer) : Type 0 where
+pub record Is (out : Out) (silent : Bool) (a : Response) : Type 0 where
   pub parts : rendered a ≡ out
   pub silence : a.silent ≡ silent
 
--- the answer to what came of a command
-abbrev pub Executed : Result Reply DeskFault → Answer → Type 0
+-- the answer to the outcome of a command
+abbrev pub Executed : Result Reply DeskFault → Response → Type 0
 Executed (Ok r) a = Is (reply_out r) false a
 Executed (Err f) a = Is (fault_out f) false a
 
--- the answer to what came of a question; memory may be refused for its text
+-- the answer to the outcome of a question; memory may be refused for its text
 abbrev pub Asked : BodyFormat → Result DeskAnswer DeskFault → Out → Type 0
 Asked body_format (Ok x) out = (out ≡ answer_out body_format x) ⊎ (out ≡ fault_out fault.Memory)
 Asked body_format (Err f) out = out ≡ fault_out f
 
--- the answer to what came of a check; memory may be refused for its text
+-- the answer to the outcome of a check; memory may be refused for its text
 abbrev pub Checked : Result CheckAnswer DeskFault → Out → Type 0
 Checked (Ok a) out = (out ≡ check_out a) ⊎ (out ≡ fault_out fault.Memory)
 Checked (Err f) out = out ≡ fault_out f

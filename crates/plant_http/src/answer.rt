@@ -1,14 +1,14 @@
 //! Answers, before they are written.
-ghost use Rattle.std.specs.Prelude.{◌≡◌, ◌⊎◌, false, IfOk, string_bytes};
+ghost use Rattle.std.specs.Prelude.{◌≡◌, ◌⊎◌, ◌||◌, false, IfOk, string_bytes};
 ghost use Rattle.plant_base.specs.{number_of};
-ghost use Rattle.plant_http.specs.Answers.{body_bytes, Is, error_out, fault_out, csv_out};
+ghost use Rattle.plant_http.specs.Answers.{ahead_out, body_bytes, Is, error_out, fault_out, csv_out};
 ghost use Rattle.plant_http.specs.Answers.{reply_out, answer_out, text_in, refused_status};
-ghost use Rattle.plant_http.specs.Answers.{reply_status, answer_status, body_format_for, page_out};
+ghost use Rattle.plant_http.specs.Answers.{reply_status, answer_status, body_format_for, resource_status, resource_out};
 ghost use Rattle.plant_http.specs.Answers.{check_out};
 
+use crate::fixed_text::{FixedText, ahead_text, csv_text, status_text};
 use crate::media::{MediaType, media_of};
-use crate::room::{Room, csv_text, status_text};
-use desk_page::page_bytes;
+use desk_page::{Resource, bytes_of};
 use plant_base::Refusal;
 use plant_http_requests::{Allow, BodyFormat, Status};
 use plant_orders::CsvFault;
@@ -23,16 +23,16 @@ pub(crate) enum Body {
     /// The text of a reply or of a fault.
     Reply(ReplyText),
     /// A text of the server's own.
-    Short(Room),
+    Short(FixedText),
     /// The text of an answer.
     Long(String),
-    /// The page, which takes no memory.
-    Page,
+    /// A resource of the page, which takes no memory.
+    Resource(Resource),
 }
 
 /// An answer, before it is written. `silent` where its body is left out.
 #[derive(Debug, Drop)]
-pub(crate) struct Answer {
+pub(crate) struct Response {
     pub(crate) status: Status,
     pub(crate) allow: Allow,
     pub(crate) media_type: MediaType,
@@ -42,7 +42,6 @@ pub(crate) struct Answer {
 
 impl Body {
     /// The bytes of the body.
-    #[tactic(auto, unfolding(crate::specs::Answers::page_text))]
     pub(crate) fn as_bytes(&self) -> &[u8]
         ensures { result.now ≡ body_bytes self.now }
     {
@@ -50,18 +49,18 @@ impl Body {
             Body::Reply(text) => text.as_bytes(),
             Body::Short(text) => text.as_bytes(),
             Body::Long(text) => text.as_bytes(),
-            Body::Page => page_bytes(),
+            Body::Resource(resource) => bytes_of(*resource),
         }
     }
 }
 
-fn json(status: Status, body: Body, silent: bool) -> Answer
-    ensures { (result.status ≡ status) × (result.allow ≡ Allow.Unsaid) × (result.media_type ≡ MediaType.Json)
+fn json(status: Status, body: Body, silent: bool) -> Response
+    ensures { (result.status ≡ status) × (result.allow ≡ Allow.NoHeader) × (result.media_type ≡ MediaType.Json)
         × (body_bytes result.body ≡ body_bytes body) × (result.silent ≡ silent) }
 {
-    Answer {
+    Response {
         status,
-        allow: Allow::Unsaid,
+        allow: Allow::NoHeader,
         media_type: MediaType::Json,
         body,
         silent,
@@ -69,10 +68,10 @@ fn json(status: Status, body: Body, silent: bool) -> Answer
 }
 
 /// An answer that is a status alone.
-pub(crate) fn error_answer(status: Status, allow: Allow, silent: bool) -> Answer
+pub(crate) fn error_answer(status: Status, allow: Allow, silent: bool) -> Response
     ensures { Is (error_out status allow) silent result }
 {
-    Answer {
+    Response {
         status,
         allow,
         media_type: MediaType::Json,
@@ -81,28 +80,46 @@ pub(crate) fn error_answer(status: Status, allow: Allow, silent: bool) -> Answer
     }
 }
 
-/// The page. It takes no memory.
-pub(crate) fn page_answer(silent: bool) -> Answer
-    ensures { Is page_out silent result }
+/// A client that has a resource as it is learns just that (RFC 9110, section 15.4.5).
+fn resource_status(is_current: bool) -> Status
+    ensures { result ≡ resource_status is_current }
 {
-    Answer {
-        status: Status::Success,
-        allow: Allow::Unsaid,
-        media_type: MediaType::Html,
-        body: Body::Page,
-        silent,
+    if is_current {
+        Status::NotModified
+    } else {
+        Status::Success
+    }
+}
+
+/// A resource of the page, whose bytes are left out for a client that has it as it is. It takes no memory.
+pub(crate) fn resource_answer(resource: Resource, is_current: bool, silent: bool) -> Response
+    ensures { Is (resource_out resource is_current) (is_current || silent) result }
+{
+    Response {
+        status: resource_status(is_current),
+        allow: Allow::NoHeader,
+        media_type: MediaType::Resource(resource),
+        body: Body::Resource(resource),
+        silent: is_current || silent,
     }
 }
 
 /// A fault of the keeper, or want of memory.
-pub(crate) fn fault_answer(fault: DeskFault, silent: bool) -> Answer
+pub(crate) fn fault_answer(fault: DeskFault, silent: bool) -> Response
     ensures { Is (fault_out fault) silent result }
 {
     json(Status::Unavailable, Body::Reply(fault_line(fault)), silent)
 }
 
+/// A command that is ahead of the machine's clock by more than so many seconds.
+pub(crate) fn ahead_answer(most: u32) -> Response
+    ensures { Is (ahead_out most) false result }
+{
+    json(Status::BadRequest, Body::Short(ahead_text(most)), false)
+}
+
 /// The fault of an order file.
-pub(crate) fn csv_answer(fault: CsvFault) -> Answer
+pub(crate) fn csv_answer(fault: CsvFault) -> Response
     ensures { Is (csv_out fault) false result }
 {
     json(Status::BadRequest, Body::Short(csv_text(fault)), false)
@@ -129,7 +146,7 @@ fn reply_status(reply: &Reply) -> Status
 }
 
 /// The reply to a command. It takes no memory.
-pub(crate) fn reply_answer(reply: &Reply) -> Answer
+pub(crate) fn reply_answer(reply: &Reply) -> Response
     ensures { Is (reply_out reply.now) false result }
 {
     json(reply_status(reply), Body::Reply(reply_line(reply)), false)
@@ -178,13 +195,13 @@ pub(crate) fn asked_answer(
     body_format: BodyFormat,
     answer: &DeskAnswer,
     silent: bool,
-) -> Answer
+) -> Response
     ensures { Is (answer_out body_format answer.now) silent result ⊎ Is (fault_out DeskFault.Memory) silent result }
 {
     match text_in(alloc, body_format, answer) {
-        Ok(text) => Answer {
+        Ok(text) => Response {
             status: answer_status(answer),
-            allow: Allow::Unsaid,
+            allow: Allow::NoHeader,
             media_type: media_of(body_format_for(body_format, answer)),
             body: Body::Long(text),
             silent,
@@ -195,7 +212,7 @@ pub(crate) fn asked_answer(
 
 /// The answer to a check. Its text is made before anything is written; where memory is refused for it, the answer reports
 /// that fault.
-pub(crate) fn check_answer(alloc: Global, answer: &CheckAnswer) -> Answer
+pub(crate) fn check_answer(alloc: Global, answer: &CheckAnswer) -> Response
     ensures { Is (check_out answer.now) false result ⊎ Is (fault_out DeskFault.Memory) false result }
 {
     match check_text(alloc, answer) {

@@ -2,9 +2,9 @@
 #![tactic(auto)]
 
 mod answer;
+mod fixed_text;
 mod media;
 mod perform;
-mod room;
 mod send;
 mod serve;
 mod status;

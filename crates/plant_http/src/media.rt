@@ -1,8 +1,8 @@
-//! The media types of answers, and the fields that only the page has.
+//! The media types of answers, and the policy of the page.
 ghost use Rattle.std.specs.Prelude.{◌≡◌, ◌≤◌, length};
 ghost use Rattle.plant_http.specs.Answers.{media_of, type_of, policy_bytes};
 
-use desk_page::policy_text;
+use desk_page::{Resource, media_type_of, policy_text};
 use plant_http_requests::BodyFormat;
 
 /// What the bytes of an answer's body are (RFC 9110, section 8.3.1).
@@ -12,8 +12,8 @@ pub(crate) enum MediaType {
     Json,
     /// The batch record, a plain text.
     Plain,
-    /// The page.
-    Html,
+    /// A resource of the page.
+    Resource(Resource),
 }
 
 /// The media type of a format in which an answer is written.
@@ -34,7 +34,7 @@ pub(crate) fn type_of(media_type: MediaType) -> &'static str
     match media_type {
         MediaType::Json => "application/json",
         MediaType::Plain => "text/plain",
-        MediaType::Html => "text/html; charset=utf-8",
+        MediaType::Resource(resource) => media_type_of(resource),
     }
 }
 

@@ -1,23 +1,24 @@
-//! A job, done by a keeper.
+//! A task, done by a keeper.
 ghost use Rattle.std.specs.Prelude.{◌≡◌, true, false};
 ghost use Rattle.plant_base.specs.{State};
 ghost use Rattle.plant_desk.specs.{IsSameDesk};
-ghost use Rattle.plant_http.specs.Answers.{is_silent, rendered, shut_out, Executed, Asked, Checked};
+ghost use Rattle.plant_http.specs.Answers.{is_silent, is_silent_decision, rendered, shut_out, Executed, Asked, Checked};
 ghost use Rattle.plant_http.specs.Serving.{Performs, DoneWhenShut};
-ghost use Rattle.plant_http_requests.specs.declared.job.Job.TheVariants as J;
+ghost use Rattle.plant_http_requests.specs.declared.task.HeadDecision.TheVariants as head;
+ghost use Rattle.plant_http_requests.specs.declared.task.RequestTask.TheVariants as J;
 
 use crate::answer::{
-    Answer, asked_answer, check_answer, csv_answer, error_answer, fault_answer, page_answer,
-    reply_answer,
+    Response, ahead_answer, asked_answer, check_answer, csv_answer, error_answer, fault_answer,
+    reply_answer, resource_answer,
 };
 use plant_base::{Envelope, Refusal};
 use plant_desk::Keeper;
-use plant_http_requests::{BodyFormat, Job};
+use plant_http_requests::{BodyFormat, HeadDecision, RequestTask};
 use plant_questions::{Answer as DeskAnswer, DeskFault, Question, Reply};
 use plant_text::{CheckAnswer, ToCheck, answer_check};
 use std::alloc::Global;
 
-fn executed_answer(executed: &Result<Reply, DeskFault>) -> Answer
+fn executed_answer(executed: &Result<Reply, DeskFault>) -> Response
     ensures { Executed executed.now result }
 {
     match executed {
@@ -28,7 +29,7 @@ fn executed_answer(executed: &Result<Reply, DeskFault>) -> Answer
 
 /// Has a command executed. It is handed no allocator, and a reply's text is in a buffer of fixed size: from here to the
 /// end of the answer no memory is taken.
-fn execute<K: Keeper>(keeper: &mut K, envelope: &Envelope) -> Answer
+fn execute<K: Keeper>(keeper: &mut K, envelope: &Envelope) -> Response
     ensures same { IsSameDesk K.honest K.schema K.foreign_tables keeper.old keeper.new }
     ensures performs { K.honest keeper.new → K.shut keeper.old ≡ false → (s : State) → K.represents keeper.old s
         → Performs (K.schema keeper.old) s (J.Command envelope.now) (rendered result)
@@ -46,7 +47,7 @@ fn reported_answer(
     asked: &Result<DeskAnswer, DeskFault>,
     body_format: BodyFormat,
     silent: bool,
-) -> Answer
+) -> Response
     ensures reported { Asked body_format asked.now (rendered result) }
     ensures silence { result.silent ≡ silent }
 {
@@ -63,20 +64,20 @@ fn ask<K: Keeper>(
     question: &Question,
     body_format: BodyFormat,
     silent: bool,
-) -> Answer
+) -> Response
     ensures same { IsSameDesk K.honest K.schema K.foreign_tables keeper.old keeper.new }
     ensures performs { K.honest keeper.new → K.shut keeper.old ≡ false → (s : State) → K.represents keeper.old s
-        → Performs (K.schema keeper.old) s (J.Ask question.now body_format silent) (rendered result)
+        → Performs (K.schema keeper.old) s (J.Decided (head.Ask question.now body_format silent)) (rendered result)
         (K.represents keeper.new) (K.shut keeper.new) (K.crash_states keeper.new) }
     ensures unchanged { K.shut keeper.old ≡ true → keeper.new ≡ keeper.old }
-    ensures shut { K.shut keeper.old ≡ true → rendered result ≡ shut_out (J.Ask question.now body_format silent) }
+    ensures shut { K.shut keeper.old ≡ true → rendered result ≡ shut_out (J.Decided (head.Ask question.now body_format silent)) }
     ensures silence { result.silent ≡ silent }
 {
     let asked = keeper.ask(question);
     reported_answer(alloc, &asked, body_format, silent)
 }
 
-fn checked_answer(alloc: Global, checked: &Result<CheckAnswer, DeskFault>) -> Answer
+fn checked_answer(alloc: Global, checked: &Result<CheckAnswer, DeskFault>) -> Response
     ensures reported { Checked checked.now (rendered result) }
     ensures loud { result.silent ≡ false }
 {
@@ -87,7 +88,7 @@ fn checked_answer(alloc: Global, checked: &Result<CheckAnswer, DeskFault>) -> An
 }
 
 /// Has a command checked, which isn't executed, and makes the text of the answer.
-fn check<K: Keeper>(alloc: Global, keeper: &mut K, to_check: &ToCheck) -> Answer
+fn check<K: Keeper>(alloc: Global, keeper: &mut K, to_check: &ToCheck) -> Response
     ensures same { IsSameDesk K.honest K.schema K.foreign_tables keeper.old keeper.new }
     ensures performs { K.honest keeper.new → K.shut keeper.old ≡ false → (s : State) → K.represents keeper.old s
         → Performs (K.schema keeper.old) s (J.Check to_check.now) (rendered result)
@@ -100,32 +101,52 @@ fn check<K: Keeper>(alloc: Global, keeper: &mut K, to_check: &ToCheck) -> Answer
     checked_answer(alloc, &checked)
 }
 
-/// Does a job, and gives its answer.
-pub(crate) fn perform<K: Keeper>(alloc: Global, keeper: &mut K, job: &Job) -> Answer
+/// Does what a head decides, and gives its answer.
+fn perform_decision<K: Keeper>(alloc: Global, keeper: &mut K, decision: &HeadDecision) -> Response
     ensures same { IsSameDesk K.honest K.schema K.foreign_tables keeper.old keeper.new }
     ensures performs { K.honest keeper.new → K.shut keeper.old ≡ false → (s : State) → K.represents keeper.old s
-        → Performs (K.schema keeper.old) s job.now (rendered result)
+        → Performs (K.schema keeper.old) s (J.Decided decision.now) (rendered result)
         (K.represents keeper.new) (K.shut keeper.new) (K.crash_states keeper.new) }
     ensures unchanged { K.shut keeper.old ≡ true → keeper.new ≡ keeper.old }
-    ensures shut { K.shut keeper.old ≡ true → DoneWhenShut job.now (rendered result) }
-    ensures silence { result.silent ≡ is_silent job.now }
+    ensures shut { K.shut keeper.old ≡ true → DoneWhenShut (J.Decided decision.now) (rendered result) }
+    ensures silence { result.silent ≡ is_silent_decision decision.now }
 {
-    match job {
-        Job::Ask {
+    match decision {
+        HeadDecision::Ask {
             question,
             body_format,
             silent,
         } => ask(alloc, keeper, question, *body_format, *silent),
-        Job::Command(envelope) => execute(keeper, envelope),
-        Job::Check(to_check) => check(alloc, keeper, to_check),
-        Job::Refuse {
+        HeadDecision::Refuse {
             status,
             allow,
             silent,
         } => error_answer(*status, *allow, *silent),
-        Job::Page { silent } => page_answer(*silent),
-        Job::BadForm => reply_answer(&Reply::Refused(Refusal::BadForm)),
-        Job::BadFile(fault) => csv_answer(*fault),
-        Job::MemoryError => fault_answer(DeskFault::Memory, false),
+        HeadDecision::Resource {
+            resource,
+            is_current,
+            silent,
+        } => resource_answer(*resource, *is_current, *silent),
+    }
+}
+
+/// Does a task, and gives its answer.
+pub(crate) fn perform<K: Keeper>(alloc: Global, keeper: &mut K, task: &RequestTask) -> Response
+    ensures same { IsSameDesk K.honest K.schema K.foreign_tables keeper.old keeper.new }
+    ensures performs { K.honest keeper.new → K.shut keeper.old ≡ false → (s : State) → K.represents keeper.old s
+        → Performs (K.schema keeper.old) s task.now (rendered result)
+        (K.represents keeper.new) (K.shut keeper.new) (K.crash_states keeper.new) }
+    ensures unchanged { K.shut keeper.old ≡ true → keeper.new ≡ keeper.old }
+    ensures shut { K.shut keeper.old ≡ true → DoneWhenShut task.now (rendered result) }
+    ensures silence { result.silent ≡ is_silent task.now }
+{
+    match task {
+        RequestTask::Decided(decision) => perform_decision(alloc, keeper, decision),
+        RequestTask::Command(envelope) => execute(keeper, envelope),
+        RequestTask::Check(to_check) => check(alloc, keeper, to_check),
+        RequestTask::Ahead(most) => ahead_answer(*most),
+        RequestTask::BadForm => reply_answer(&Reply::Refused(Refusal::BadForm)),
+        RequestTask::BadFile(fault) => csv_answer(*fault),
+        RequestTask::MemoryError => fault_answer(DeskFault::Memory, false),
     }
 }

@@ -3,14 +3,16 @@ ghost use Rattle.std.specs.Prelude.{◌≡◌, ℕ, true, false, List};
 ghost use Rattle.plant_base.specs.{State};
 ghost use Rattle.plant_desk.specs.{IsSameDesk};
 ghost use Rattle.plant_http_requests.specs.{Agrees};
-ghost use Rattle.plant_http.specs.Serving.{Serves, ServesShut, IfUnasked, Answers, AnswersJobShut};
+ghost use Rattle.plant_http.specs.Serving.{Serves, ServesShut, IfUnasked, Answers, AnswersTaskShut};
+ghost use Rattle.plant_http.specs.Answers.{dated};
 ghost use Rattle.plant_http.specs.Serving.{end_of};
 
 use crate::perform::perform;
 use crate::send::send;
 use crate::status::code_of;
+use httpdate::HttpDate;
 use plant_desk::Keeper;
-use plant_http_requests::{InputFault, Job, Profile, Routes, read_job};
+use plant_http_requests::{InputFault, Profile, RequestTask, Routes, Terms, read_task};
 use std::alloc::Global;
 use std::io::{Read, Write};
 use thiserror::Error;
@@ -52,24 +54,35 @@ fn end_of(fault: InputFault) -> ServeFault
     }
 }
 
-/// Does a job, and writes its answer.
-fn answer_job<W: Write, K: Keeper>(
+/// The time that an answer carries: with the page, that of the machine.
+fn dated(terms: Terms<'_>) -> Option<HttpDate>
+    ensures { result ≡ dated terms.entry }
+{
+    match terms.profile {
+        Profile::Open => None,
+        Profile::Page { .. } => terms.now,
+    }
+}
+
+/// Does a task, and writes its answer.
+fn answer_task<W: Write, K: Keeper>(
     alloc: Global,
+    date: Option<HttpDate>,
     writer: &mut W,
     keeper: &mut K,
-    job: &Job,
+    task: &RequestTask,
 ) -> Result<Served, ServeFault>
     ensures same { IsSameDesk K.honest K.schema K.foreign_tables keeper.old keeper.new }
     ensures answers { K.honest keeper.new → K.shut keeper.old ≡ false → (s : State) → K.represents keeper.old s
-        → Answers (K.schema keeper.old) s job.now (W.contents writer.old) (W.contents writer.new)
+        → Answers date (K.schema keeper.old) s task.now (W.contents writer.old) (W.contents writer.new)
         (K.represents keeper.new) (K.shut keeper.new) (K.crash_states keeper.new) result }
     ensures unchanged { K.shut keeper.old ≡ true → keeper.new ≡ keeper.old }
-    ensures shut { K.shut keeper.old ≡ true → AnswersJobShut job.now
+    ensures shut { K.shut keeper.old ≡ true → AnswersTaskShut date task.now
         (W.contents writer.old) (W.contents writer.new) result }
     ensures asked { IfUnasked result ⊥ }
 {
-    let answer = perform(alloc, keeper, job);
-    match send(writer, &answer) {
+    let answer = perform(alloc, keeper, task);
+    match send(writer, date, &answer) {
         Ok(()) => Ok(Served::Answered(code_of(answer.status))),
         Err(_) => Err(ServeFault::Write),
     }
@@ -81,7 +94,8 @@ fn answer_job<W: Write, K: Keeper>(
 /// command whose body ended early isn't executed. The answer is written after the keeper's reply, and between an executed command and the end of its answer no memory is
 /// taken. Only a keeper's fault and want of memory for what a body says or for an answer's text are answered 503.
 ///
-/// The profile says which requests are served, and whether the page is. No keeper is asked for the page: one that is shut serves it too.
+/// The terms say which requests are served, whether the page is, and how far a command may be ahead of the machine's clock: one that is
+/// further ahead is answered 400 before the keeper is asked. No keeper is asked for a resource of the page: one that is shut serves it too.
 ///
 /// What is written depends on the bytes of the input and not on the pieces in which they come, but for `Endless`.
 ///
@@ -89,13 +103,13 @@ fn answer_job<W: Write, K: Keeper>(
 /// of the answer was written, and not all of it; what was executed stays.
 ///
 /// In the clauses, `whole` are the bytes of the input: those that the reader has left, where it knows them, and some bytes where
-/// it knows none, as with a socket: also then the keeper does the job of one request, once, and nothing else. `s` is a state
+/// it knows none, as with a socket: also then the keeper does the task of one request, once, and nothing else. `s` is a state
 /// that the keeper represented; nothing is said of what the keeper represents, and of what a stop leaves, if it doesn't end
 /// honest. A keeper that is shut stays as it is, and each answer that it would be asked for is its fault 3.
 pub fn serve_one<R: Read, W: Write, K: Keeper>(
     alloc: Global,
     routes: &Routes,
-    profile: Profile<'_>,
+    terms: Terms<'_>,
     reader: &mut R,
     writer: &mut W,
     keeper: &mut K,
@@ -105,16 +119,16 @@ pub fn serve_one<R: Read, W: Write, K: Keeper>(
     // How the request ended, what the keeper represents then, and what a stop leaves.
     ensures serves { (whole : List ℕ) × Agrees (R.remaining reader.old) whole
         × (K.honest keeper.new → K.shut keeper.old ≡ false → (s : State) → K.represents keeper.old s
-        → Serves profile.entry (K.schema keeper.old) s whole (W.contents writer.old) (W.contents writer.new)
+        → Serves terms.entry (K.schema keeper.old) s whole (W.contents writer.old) (W.contents writer.new)
         (K.represents keeper.new) (K.shut keeper.new) (K.crash_states keeper.new) result)
-        × (K.shut keeper.old ≡ true → ServesShut profile.entry whole
+        × (K.shut keeper.old ≡ true → ServesShut terms.entry whole
         (W.contents writer.old) (W.contents writer.new) result) }
     ensures unasked { IfUnasked result ((keeper.new ≡ keeper.old) × (writer.new ≡ writer.old)) }
     ensures unchanged { K.shut keeper.old ≡ true → keeper.new ≡ keeper.old }
 {
-    match read_job(alloc, routes, profile, reader) {
+    match read_task(alloc, routes, terms, reader) {
         Ok(None) => Ok(Served::Nothing),
-        Ok(Some(job)) => answer_job(alloc, writer, keeper, &job),
+        Ok(Some(task)) => answer_task(alloc, dated(terms), writer, keeper, &task),
         Err(fault) => Err(end_of(fault)),
     }
 }

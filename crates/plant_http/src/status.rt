@@ -12,6 +12,7 @@ fn status_code(status: Status) -> StatusCode
 {
     match status {
         Status::Success => StatusCode::OK,
+        Status::NotModified => StatusCode::NOT_MODIFIED,
         Status::BadRequest => StatusCode::BAD_REQUEST,
         Status::Forbidden => StatusCode::FORBIDDEN,
         Status::NotFound => StatusCode::NOT_FOUND,
@@ -50,7 +51,7 @@ pub(crate) fn allow_line(allow: Allow) -> &'static str
     ensures short { length result.now ≤ 18 }
 {
     match allow {
-        Allow::Unsaid => "",
+        Allow::NoHeader => "",
         Allow::Get => "Allow: GET, HEAD\r\n",
         Allow::Post => "Allow: POST\r\n",
     }

@@ -1,8 +1,9 @@
-pub mod RoutesInTurn
+pub mod RouteTableIsInserted
 pub mod PathParts
 pub mod KnownPaths
 pub mod HeadEnds
-pub mod Schemes
+pub mod OriginScheme
+pub mod PartIsFound
 pub mod BodyIsOfInput
-pub mod OneJob
+pub mod InputDeterminesTask
 pub mod WholeInput

@@ -3,16 +3,16 @@ use Rattle.std.proofs.Common.{◌≡◌, ℕ, ◌+◌, ◌-◌, ◌<◌, ◌≤�
 use Rattle.std.specs.Io.KnownBytes.{Consumes, IsAtEnd}
 use Rattle.std.proofs.lemmas.Bool.Decides.{nat_tests}
 use Rattle.std.proofs.lemmas.List.{take-append-le, drop-append-le}
-use Rattle.plant_http_requests.specs.{end_of_head, Agrees, FindsHead, GoesOn, SpentAll, body_job, finish, EndJob, HeadJob, HeadAsksFor, AsksFor, Reads, ReadsSome, StepOf, refusal_of}
+use Rattle.plant_http_requests.specs.{end_of_head, Agrees, FindsHead, GoesOn, SpentAll, body_task, finish, EndTask, HeadTask, HeadAsksFor, AsksFor, Reads, ReadsSome, StepOf, refusal_of}
 use Rattle.plant_http_requests.specs.declared.reading.HeadEnd.{HeadEnd}
 use Rattle.plant_http_requests.specs.declared.reading.HeadEnd.TheVariants as end
 use Rattle.plant_http_requests.proofs.BodyIsOfInput.{gone_on}
 use Rattle.plant_http_requests.proofs.HeadEnds.{known_end}
-use Rattle.plant_http_requests.specs.declared.job.Content.{Content}
-use Rattle.plant_http_requests.specs.declared.job.Job.{Job}
-use Rattle.plant_http_requests.specs.declared.job.HeadStep.{HeadStep}
-use Rattle.plant_http_requests.specs.declared.job.HeadStep.TheVariants.{Body}
-use Rattle.plant_http_requests.specs.declared.profile.Profile.{Profile}
+use Rattle.plant_http_requests.specs.declared.task.BodyKind.{BodyKind}
+use Rattle.plant_http_requests.specs.declared.task.RequestTask.{RequestTask}
+use Rattle.plant_http_requests.specs.declared.task.HeadStep.{HeadStep}
+use Rattle.plant_http_requests.specs.declared.task.HeadStep.TheVariants.{Body}
+use Rattle.plant_http_requests.specs.declared.profile.Terms.{Terms}
 use Rattle.plant_http_requests.specs.declared.status.Status.TheVariants.{BadRequest}
 
 -- ---- bodies
@@ -37,19 +37,19 @@ body_short whole n len k h =
     grind (arith, nat_tests, b)
 
 -- a whole body was read
-pub whole_body : (profile : Profile) (start left : Option (List ℕ)) (old new : List ℕ) (n len : ℕ) (content : Content) (step : HeadStep) (job : Job) → StepOf profile (take n old) step → step ≡ Body len content
-    → GoesOn start left old new → n + len ≤ length new → Reads job (body_job content (slice_range new n (n + len)))
-    → (rest : List ℕ) × Agrees start rest × HeadAsksFor profile (take n old) (drop n (old ++ rest)) job
-whole_body profile start left old new n len content step job so is g h reads =
+pub whole_body : (terms : Terms) (start left : Option (List ℕ)) (old new : List ℕ) (n len : ℕ) (content : BodyKind) (step : HeadStep) (task : RequestTask) → StepOf terms.profile (take n old) step → step ≡ Body len content
+    → GoesOn start left old new → n + len ≤ length new → Reads task (body_task terms content (slice_range new n (n + len)))
+    → (rest : List ℕ) × Agrees start rest × HeadAsksFor terms (take n old) (drop n (old ++ rest)) task
+whole_body terms start left old new n len content step task so is g h reads =
     let (rest, more, agrees, whole, ended) = gone_on start left old new g in
-    let asked = body_job content (slice_range new n (n + len)) in
+    let asked = body_task terms content (slice_range new n (n + len)) in
     (rest, agrees, (asked, (step, so, rw (is, whole, body_there new more n len h, body_part new more n len h) refl), reads))
 
 -- the input ended before the whole body
-pub cut_body : (profile : Profile) (start left : Option (List ℕ)) (old new : List ℕ) (n len : ℕ) (content : Content) (step : HeadStep) (job : Job) → StepOf profile (take n old) step → step ≡ Body len content
-    → GoesOn start left old new → length new < n + len → IsAtEnd left → n ≤ length old → job ≡ refusal_of BadRequest false
-    → (rest : List ℕ) × Agrees start rest × HeadAsksFor profile (take n old) (drop n (old ++ rest)) job
-cut_body profile start left old new n len content step job so is g short end h e =
+pub cut_body : (terms : Terms) (start left : Option (List ℕ)) (old new : List ℕ) (n len : ℕ) (content : BodyKind) (step : HeadStep) (task : RequestTask) → StepOf terms.profile (take n old) step → step ≡ Body len content
+    → GoesOn start left old new → length new < n + len → IsAtEnd left → n ≤ length old → task ≡ refusal_of BadRequest false
+    → (rest : List ℕ) × Agrees start rest × HeadAsksFor terms (take n old) (drop n (old ++ rest)) task
+cut_body terms start left old new n len content step task so is g short end h e =
     let (rest, more, agrees, whole, ended) = gone_on start left old new g in
     let all : old ++ rest ≡ new = rw (ended end) at whole ∙ append-nil new in
     let within : n ≤ length (old ++ rest) = omega (arith, h, length-append old rest) in
@@ -61,18 +61,18 @@ some_left None = ([], tt)
 some_left (Some left) = (left, refl)
 
 -- the head alone decides
-pub by_head : (profile : Profile) (start : Option (List ℕ)) (old : List ℕ) (n : ℕ) (step : HeadStep) (job : Job) → StepOf profile (take n old) step → ((rest : List ℕ) → finish step rest ≡ job) → Reads job job
-    → (rest : List ℕ) × Agrees start rest × HeadAsksFor profile (take n old) (drop n (old ++ rest)) job
-by_head profile start old n step job so is reads =
+pub by_head : (terms : Terms) (start : Option (List ℕ)) (old : List ℕ) (n : ℕ) (step : HeadStep) (task : RequestTask) → StepOf terms.profile (take n old) step → ((rest : List ℕ) → finish terms step rest ≡ task) → Reads task task
+    → (rest : List ℕ) × Agrees start rest × HeadAsksFor terms (take n old) (drop n (old ++ rest)) task
+by_head terms start old n step task so is reads =
     let (rest, agrees) = some_left start in
-    (rest, agrees, (job, (step, so, sym (is (drop n (old ++ rest)))), reads))
+    (rest, agrees, (task, (step, so, sym (is (drop n (old ++ rest)))), reads))
 
 -- ---- inputs
 
 -- what was found of the head is so of an input, where the reader may have it
-pub from_end : (profile : Profile) (start : Option (List ℕ)) (e : HeadEnd) (job : Option Job) → (whole : List ℕ) × Agrees start whole × (e ≡ end_of_head whole)
-    → ((whole : List ℕ) → (j : Option Job) × EndJob profile e whole j × ReadsSome job j) → (whole : List ℕ) × Agrees start whole × AsksFor profile whole job
-from_end profile start e job (whole, agrees, h) f = let (j, at, reads) = f whole in (whole, agrees, (j, rw (sym h) at, reads))
+pub from_end : (terms : Terms) (start : Option (List ℕ)) (e : HeadEnd) (task : Option RequestTask) → (whole : List ℕ) × Agrees start whole × (e ≡ end_of_head whole)
+    → ((whole : List ℕ) → (j : Option RequestTask) × EndTask terms e whole j × ReadsSome task j) → (whole : List ℕ) × Agrees start whole × AsksFor terms whole task
+from_end terms start e task (whole, agrees, h) f = let (j, at, reads) = f whole in (whole, agrees, (j, rw (sym h) at, reads))
 
 behind : (start left : Option (List ℕ)) (bytes rest : List ℕ) → Consumes start left bytes → Agrees left rest → Agrees start (bytes ++ rest)
 behind None left bytes rest c a = tt
@@ -80,13 +80,13 @@ behind (Some whole) None bytes rest c a = absurd c
 behind (Some whole) (Some known) bytes rest c a = ap (λ l. bytes ++ l) a ∙ sym c
 
 -- a head was found, with what it and the bytes after it ask for
-pub from_head : (profile : Profile) (start left : Option (List ℕ)) (bytes : List ℕ) (n : ℕ) (job : Job) → n ≤ length bytes → Consumes start left bytes
-    → FindsHead (end.Found n) bytes left → (rest : List ℕ) × Agrees left rest × HeadAsksFor profile (take n bytes) (drop n (bytes ++ rest)) job
-    → (whole : List ℕ) × Agrees start whole × AsksFor profile whole (Some job)
-from_head profile start left bytes n job h c found (rest, agrees, (j, head, reads)) =
+pub from_head : (terms : Terms) (start left : Option (List ℕ)) (bytes : List ℕ) (n : ℕ) (task : RequestTask) → n ≤ length bytes → Consumes start left bytes
+    → FindsHead (end.Found n) bytes left → (rest : List ℕ) × Agrees left rest × HeadAsksFor terms (take n bytes) (drop n (bytes ++ rest)) task
+    → (whole : List ℕ) × Agrees start whole × AsksFor terms whole (Some task)
+from_head terms start left bytes n task h c found (rest, agrees, (j, head, reads)) =
     let at : end.Found n ≡ end_of_head (bytes ++ rest) = known_end (end.Found n) bytes rest found in
     let prefix : take n (bytes ++ rest) ≡ take n bytes = take-append-le n bytes rest h in
-    let is : HeadJob profile (take n (bytes ++ rest)) (drop n (bytes ++ rest)) j = rw prefix head in
+    let is : HeadTask terms (take n (bytes ++ rest)) (drop n (bytes ++ rest)) j = rw prefix head in
     (bytes ++ rest, behind start left bytes rest c agrees, (Some j, rw (sym at) (j, refl, is), reads))
 
 -- ---- reads

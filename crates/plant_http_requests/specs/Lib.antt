@@ -4,10 +4,12 @@ pub mod HeadEnd
 pub mod PieceReading
 pub mod Fields
 pub mod Origins
+pub mod Validators
 pub mod Framing
 pub mod Heads
 pub mod Steps
-pub mod Jobs
+pub mod InTime
+pub mod Tasks
 pub mod Law
 pub use Routes.{first_part, second_part, target_of}
 unfoldable pub use Routes.{found_in}
@@ -20,10 +22,13 @@ pub use PieceReading.{Agrees, FindsHead, GoesOn, SpentAll}
 pub use Fields.{count_named, value_named}
 pub use Origins.{is_further_host}
 pub use Heads.{Parsed, field_lines}
-pub use Steps.{fails, refusal_of}
-pub use Jobs.{AsksFor, EndJob, HeadAsksFor, HeadJob, JobOf, Reads, ReadsSome, StepOf, body_job, command_job, command_of, fault_job_of, file_job, finish, is_of_body, most_reads, parsed_step}
-pub use declared.job.Job.{Job}
+pub use Steps.{fails, refusal_of, refused}
+pub use InTime.{ahead_or, in_time, moment_of, overrun}
+pub use Tasks.{AsksFor, EndTask, HeadAsksFor, HeadTask, TaskOf, Reads, ReadsSome, StepOf, body_task, body_says, command_task, command_of, fault_task_of, file_task, finish, is_of_body, most_reads, parsed_step}
+pub use declared.task.HeadDecision.{HeadDecision}
+pub use declared.task.RequestTask.{RequestTask}
 pub use declared.profile.Profile.{Profile}
+pub use declared.profile.Terms.{Terms}
 pub use declared.reading.InputFault.{InputFault}
 pub use declared.status.Allow.{Allow}
 pub use declared.status.Status.{Status}

@@ -2,70 +2,85 @@
 ghost use Rattle.std.specs.Prelude.{◌≡◌};
 ghost use Rattle.plant_orders.specs.{orders_of};
 ghost use Rattle.plant_text.specs.{line_of};
-ghost use Rattle.plant_http_requests.specs.declared.job.Content.TheVariants as content;
-ghost use Rattle.plant_http_requests.specs.Jobs.{command_job, command_of};
-ghost use Rattle.plant_http_requests.specs.Jobs.{file_job, fault_job, body_job, Reads};
+ghost use Rattle.plant_http_requests.specs.declared.task.BodyKind.TheVariants as content;
+ghost use Rattle.plant_http_requests.specs.Tasks.{command_task, command_of};
+ghost use Rattle.plant_http_requests.specs.Tasks.{file_task, fault_task, body_task, body_says, Reads};
 
-use crate::job::{Content, Job};
+use crate::in_time::in_time;
+use crate::profile::Terms;
 use crate::status::Status;
 use crate::steps::refusal_of;
+use crate::task::{BodyKind, RequestTask};
 use plant_orders::{CsvFault, CsvKind, ImportMetadata, import, read_orders};
 use plant_text::{Line, LineFault, read_line, read_to_check};
 use std::alloc::Global;
 
 /// What a body asks for that was read as a line. A question or a check is no command.
-fn command_of(read: Result<Line, LineFault>) -> Job
+fn command_of(read: Result<Line, LineFault>) -> RequestTask
     ensures { result ≡ command_of read }
 {
     match read {
-        Ok(Line::Command(envelope)) => Job::Command(envelope),
-        Ok(Line::Question(_) | Line::Check(_)) => Job::BadForm,
-        Err(LineFault::BadForm) => Job::BadForm,
-        Err(LineFault::Memory) => Job::MemoryError,
+        Ok(Line::Command(envelope)) => RequestTask::Command(envelope),
+        Ok(Line::Question(_) | Line::Check(_)) => RequestTask::BadForm,
+        Err(LineFault::BadForm) => RequestTask::BadForm,
+        Err(LineFault::Memory) => RequestTask::MemoryError,
     }
 }
 
-fn command_job(alloc: Global, body: &[u8]) -> Job
-    ensures { Reads result (command_job (line_of body.now)) }
+fn command_task(alloc: Global, body: &[u8]) -> RequestTask
+    ensures { Reads result (command_task (line_of body.now)) }
 {
     command_of(read_line(alloc, body))
 }
 
-fn check_job(alloc: Global, body: &[u8]) -> Job
-    ensures { Reads result (body_job content.Check body.now) }
+fn check_task(alloc: Global, body: &[u8]) -> RequestTask
+    ensures { Reads result (body_says content.Check body.now) }
 {
     match read_to_check(alloc, body) {
-        Ok(to_check) => Job::Check(to_check),
-        Err(_) => Job::MemoryError,
+        Ok(to_check) => RequestTask::Check(to_check),
+        Err(_) => RequestTask::MemoryError,
     }
 }
 
-fn fault_job(fault: CsvFault) -> Job
-    ensures { result ≡ fault_job fault }
+fn fault_task(fault: CsvFault) -> RequestTask
+    ensures { result ≡ fault_task fault }
 {
     match fault.kind {
-        CsvKind::Memory => Job::MemoryError,
-        _ => Job::BadFile(fault),
+        CsvKind::Memory => RequestTask::MemoryError,
+        _ => RequestTask::BadFile(fault),
     }
 }
 
-fn file_job(alloc: Global, import_metadata: ImportMetadata, body: &[u8]) -> Job
-    ensures { Reads result (file_job import_metadata (orders_of body.now)) }
+fn file_task(alloc: Global, import_metadata: ImportMetadata, body: &[u8]) -> RequestTask
+    ensures { Reads result (file_task import_metadata (orders_of body.now)) }
 {
     match read_orders(alloc, body) {
-        Ok(orders) => Job::Command(import(import_metadata, orders)),
-        Err(fault) => fault_job(fault),
+        Ok(orders) => RequestTask::Command(import(import_metadata, orders)),
+        Err(fault) => fault_task(fault),
     }
 }
 
-/// What a body asks for that is there whole.
-pub(crate) fn body_job(alloc: Global, content: Content, body: &[u8]) -> Job
-    ensures { Reads result (body_job content body.now) }
+/// What a body says that is there whole.
+fn body_says(alloc: Global, content: BodyKind, body: &[u8]) -> RequestTask
+    ensures { Reads result (body_says content body.now) }
 {
     match content {
-        Content::Command => command_job(alloc, body),
-        Content::Check => check_job(alloc, body),
-        Content::Orders(Some(import_metadata)) => file_job(alloc, import_metadata, body),
-        Content::Orders(None) => refusal_of(Status::BadRequest, false),
+        BodyKind::Command => command_task(alloc, body),
+        BodyKind::Check => check_task(alloc, body),
+        BodyKind::Orders(Some(import_metadata)) => file_task(alloc, import_metadata, body),
+        BodyKind::Orders(None) => refusal_of(Status::BadRequest, false),
     }
+}
+
+/// What a body asks for that is there whole: what it says, unless its command is too far ahead of the machine's clock.
+#[tactic(auto, using(crate::proofs::InputDeterminesTask::in_time_reads))]
+pub(crate) fn body_task(
+    alloc: Global,
+    terms: Terms<'_>,
+    content: BodyKind,
+    body: &[u8],
+) -> RequestTask
+    ensures { Reads result (body_task terms.entry content body.now) }
+{
+    in_time(terms, body_says(alloc, content, body))
 }

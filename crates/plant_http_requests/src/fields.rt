@@ -11,7 +11,7 @@ use plant_base::{Id, Moment, Stamp, Text, read_digits};
 use plant_orders::ImportMetadata;
 
 /// Whether a field has this name; the case of letters doesn't count (RFC 9110, section 5.1).
-fn has_name(head: &[u8], field: &HeaderSpan, name: &[u8]) -> bool
+pub(crate) fn has_name(head: &[u8], field: &HeaderSpan, name: &[u8]) -> bool
     requires { IsHeaderWithin (length head.now) field.now }
     ensures { result ≡ is_name name.now (header_bytes head.now field.now).0 }
 {

@@ -1,12 +1,12 @@
 //! From the bytes of a head to what it decides.
-ghost use Rattle.plant_http_requests.specs.Jobs.{StepOf};
+ghost use Rattle.plant_http_requests.specs.Tasks.{StepOf};
 
-use crate::job::HeadStep;
 use crate::parse::{MOST_FIELDS, has_too_many_fields, parse_head};
 use crate::profile::Profile;
 use crate::routes::Routes;
 use crate::status::Status;
 use crate::steps::{fails, request_step};
+use crate::task::HeadStep;
 use httparse::spans::EMPTY_HEADER_SPAN;
 
 /// What a head decides: 431 for more than 32 lines of fields, 400 where it isn't one head of HTTP/1.1, else what its parts ask

@@ -1,8 +1,8 @@
-//! The laws of jobs, as the contracts of functions that do nothing.
+//! The laws of tasks, as the contracts of functions that do nothing.
 ghost use Rattle.plant_http_requests.specs.Law.{AnInputAsksOneThing, ABodyIsCheckedAsItIsExecuted};
 
-/// An input asks for one thing: what is said of its job isn't said of another.
-pub fn job_law()
+/// An input asks for one thing: what is said of its task isn't said of another.
+pub fn task_law()
     ensures { AnInputAsksOneThing }
 {}
 

@@ -1,3 +1,4 @@
+use httpdate::HttpDate;
 use plant_base::Text;
 
 /// Which requests are served, and whether the page is.
@@ -11,4 +12,15 @@ pub enum Profile<'a> {
         /// The further names, each without a port.
         hosts: &'a [Text],
     },
+}
+
+/// By what a request is judged.
+#[derive(Clone, Copy, Debug)]
+pub struct Terms<'a> {
+    /// Which requests are served, and whether the page is.
+    pub profile: Profile<'a>,
+    /// By how many seconds the moment of a command may be later than `now`; `None` where it may be by any.
+    pub most_ahead: Option<u32>,
+    /// The machine's time when the request began to be read, in whole seconds; `None` where its clock gave none.
+    pub now: Option<HttpDate>,
 }

@@ -2,15 +2,15 @@
 ghost use Rattle.std.specs.Prelude.{◌≡◌, ℕ, ◌≤◌, ◌+◌, ◌++◌, List, [], Some, None, length, take};
 ghost use Rattle.std.specs.Prelude.{drop, IfOk, IsErrOf, OnErr};
 ghost use Rattle.plant_http_requests.specs.PieceReading.{Agrees, SpentAll};
-ghost use Rattle.plant_http_requests.specs.Jobs.{AsksFor, HeadAsksFor, LacksBody, most_reads};
+ghost use Rattle.plant_http_requests.specs.Tasks.{AsksFor, HeadAsksFor, LacksBody, most_reads};
 
-use crate::bodies::body_job;
+use crate::bodies::body_task;
 use crate::head::step_of_head;
-use crate::job::{HeadStep, Job};
-use crate::profile::Profile;
+use crate::profile::Terms;
 use crate::routes::Routes;
 use crate::status::Status;
 use crate::steps::refusal_of;
+use crate::task::{HeadStep, RequestTask};
 use crate::{HeadEnd, InputFault, read_head, read_to};
 use std::alloc::Global;
 use std::io::Read;
@@ -19,51 +19,33 @@ use std::io::Read;
 pub const MOST_READS: u32 = 4096;
 
 /// What the first `n` bytes ask for, which are a head, with the body after them.
-fn head_job<R: Read>(
+fn head_task<R: Read>(
     alloc: Global,
     routes: &Routes,
-    profile: Profile<'_>,
+    terms: Terms<'_>,
     reader: &mut R,
     bytes: &mut Vec<u8>,
     reads: &mut u32,
     n: usize,
-) -> Result<Job, InputFault>
+) -> Result<RequestTask, InputFault>
     requires within { n ≤ length bytes.old.items }
     requires small { length bytes.old.items ≤ 8192 }
-    ensures asks { IfOk result (λ job. (left : List ℕ) × Agrees (R.remaining reader.old) left
-        × HeadAsksFor profile.entry (take n bytes.old.items) (drop n (bytes.old.items ++ left)) job) }
-    ensures lacks { OnErr result (LacksBody profile.entry (take n bytes.old.items) (length (drop n bytes.old.items))) }
+    ensures asks { IfOk result (λ task. (left : List ℕ) × Agrees (R.remaining reader.old) left
+        × HeadAsksFor terms.entry (take n bytes.old.items) (drop n (bytes.old.items ++ left)) task) }
+    ensures lacks { OnErr result (LacksBody terms.entry.profile (take n bytes.old.items) (length (drop n bytes.old.items))) }
     ensures endless { IsErrOf result InputFault.Endless → SpentAll reads.old
         (R.remaining reader.old) (R.remaining reader.new) }
 {
     let step = {
         let (head, _) = bytes.as_slice().split_at(n);
-        step_of_head(profile, routes, head)
+        step_of_head(terms.profile, routes, head)
     };
     match step {
-        HeadStep::Refuse {
-            status,
-            allow,
-            silent,
-        } => Ok(Job::Refuse {
-            status,
-            allow,
-            silent,
-        }),
-        HeadStep::Ask {
-            question,
-            body_format,
-            silent,
-        } => Ok(Job::Ask {
-            question,
-            body_format,
-            silent,
-        }),
-        HeadStep::Page { silent } => Ok(Job::Page { silent }),
+        HeadStep::Decided(decision) => Ok(RequestTask::Decided(decision)),
         HeadStep::Body { size, content } => {
             let want = n + size as usize;
             match read_to(reader, bytes, reads, want) {
-                Ok(true) => Ok(body_job(alloc, content, &bytes.as_slice()[n..want])),
+                Ok(true) => Ok(body_task(alloc, terms, content, &bytes.as_slice()[n..want])),
                 Ok(false) => Ok(refusal_of(Status::BadRequest, false)),
                 Err(fault) => Err(fault),
             }
@@ -71,22 +53,22 @@ fn head_job<R: Read>(
     }
 }
 
-/// What the input asks for, of a server of this profile. `None` where it ended without a byte.
+/// What the input asks for, by these terms. `None` where it ended without a byte.
 ///
 /// The head ends at its first empty line, within 8,192 bytes. A body is read where the head asks for one, and not beyond its length;
 /// where the head alone decides, no read follows the one that ended it. The result depends on the bytes of the input and not on the pieces
 /// in which they come.
 ///
 /// `Read`: a read failed, or was interrupted. `Endless`: the request has taken its 4,096 reads, each of which gave a byte at least. `Memory`: memory was
-/// refused for the bytes. Want of memory in reading a body as a command or an order file is `Job::MemoryError`.
-pub fn read_job<R: Read>(
+/// refused for the bytes. Want of memory in reading a body as a command or an order file is `RequestTask::MemoryError`.
+pub fn read_task<R: Read>(
     alloc: Global,
     routes: &Routes,
-    profile: Profile<'_>,
+    terms: Terms<'_>,
     reader: &mut R,
-) -> Result<Option<Job>, InputFault>
-    ensures asks { IfOk result (λ job. (whole : List ℕ) × Agrees (R.remaining reader.old) whole
-        × AsksFor profile.entry whole job) }
+) -> Result<Option<RequestTask>, InputFault>
+    ensures asks { IfOk result (λ task. (whole : List ℕ) × Agrees (R.remaining reader.old) whole
+        × AsksFor terms.entry whole task) }
     ensures endless { IsErrOf result InputFault.Endless → SpentAll most_reads
         (R.remaining reader.old) (R.remaining reader.new) }
 {
@@ -97,8 +79,8 @@ pub fn read_job<R: Read>(
         Ok(HeadEnd::Early) => Ok(Some(refusal_of(Status::BadRequest, false))),
         Ok(HeadEnd::TooLong) => Ok(Some(refusal_of(Status::HeadTooLarge, false))),
         Ok(HeadEnd::Found(n)) => {
-            match head_job(alloc, routes, profile, reader, &mut bytes, &mut reads, n) {
-                Ok(job) => Ok(Some(job)),
+            match head_task(alloc, routes, terms, reader, &mut bytes, &mut reads, n) {
+                Ok(task) => Ok(Some(task)),
                 Err(fault) => Err(fault),
             }
         }

@@ -3,6 +3,8 @@
 pub enum Status {
     /// 200 OK (section 15.3.1): with the answer, the reply or the record.
     Success,
+    /// 304 Not Modified (section 15.4.5): the client has the resource of the page as it is.
+    NotModified,
     /// 400 Bad Request (section 15.5.1): the head or the body isn't what it has to be, or ended early.
     BadRequest,
     /// 403 Forbidden (section 15.5.4): the request names a host that isn't served, or comes of another site.
@@ -29,7 +31,7 @@ pub enum Status {
 #[derive(Clone, Copy, Debug, PartialEq, Eq)]
 pub enum Allow {
     /// None are named.
-    Unsaid,
+    NoHeader,
     /// GET and HEAD.
     Get,
     /// POST.

@@ -1,41 +1,57 @@
 //! What the head of a request decides.
 ghost use Rattle.std.specs.Prelude.{◌≡◌, bytes_eq, length, map, All};
 ghost use Rattle.httparse.specs.Spans.{IsHeaderWithin, IsWithin, header_bytes, span_bytes};
-ghost use Rattle.plant_http_requests.specs.Steps.{refusal_of, fails, is_head, post_step};
+ghost use Rattle.plant_http_requests.specs.Steps.{refused, refusal_of, fails, lacks_method, is_head, post_step};
 ghost use Rattle.plant_http_requests.specs.Steps.{posted_step, asked_step, content_of};
-ghost use Rattle.plant_http_requests.specs.Steps.{target_step, is_page, page_step};
+ghost use Rattle.plant_http_requests.specs.Steps.{target_step, resource_for, resource_step};
 ghost use Rattle.plant_http_requests.specs.Steps.{routed_step, request_step};
 
 use crate::fields::import_metadata_in;
 use crate::framing::framing;
-use crate::job::{Content, HeadStep, Job};
 use crate::profile::Profile;
 use crate::routes::{BodyFormat, Post, Routes, Target};
 use crate::status::{Allow, Status};
+use crate::task::{BodyKind, HeadDecision, HeadStep, RequestTask};
+use crate::validators::is_current;
+use desk_page::{Resource, resource_at, tag_of};
 use http::Method;
 use httparse::spans::{HeaderSpan, RequestSpans};
 use plant_questions::Question;
 
-/// The job of a request that is answered by a status alone; no methods are named.
-pub(crate) fn refusal_of(status: Status, silent: bool) -> Job
-    ensures { result ≡ refusal_of status silent }
+/// A request that is answered by a status alone; no methods are named.
+fn refused(status: Status, silent: bool) -> HeadDecision
+    ensures { result ≡ refused status silent }
 {
-    Job::Refuse {
+    HeadDecision::Refuse {
         status,
-        allow: Allow::Unsaid,
+        allow: Allow::NoHeader,
         silent,
     }
 }
 
-/// The step of a request that is answered by a status alone; no methods are named.
+/// The task of such a request.
+pub(crate) fn refusal_of(status: Status, silent: bool) -> RequestTask
+    ensures { result ≡ refusal_of status silent }
+{
+    RequestTask::Decided(refused(status, silent))
+}
+
+/// The step of such a request.
 pub(crate) fn fails(status: Status, silent: bool) -> HeadStep
     ensures { result ≡ fails status silent }
 {
-    HeadStep::Refuse {
-        status,
-        allow: Allow::Unsaid,
+    HeadStep::Decided(refused(status, silent))
+}
+
+/// A request whose method the path doesn't have (405, RFC 9110, section 15.5.6): the answer names those that it has.
+fn lacks_method(allow: Allow, silent: bool) -> HeadStep
+    ensures { result ≡ lacks_method allow silent }
+{
+    HeadStep::Decided(HeadDecision::Refuse {
+        status: Status::MethodNotAllowed,
+        allow,
         silent,
-    }
+    })
 }
 
 /// Whether bytes are the name of a method (RFC 9110, section 9).
@@ -54,7 +70,7 @@ fn is_head(method: &[u8]) -> bool
 
 /// A path that takes a body by POST.
 /// It has to name the body's length, or it is answered 411 (RFC 9112, section 6.3).
-fn posted_step(content: Content, method: &[u8], size: Option<u32>) -> HeadStep
+fn posted_step(content: BodyKind, method: &[u8], size: Option<u32>) -> HeadStep
     ensures { result ≡ posted_step content method.now size }
 {
     if is_method(method, &Method::POST) {
@@ -63,42 +79,33 @@ fn posted_step(content: Content, method: &[u8], size: Option<u32>) -> HeadStep
             None => fails(Status::LengthRequired, false),
         };
     }
-    HeadStep::Refuse {
-        status: Status::MethodNotAllowed,
-        allow: Allow::Post,
-        silent: is_head(method),
-    }
+    lacks_method(Allow::Post, is_head(method))
 }
 
 /// A path that is asked by GET, or by HEAD.
-/// Another method is answered 405 with those that the path allows (RFC 9110, section 15.5.6).
 fn asked_step(question: Question, body_format: BodyFormat, method: &[u8]) -> HeadStep
     ensures { result ≡ asked_step question body_format method.now }
 {
     let silent = is_head(method);
     if is_method(method, &Method::GET) || silent {
-        return HeadStep::Ask {
+        return HeadStep::Decided(HeadDecision::Ask {
             question,
             body_format,
             silent,
-        };
+        });
     }
-    HeadStep::Refuse {
-        status: Status::MethodNotAllowed,
-        allow: Allow::Get,
-        silent: false,
-    }
+    lacks_method(Allow::Get, false)
 }
 
 /// What a path brings by POST.
-fn content_of(head: &[u8], fields: &[HeaderSpan], post: Post) -> Content
+fn content_of(head: &[u8], fields: &[HeaderSpan], post: Post) -> BodyKind
     requires { All (IsHeaderWithin (length head.now)) fields.now }
     ensures { result ≡ content_of post (map (header_bytes head.now) fields.now) }
 {
     match post {
-        Post::Command => Content::Command,
-        Post::Check => Content::Check,
-        Post::Orders => Content::Orders(import_metadata_in(head, fields)),
+        Post::Command => BodyKind::Command,
+        Post::Check => BodyKind::Check,
+        Post::Orders => BodyKind::Orders(import_metadata_in(head, fields)),
     }
 }
 
@@ -118,29 +125,30 @@ fn target_step(
     }
 }
 
-/// Whether a path is that of the page: only the profile that serves it has it.
-fn is_page(profile: Profile<'_>, path: &[u8]) -> bool
-    ensures { result ≡ is_page profile.entry path.now }
+/// The resource of the page at a path: only the profile that serves the page has one.
+fn resource_for(profile: Profile<'_>, path: &[u8]) -> Option<Resource>
+    ensures { result ≡ resource_for profile.entry path.now }
 {
     match profile {
-        Profile::Open => false,
-        Profile::Page { .. } => path == b"/".as_slice(),
+        Profile::Open => None,
+        Profile::Page { .. } => resource_at(path),
     }
 }
 
-/// The page, by GET or by HEAD.
-fn page_step(method: &[u8]) -> HeadStep
-    ensures { result ≡ page_step method.now }
+/// A resource of the page, by GET or by HEAD. A client that has it as it is gets its tag and no bytes.
+fn resource_step(head: &[u8], fields: &[HeaderSpan], resource: Resource, method: &[u8]) -> HeadStep
+    requires { All (IsHeaderWithin (length head.now)) fields.now }
+    ensures { result ≡ resource_step resource method.now (map (header_bytes head.now) fields.now) }
 {
     let silent = is_head(method);
     if is_method(method, &Method::GET) || silent {
-        return HeadStep::Page { silent };
+        return HeadStep::Decided(HeadDecision::Resource {
+            resource,
+            is_current: is_current(head, fields, tag_of(resource).as_bytes()),
+            silent,
+        });
     }
-    HeadStep::Refuse {
-        status: Status::MethodNotAllowed,
-        allow: Allow::Get,
-        silent: false,
-    }
+    lacks_method(Allow::Get, false)
 }
 
 /// What a path and a method decide.
@@ -156,8 +164,8 @@ fn routed_step(
     requires { All (IsHeaderWithin (length head.now)) fields.now }
     ensures { result ≡ routed_step profile.entry path.now method.now size (map (header_bytes head.now) fields.now) }
 {
-    if is_page(profile, path) {
-        return page_step(method);
+    if let Some(resource) = resource_for(profile, path) {
+        return resource_step(head, fields, resource, method);
     }
     match routes.find(path) {
         Some(target) => target_step(head, fields, target, method, size),

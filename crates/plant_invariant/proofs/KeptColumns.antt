@@ -11,7 +11,7 @@ use Rattle.plant_stock.specs.{goes_to, is_sublot_key, is_division, entries}
 use Rattle.plant_view.specs.{IsThere, tables_of, phases_among, events_among, batch_row, sublot_row}
 use Rattle.plant_invariant.specs.{IsDivision, IsBorn, HasProgressValues, BeginsAtZero, HasColumns}
 use Rattle.plant_invariant.specs.StateInvariant.{StateInvariant}
-use Rattle.plant_invariant.proofs.ListsThatGrow.{all_swap, all_passing}
+use Rattle.plant_invariant.proofs.AppendKeepsOrder.{all_swap, all_passing}
 
 -- each of the movements of a division is one
 each_divides : (ms : List Movement) → IsDivision ms → AllByRecursion (λ m. is_division m.kind ≡ true) ms

@@ -1,9 +1,9 @@
 pub mod BatchesKeepToRecipes
 pub mod SublotBirths
-pub mod OneMoreCommand
+pub mod CommandKeepsRows
 pub mod KeptColumns
 pub mod LineValues
-pub mod ListsThatGrow
+pub mod AppendKeepsOrder
 pub mod NumbersAfterCommand
 pub mod MergeIsOneBooking
 pub mod RecallsStayValid

@@ -4,18 +4,18 @@ use Rattle.std.specs.List.{AllByRecursion}
 use Rattle.std.proofs.lemmas.Bool.{false≢true}
 use Rattle.plant_base.specs.{is_id, is_moment, greatest_seq, is_version, HasLineValues, HasClassValues, HasDefinitionValues, HasLotValues, HasHoldValues, State, same, batch_at, Batch, ControlLine, Header, MasterLine}
 use Rattle.plant_view.proofs.ListLemmas.{found_passes, found_keeps, same_id, same_key, same_itself, key_itself, all_two, all_unmapped, filtered_passes}
-use Rattle.plant_view.specs.{headers_of, header_among, rows_among, IsWholeRecipe, orders_of, control_among, IsConsistentBatch, is_batch_among}
+use Rattle.plant_view.specs.{headers_of, header_among, rows_among, IsConsistentRecipe, orders_of, control_among, IsConsistentBatch, is_batch_among}
 use Rattle.plant_view.specs.DecisionInvariant.{DecisionInvariant}
 use Rattle.plant_rules_production.proofs.ControlIsWellFormed.{control_made, made_valid}
 use Rattle.plant_invariant.specs.{HasMasterValues, HasControlValues, HasEventValues, HasPlaceValues, HasMovementValues, HasRowValues}
-use Rattle.plant_invariant.proofs.ListsThatGrow.{all_swap, all_passing}
+use Rattle.plant_invariant.proofs.AppendKeepsOrder.{all_swap, all_passing}
 
 module _ (s : State) (sound : DecisionInvariant s) where
   -- ---- recipes
 
   -- a recipe that is whole
   abbrev pub Whole : Type 0
-  Whole = (h : Header) × IsWholeRecipe s.definitions s.master_lines h
+  Whole = (h : Header) × IsConsistentRecipe s.definitions s.master_lines h
 
   -- the line is of this recipe
   abbrev is_line_of : Whole → MasterLine → Bool
@@ -34,7 +34,7 @@ module _ (s : State) (sound : DecisionInvariant s) where
           by (Some h) e there =
               let own = λ (x : Header). same x.recipe l.recipe && x.version == l.version in
               let keys = same_key h.recipe l.recipe h.version l.version (found_passes own (headers_of s.recipes) h e) in
-              let whole = found_keeps (IsWholeRecipe s.definitions s.master_lines) own (headers_of s.recipes) h sound.recipes.whole e in
+              let whole = found_keeps (IsConsistentRecipe s.definitions s.master_lines) own (headers_of s.recipes) h sound.recipes.whole e in
               holds (h, whole) ((λ i. same l.recipe (keys.0 i) && l.version == keys.1 i) ∙ key_itself l.recipe l.version)
 
   pub master_values : AllByRecursion HasMasterValues s.master_lines

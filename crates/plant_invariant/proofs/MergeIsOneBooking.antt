@@ -12,7 +12,7 @@ use Rattle.plant_rules.proofs.MergeParts.{Apart, AreApart}
 use Rattle.plant_invariant.specs.{HasMovementValues, AreCounted, AreOfOneMerge, AreDistinct, IsBooking, are_one_birth, IsBirth, IsAsked}
 use Rattle.plant_invariant.specs.StateInvariant.{StateInvariant}
 use Rattle.plant_invariant.proofs.SublotBirths.{PossibleOutcomes}
-use Rattle.plant_invariant.proofs.OneMoreCommand.{IsNextStamp, IsNextBooking, sub_small}
+use Rattle.plant_invariant.proofs.CommandKeepsRows.{IsNextStamp, IsNextBooking, sub_small}
 
 module _ (seq : ℕ) (t : Stamp) (new : List ℕ) where
   lines_each : (P : Movement → Type 0) → ((k : ℕ) (p : Part) → P (part_line seq t new k p)) → (k : ℕ) (ps : List Part) → AllByRecursion P (part_lines seq t new k ps)

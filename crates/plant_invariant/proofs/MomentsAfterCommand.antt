@@ -5,7 +5,7 @@ use Rattle.std.proofs.lemmas.List.{map-append}
 use Rattle.plant_base.specs.{Batch, BatchEvent, Hold, Movement, Position}
 use Rattle.plant_view.proofs.ListLemmas.{all_weaker, all_two, all_mapped}
 use Rattle.plant_invariant.specs.{IsNumbered, mark_of_movement, mark_of_event, marks, IsNoLater, HasMoments}
-use Rattle.plant_invariant.proofs.ListsThatGrow.{all_append, all_middle, all_end}
+use Rattle.plant_invariant.proofs.AppendKeepsOrder.{all_append, all_middle, all_end}
 
 -- ---- marks
 

@@ -9,7 +9,7 @@ use Rattle.plant_base.specs.{BatchEvent, Movement, event_order, movement_order}
 use Rattle.plant_view.proofs.ListLemmas.{all_weaker, all_push, all_two}
 use Rattle.plant_stock.specs.{goes_to, comes_from, is_sublot_key}
 use Rattle.plant_invariant.specs.{AreCounted, booked, IsBooking, IsEnteredBefore, IsNumbered}
-use Rattle.plant_invariant.proofs.ListsThatGrow.{all_append, filter_old, filter_added, sorted_append, sorted_push, number_less, numbers_differ}
+use Rattle.plant_invariant.proofs.AppendKeepsOrder.{all_append, filter_old, filter_added, sorted_append, sorted_push, number_less, numbers_differ}
 
 -- ---- the order of movements
 

@@ -9,22 +9,22 @@ use Rattle.plant_base.specs.declared.refusal.Refusal.TheVariants.{BadForm, Momen
 use Rattle.plant_base.specs.declared.states.Word.TheVariants.{Done}
 use Rattle.plant_base.specs.declared.states.Event.TheVariants as event
 use Rattle.plant_base.specs.declared.rows.MovementKind.TheVariants as kind
-use Rattle.plant_base.specs.declared.command.Command.TheVariants as body
+use Rattle.plant_base.specs.declared.commands.Command.TheVariants as body
 use Rattle.plant_view.proofs.ListLemmas.{found_keeps, all_weaker, all_put, found_new, same_itself, all_filtered, and_left, not_false}
 use Rattle.plant_view.specs.{sublot_standing, is_taken, is_made}
 use Rattle.plant_view.specs.DecisionInvariant.{DecisionInvariant}
 use Rattle.plant_view.proofs.CommandsPreserveInvariant.{passed, is_there}
 use Rattle.plant_rules_production.specs.{event_row, close_batch, control_of_job, lines_in, released_batch, release, add_recipe, approve, withdraw, import_orders, cancel_order}
-use Rattle.plant_rules.specs.{line_of, next_number, opened, with_lifted, def_of, def_at, def_of_parts, part_lines, is_whole, wrong, wrong_body, wrong_there, decoded, kept_for, step, step_body, unless_refused, noted, taken}
+use Rattle.plant_rules.specs.{line_of, next_number, opened, with_lifted, def_of, def_at, def_of_parts, part_lines, is_well_formed_body, wrong, wrong_body, wrong_there, decoded, kept_for, step, step_body, unless_refused, noted, taken}
 use Rattle.plant_rules.proofs.NextSublotNumber.{next_free}
 use Rattle.plant_rules.proofs.MergeParts.{formed_some, formed_few, formed_apart, parts_there, parts_ready, parts_pass}
 use Rattle.plant_rules.proofs.StepPreservesInvariant.{plain_preserves_invariant, noted_consistent, opening_has_invariant}
-use Rattle.plant_rules.proofs.TakingRows.{scrap_takes, consumption_takes}
+use Rattle.plant_rules.proofs.StockOutRows.{scrap_takes, consumption_takes}
 use Rattle.plant_invariant.specs.StateInvariant.{StateInvariant}
 use Rattle.plant_invariant.proofs.BatchesKeepToRecipes.{kept_with_batch}
 use Rattle.plant_invariant.proofs.SublotBirths.{births_divided}
 use Rattle.plant_invariant.proofs.LineValues.{row_values}
-use Rattle.plant_invariant.proofs.OneMoreCommand.{IsNextStamp, valid_catalogued, valid_held, valid_recalled, valid_planned, no_later, held_no_later, recalls_stay, valid_happened, valid_taken, valid_divided, valid_born, sub_small, one_line}
+use Rattle.plant_invariant.proofs.CommandKeepsRows.{IsNextStamp, valid_catalogued, valid_held, valid_recalled, valid_planned, no_later, held_no_later, recalls_stay, valid_happened, valid_taken, valid_divided, valid_born, sub_small, one_line}
 use Rattle.plant_invariant.specs.{AreValidReceipts, IsValidRecall}
 use Rattle.plant_invariant.proofs.ReceiptsStayValid.{none_valid, valid_with}
 use Rattle.plant_invariant.proofs.RecallsStayValid.{recalls_lifted}
@@ -49,7 +49,7 @@ parts_named s valid (p ∷ ps) some known = def_named s valid p.lot known.0
 
 -- ---- the commands
 
-good_body : (s : State) → StateInvariant s → (t : Stamp) (c : Command) → IsNextStamp s t → HasBodyValues c → is_whole c ≡ true → wrong_body s c ≡ None → DecisionInvariant (step_body s t c) → StateInvariant (step_body s t c)
+good_body : (s : State) → StateInvariant s → (t : Stamp) (c : Command) → IsNextStamp s t → HasBodyValues c → is_well_formed_body c ≡ true → wrong_body s c ≡ None → DecisionInvariant (step_body s t c) → StateInvariant (step_body s t c)
 good_body s valid t (body.AddClass c) stamp values formed fine sound =
     let r : Class = record { id = c.class; name = c.name } in
     valid_catalogued s valid t stamp (put class_order r s.classes) s.definitions (all_put class_order HasClassValues r s.classes (record { id = values.0; name = values.1 }) valid.values.classes) valid.values.definitions sound
@@ -164,7 +164,7 @@ unless_valid None s next valid h = h refl
 unless_valid (Some r) s next valid h = valid
 
 -- a command that isn't refused, but for its receipt
-plain_valid : (s : State) → StateInvariant s → (e : Envelope) → HasValues e → is_whole e.body ≡ true → wrong_there s e ≡ None → StateInvariant (step_body s (stamp_of e) e.body)
+plain_valid : (s : State) → StateInvariant s → (e : Envelope) → HasValues e → is_well_formed_body e.body ≡ true → wrong_there s e ≡ None → StateInvariant (step_body s (stamp_of e) e.body)
 plain_valid s valid e values formed fine =
     let moment = passed (nat_lt e.at s.at) MomentBack (wrong_body s e.body) fine in
     let next = plain_preserves_invariant s valid.sound e values formed fine in
@@ -191,10 +191,10 @@ noted_valid s valid e values (Some id) named next h number kept =
 pub step_preserves_validity : (s : State) → StateInvariant s → (e : Envelope) → HasValues e → StateInvariant (step s e)
 unfolding step wrong
 step_preserves_validity s valid e values = unless_valid (wrong s e) s (taken (kept_for s e) s e) valid (λ fine.
-    let formed = passed (not (is_whole e.body)) BadForm (decoded (kept_for s e) (content_of e) (wrong_there s e)) fine in
+    let formed = passed (not (is_well_formed_body e.body)) BadForm (decoded (kept_for s e) (content_of e) (wrong_there s e)) fine in
     by (kept_for s e) (not_false _ formed.0) formed.1)
   where
-    by : (k : Option Receipt) → is_whole e.body ≡ true → decoded k (content_of e) (wrong_there s e) ≡ None → StateInvariant (taken k s e)
+    by : (k : Option Receipt) → is_well_formed_body e.body ≡ true → decoded k (content_of e) (wrong_there s e) ≡ None → StateInvariant (taken k s e)
     by None formed fine = noted_valid s valid e values e.reference values.reference (step_body s (stamp_of e) e.body) (plain_valid s valid e values formed fine) (number_after s (stamp_of e) e.body) (next_receipts s (stamp_of e) e.body)
     by (Some r) formed fine = valid
 

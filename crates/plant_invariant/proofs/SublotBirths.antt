@@ -15,7 +15,7 @@ use Rattle.plant_view.proofs.StockColumn.{no_place}
 use Rattle.plant_rules.proofs.NextSublotNumber.{next_free}
 use Rattle.plant_rules.specs.{greatest, next_number}
 use Rattle.plant_invariant.specs.{AreCounted, numbers_among, AreFromZero, IsBirth, IsDivision, IsBorn, AreBorn}
-use Rattle.plant_invariant.proofs.ListsThatGrow.{filter_old, filter_added, number_less}
+use Rattle.plant_invariant.proofs.AppendKeepsOrder.{filter_old, filter_added, number_less}
 use Rattle.plant_invariant.proofs.NumbersAfterCommand.{IsUnentered}
 
 -- ---- sublots that are there, and those that aren't

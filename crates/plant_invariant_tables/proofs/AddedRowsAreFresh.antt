@@ -12,7 +12,7 @@ use Rattle.plant_base.specs.{State, newest_schema, same, put, event_order, movem
 use Rattle.plant_view.proofs.ListLemmas.{all_weaker, same_id, same_itself, all_mapped}
 use Rattle.plant_view.specs.{batch_among, tables_of, changed, changed_all, batch_row, batch_row_order, RowChange, is_batch, puts_one_batch}
 use Rattle.plant_view.specs.DecisionInvariant.{DecisionInvariant}
-use Rattle.plant_view.specs.Tables.{Tables}
+use Rattle.plant_view.specs.TableRows.{Tables}
 use Rattle.plant_view.specs.declared.change.RowChange.TheVariants as change
 use Rattle.plant_rules.specs.{step}
 use Rattle.plant_invariant.specs.StateInvariant.{StateInvariant}

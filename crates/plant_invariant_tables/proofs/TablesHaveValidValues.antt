@@ -9,7 +9,7 @@ use Rattle.plant_base.specs.declared.rows.MovementKind.TheVariants as kind
 use Rattle.plant_view.proofs.ListLemmas.{all_weaker, found_passes, found_keeps, same_id, same_key, same_itself, key_itself, all_two, all_mapped, all_unmapped, all_filtered, all_put_all, and_left, and_right}
 use Rattle.plant_recipe.specs.{is_well_formed, greatest_lines}
 use Rattle.plant_recipe.proofs.RecipeLines.{keeps_procedure}
-use Rattle.plant_view.specs.{headers_of, header_among, orders_of, rows_among, lines_among, master_line, control_line, control_among, IsWholeRecipe, HasValidOrder, IsConsistentBatch, is_batch_among, edge_row_by, edge_row_of, edge_rows, ends_by, ends_of, edge_of, edges_of, mark_on, nodes_from, marks_of, marks, numbered, tables_of, batch_row, sublot_row}
+use Rattle.plant_view.specs.{headers_of, header_among, orders_of, rows_among, lines_among, master_line, control_line, control_among, IsConsistentRecipe, HasValidOrder, IsConsistentBatch, is_batch_among, edge_row_by, edge_row_of, edge_rows, ends_by, ends_of, edge_of, edges_of, mark_on, nodes_from, marks_of, marks, numbered, tables_of, batch_row, sublot_row}
 use Rattle.plant_trace.specs.{leads, Node}
 use Rattle.plant_trace.specs.declared.node.Node.TheVariants as node
 use Rattle.plant_rules_production.proofs.ControlIsWellFormed.{control_made}
@@ -17,7 +17,7 @@ use Rattle.plant_invariant.specs.RowValues as kept
 use Rattle.plant_invariant.specs.{AreCounted, booked, HasProgressValues, IsValidRecall, HasReceiptValues}
 use Rattle.plant_invariant.specs.StateInvariant.{StateInvariant}
 use Rattle.plant_invariant.proofs.KeptColumns.{columns}
-use Rattle.plant_invariant.proofs.ListsThatGrow.{all_append, all_swap, all_passing}
+use Rattle.plant_invariant.proofs.AppendKeepsOrder.{all_append, all_swap, all_passing}
 use Rattle.plant_invariant_tables.proofs.RowsInKeyOrder.{keyed}
 use Rattle.plant_tables_columns.specs.{is_in, greatest_number, HasRecipeValues, IsLineNumber, HasMasterLineValues, HasBatchRowValues, HasControlLineValues, HasEventRowValues, HasSublotValues, HasKindRowValues, HasMovementRowValues, HasEdgeValues, HasReceiptRowValues, HasMarkValues, HasValidValues}
 use Rattle.plant_tables.specs.{IsKnown, AreInOrder}
@@ -108,7 +108,7 @@ module _ (s : State) (valid : StateInvariant s) where
 
   -- a recipe that is whole
   abbrev Whole : Type 0
-  Whole = (h : Header) × IsWholeRecipe s.definitions s.master_lines h
+  Whole = (h : Header) × IsConsistentRecipe s.definitions s.master_lines h
 
   recipe_numbers : (r : Whole) → AllByRecursion (λ l. IsLineNumber l.number) (rows_among s.master_lines r.0.recipe r.0.version)
   recipe_numbers r =
@@ -128,7 +128,7 @@ module _ (s : State) (valid : StateInvariant s) where
       by (Some h) e there =
           let own = λ (x : Header). same x.recipe l.recipe && x.version == l.version in
           let keys = same_key h.recipe l.recipe h.version l.version (found_passes own (headers_of s.recipes) h e) in
-          let whole = found_keeps (IsWholeRecipe s.definitions s.master_lines) own (headers_of s.recipes) h valid.sound.recipes.whole e in
+          let whole = found_keeps (IsConsistentRecipe s.definitions s.master_lines) own (headers_of s.recipes) h valid.sound.recipes.whole e in
           small (h, whole) ((λ i. same l.recipe (keys.0 i) && l.version == keys.1 i) ∙ key_itself l.recipe l.version)
 
   master_lines : AllByRecursion HasMasterLineValues s.master_lines
@@ -136,8 +136,8 @@ module _ (s : State) (valid : StateInvariant s) where
       (all_two _ _ _ master_number s.master_lines valid.sound.recipes.listed numbered_by_recipe)
 
   recipes : AllByRecursion HasRecipeValues s.recipes
-  recipes = all_weaker (λ (r : Recipe). IsWholeRecipe s.definitions s.master_lines r.header) HasRecipeValues (λ r w. record { header = w.values; version = w.version }) s.recipes
-      (all_unmapped (IsWholeRecipe s.definitions s.master_lines) (λ (r : Recipe). r.header) s.recipes valid.sound.recipes.whole)
+  recipes = all_weaker (λ (r : Recipe). IsConsistentRecipe s.definitions s.master_lines r.header) HasRecipeValues (λ r w. record { header = w.values; version = w.version }) s.recipes
+      (all_unmapped (IsConsistentRecipe s.definitions s.master_lines) (λ (r : Recipe). r.header) s.recipes valid.sound.recipes.whole)
 
   -- ---- batches
 

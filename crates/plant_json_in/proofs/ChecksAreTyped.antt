@@ -5,8 +5,8 @@ use Rattle.serde_json.specs.Data.{Data}
 use Rattle.serde_json.specs.Find.{as_object, get}
 use Rattle.plant_base.specs.{Envelope}
 use Rattle.plant_json_in.specs.declared.members.Member.TheVariants as m
-use Rattle.plant_json_in.specs.{Fault, FormatError, name_of, check_members, Reports, object, format_error_is_reported, IsReported, exactly}
-use Rattle.plant_json_in.specs.declared.format_errors.Fault.TheVariants as fault
+use Rattle.plant_json_in.specs.{ReadFault, FormatError, name_of, check_members, Reports, object, format_error_is_reported, IsReported, exactly}
+use Rattle.plant_json_in.specs.declared.format_errors.ReadFault.TheVariants as fault
 use Rattle.plant_json_in.proofs.FieldsAreTyped.{Good, valid_bind, good_object, exactly_typed}
 use Rattle.plant_json_in.specs.declared.format_errors.FormatError.TheVariants as format_error
 use Rattle.plant_json_in.specs.declared.format_errors.ShapeError.TheVariants as shape_error
@@ -47,21 +47,21 @@ within (Some d) = value_has_reason d
 pub check_valid : (d : Data) → Reasoned (check_of d)
 check_valid d = valid_bind format_error_is_reported _ (object (exactly check_members d)) _ (good_object _ (exactly check_members d) (exactly_typed check_members d _ (λ v. within (get (name_of m.Command) d))))
 
-reported_from : (r : Result ToCheck Fault) (s : Result ToCheck FormatError) → Reports r s → Reasoned s → IsReported r
+reported_from : (r : Result ToCheck ReadFault) (s : Result ToCheck FormatError) → Reports r s → Reasoned s → IsReported r
 reported_from (Ok x) s e h = tt
 reported_from (Err (fault.Reported p)) s e h = subst Reasoned e h
 reported_from (Err fault.Memory) s e h = tt
 
-reason_from : (r : Result ToCheck Fault) (s : Result ToCheck FormatError) → Reports r s → Reasoned s → IfOk r (λ t. has_reason t ≡ true)
+reason_from : (r : Result ToCheck ReadFault) (s : Result ToCheck FormatError) → Reports r s → Reasoned s → IfOk r (λ t. has_reason t ≡ true)
 reason_from (Ok x) s e h = subst Reasoned e h
 reason_from (Err (fault.Reported p)) s e h = tt
 reason_from (Err fault.Memory) s e h = tt
 
-pub check_reported : (d : Data) (r : Result ToCheck Fault) → Reports r (check_of d) → IsReported r
+pub check_reported : (d : Data) (r : Result ToCheck ReadFault) → Reports r (check_of d) → IsReported r
 check_reported d r e = reported_from r (check_of d) e (check_valid d)
 
-pub made_has_reason : (t : ToCheck) (r : Result ToCheck Fault) → Reports r (Ok t) → has_reason t ≡ true → IfOk r (λ u. has_reason u ≡ true)
+pub made_has_reason : (t : ToCheck) (r : Result ToCheck ReadFault) → Reports r (Ok t) → has_reason t ≡ true → IfOk r (λ u. has_reason u ≡ true)
 made_has_reason t r e h = reason_from r (Ok t) e h
 
-pub check_has_reason : (d : Data) (r : Result ToCheck Fault) → Reports r (check_of d) → IfOk r (λ t. has_reason t ≡ true)
+pub check_has_reason : (d : Data) (r : Result ToCheck ReadFault) → Reports r (check_of d) → IfOk r (λ t. has_reason t ≡ true)
 check_has_reason d r e = reason_from r (check_of d) e (check_valid d)

@@ -6,8 +6,8 @@ use Rattle.serde_json.specs.Find.{get, as_str, as_array, as_object}
 use Rattle.plant_base.specs.{digits_of, is_due, only, is_id, is_text, is_unit, is_amount, is_moment}
 use Rattle.plant_json_in.specs.declared.members.Member.{Member}
 use Rattle.plant_json_in.specs.declared.members.Member.TheVariants as m
-use Rattle.plant_json_in.specs.declared.members.Rule.{Rule}
-use Rattle.plant_json_in.specs.declared.members.Rule.TheVariants as rule
+use Rattle.plant_json_in.specs.declared.members.MemberRule.{MemberRule}
+use Rattle.plant_json_in.specs.declared.members.MemberRule.TheVariants as rule
 use Rattle.plant_json_in.specs.declared.fields.Field.{Field}
 use Rattle.plant_json_in.specs.declared.fields.Field.TheVariants as field
 use Rattle.plant_json_in.specs.declared.format_errors.ShapeError.{ShapeError}
@@ -43,7 +43,7 @@ map_some f (Some x) Q k = k x
 -- ---- members
 
 -- a text that is read by a rule has the rule's type
-text_typed : (r : Rule) (text : List ℕ) (Q : Field → Type 0) → ((x : Means r) → Q (field_in r x)) → OnSome Q (field_of_text r text)
+text_typed : (r : MemberRule) (text : List ℕ) (Q : Field → Type 0) → ((x : Means r) → Q (field_in r x)) → OnSome Q (field_of_text r text)
 text_typed rule.Id text Q k = map_some field.Id (only is_id text) Q k
 text_typed rule.Text text Q k = map_some field.Text (only is_text text) Q k
 text_typed rule.Unit text Q k = map_some field.Unit (only is_unit text) Q k
@@ -60,12 +60,12 @@ text_typed rule.Question text Q k = map_some (λ w. field.Chosen) (asked_kind te
 text_typed rule.Kind text Q k = map_some (λ w. field.Chosen) (line_kind text) Q (λ w. k tt)
 text_typed _ text Q k = tt
 
-of_text : (r : Rule) (o : Option (List ℕ)) (Q : Field → Type 0) → ((x : Means r) → Q (field_in r x)) → OnSome Q (option_and_then (field_of_text r) o)
+of_text : (r : MemberRule) (o : Option (List ℕ)) (Q : Field → Type 0) → ((x : Means r) → Q (field_in r x)) → OnSome Q (option_and_then (field_of_text r) o)
 of_text r None Q k = tt
 of_text r (Some text) Q k = text_typed r text Q k
 
 -- a value that is read by a rule has the rule's type
-field_typed : (r : Rule) (d : Data) (Q : Field → Type 0) → ((x : Means r) → Q (field_in r x)) → OnSome Q (field_of r d)
+field_typed : (r : MemberRule) (d : Data) (Q : Field → Type 0) → ((x : Means r) → Q (field_in r x)) → OnSome Q (field_of r d)
 field_typed rule.Amount d Q k = map_some field.Amount (option_and_then (only is_amount) (natural d)) Q k
 field_typed rule.Moment d Q k = map_some field.Moment (option_and_then (only is_moment) (natural d)) Q k
 field_typed (rule.Number a b) d Q k = map_some field.Number (option_and_then (only (is_between a b)) (natural d)) Q k
@@ -91,11 +91,11 @@ by_rule-valid : (which : Member) (o : Option Field) (Q : Field → Type 0) → O
 by_rule-valid which None Q h = refl
 by_rule-valid which (Some f) Q h = h
 
-where_typed : (b : Bool) (r : Rule) (which : Member) (o : Option Field) (Q : Field → Type 0) → ((x : May b r) → Q (may_in b r x)) → ((Q : Field → Type 0) → ((x : Means r) → Q (field_in r x)) → OnSome Q o) → Good is_reported Q (by_rule which o)
+where_typed : (b : Bool) (r : MemberRule) (which : Member) (o : Option Field) (Q : Field → Type 0) → ((x : May b r) → Q (may_in b r x)) → ((Q : Field → Type 0) → ((x : Means r) → Q (field_in r x)) → OnSome Q o) → Good is_reported Q (by_rule which o)
 where_typed true r which o Q k typed = by_rule-valid which o Q (typed Q k)
 where_typed false r which o Q k typed = by_rule-valid which o Q (typed Q (λ x. k (Some x)))
 
-left_out : (b : Bool) (r : Rule) (which : Member) (Q : Field → Type 0) → ((x : May b r) → Q (may_in b r x)) → Good is_reported Q (cond b (Err (shape_error.Missing which)) (Ok field.Absent))
+left_out : (b : Bool) (r : MemberRule) (which : Member) (Q : Field → Type 0) → ((x : May b r) → Q (may_in b r x)) → Good is_reported Q (cond b (Err (shape_error.Missing which)) (Ok field.Absent))
 left_out true r which Q k = refl
 left_out false r which Q k = k None
 
@@ -144,7 +144,7 @@ later_fails which ms d h =
 pub only_fails : (which : Member) (d : Data) → Good is_reported (λ f. ⊥) (member_where which (get (name_of which) d)) → Good is_reported (λ fs. ⊥) (fields_of (which ∷ []) d)
 only_fails which d h = valid_bind is_reported (λ fs. ⊥) (member_of which d) _ (valid_map is_reported (λ f. ⊥) _ (member_of which d) (λ f z. absurd z) h)
 
-text_fails : {A : Type 0} (r : Rule) (which : Member) (kind : List ℕ → Option A) → ((text : List ℕ) → field_of_text r text ≡ chosen (kind text)) → (o : Option (List ℕ)) → option_and_then kind o ≡ None → Good is_reported (λ f. ⊥) (by_rule which (option_and_then (field_of_text r) o))
+text_fails : {A : Type 0} (r : MemberRule) (which : Member) (kind : List ℕ → Option A) → ((text : List ℕ) → field_of_text r text ≡ chosen (kind text)) → (o : Option (List ℕ)) → option_and_then kind o ≡ None → Good is_reported (λ f. ⊥) (by_rule which (option_and_then (field_of_text r) o))
 text_fails r which kind same None e = refl
 text_fails r which kind same (Some text) e = rw (same text, e) refl
 

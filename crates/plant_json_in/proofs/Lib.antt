@@ -1,7 +1,7 @@
 pub mod PartsInOrder
 pub mod QuestionsAreMade
 pub mod QuestionsAreReported
-pub mod EachMember
+pub mod MembersByInduction
 pub mod FieldsAreTyped
 pub mod ChecksAreTyped
 pub mod StepsAreTyped

@@ -4,20 +4,20 @@ use Rattle.std.specs.Prelude.{⊤}
 use Rattle.serde_json.specs.Data.{Data, Items, no_items, item}
 use Rattle.serde_json.specs.Find.{get, as_str, as_array, as_object}
 use Rattle.plant_base.specs.{Command, Envelope}
-use Rattle.plant_json_in.specs.{CommandKind, Fault, Field, FormatError, Member, Row, ShapeError, name_of, line_kind, shared_members, own_of, row_own, ◌>>=◌, Reports, object, or_malformed, is_reported, format_error_is_reported, IsReported, fields_of, none_other, exactly, may_in, Values, fields_in}
+use Rattle.plant_json_in.specs.{CommandKind, ReadFault, Field, FormatError, Member, RowKind, ShapeError, name_of, line_kind, shared_members, own_of, row_own, ◌>>=◌, Reports, object, or_malformed, is_reported, format_error_is_reported, IsReported, fields_of, none_other, exactly, may_in, Values, fields_in}
 use Rattle.plant_json_in.specs.declared.members.Member.TheVariants as m
-use Rattle.plant_json_in.specs.declared.members.Rule.TheVariants as rule
-use Rattle.plant_json_in.specs.declared.words.CommandKind.TheVariants as c
-use Rattle.plant_json_in.specs.declared.words.Row.TheVariants as row
+use Rattle.plant_json_in.specs.declared.members.MemberRule.TheVariants as rule
+use Rattle.plant_json_in.specs.declared.command_tables.CommandKind.TheVariants as c
+use Rattle.plant_json_in.specs.declared.words.RowKind.TheVariants as row
 use Rattle.plant_json_in.specs.declared.fields.Field.TheVariants as field
 use Rattle.plant_json_in.specs.declared.format_errors.ShapeError.TheVariants as shape_error
-use Rattle.plant_json_in.specs.declared.format_errors.Fault.TheVariants as fault
+use Rattle.plant_json_in.specs.declared.format_errors.ReadFault.TheVariants as fault
 use Rattle.plant_json_in.proofs.FieldsAreTyped.{Good, OnSome, valid_bind, valid_map, good_object, fields_typed, none_other-valid, exactly_typed, later_fails, only_fails, do_fails, kind_fails}
 use Rattle.plant_json_in.specs.{part_of, order_of, line_of, line_row, item_by, item_of, numbered, items_from, items_where, items_at, body_of, envelope_with, kind_at, command_by, command_of}
 
 -- ---- rows
 
-abbrev RowTotal : {T : Type 0} → (Row → List Field → Option T) → Row → Type 0
+abbrev RowTotal : {T : Type 0} → (RowKind → List Field → Option T) → RowKind → Type 0
 RowTotal make r = (v : Values (row_own r)) → Good is_reported (λ x. ⊤) (or_malformed (make r (fields_in (row_own r) v)))
 
 cond_some : {A : Type 0} (P : A → Type 0) (b : Bool) (x : A) (o : Option A) → P x → OnSome P o → OnSome P (cond b (Some x) o)
@@ -35,10 +35,10 @@ kind_total : (s : Option (List ℕ)) → OnSome (RowTotal line_of) (option_and_t
 kind_total None = tt
 kind_total (Some word) = kinds_total word
 
-row_valid : {T : Type 0} (make : Row → List Field → Option T) (r : Row) (d : Data) → RowTotal make r → Good is_reported (λ x. ⊤) (item_by make (Some r) d)
+row_valid : {T : Type 0} (make : RowKind → List Field → Option T) (r : RowKind) (d : Data) → RowTotal make r → Good is_reported (λ x. ⊤) (item_by make (Some r) d)
 row_valid make r d total = valid_bind is_reported _ (exactly (row_own r) d) _ (exactly_typed (row_own r) d _ total)
 
-line_by : (d : Data) (o : Option Row) → line_row d ≡ o → OnSome (RowTotal line_of) o → Good is_reported (λ x. ⊤) (item_by line_of o d)
+line_by : (d : Data) (o : Option RowKind) → line_row d ≡ o → OnSome (RowTotal line_of) o → Good is_reported (λ x. ⊤) (item_by line_of o d)
 line_by d None e h = valid_bind is_reported _ (fields_of (m.Kind ∷ []) d) _ (valid_map is_reported (λ fs. ⊥) _ (fields_of (m.Kind ∷ []) d) (λ fs z. absurd z) (only_fails m.Kind d (kind_fails (get (codes "kind") d) e)))
 line_by d (Some r) e h = row_valid line_of r d h
 
@@ -46,7 +46,7 @@ in_object : {A : Type 0} (b : Bool) (r : Result A ShapeError) → Good is_report
 in_object true r h = h
 in_object false r h = refl
 
-abbrev ItemValid : {T : Type 0} → (Row → List Field → Option T) → (Data → Option Row) → Type 0
+abbrev ItemValid : {T : Type 0} → (RowKind → List Field → Option T) → (Data → Option RowKind) → Type 0
 ItemValid make row = (d : Data) → Good is_reported (λ x. ⊤) (item_of make row d)
 
 parts_valid : ItemValid part_of (λ d. Some row.Part)
@@ -64,17 +64,17 @@ numbered_valid : {T : Type 0} (list : Member) (n : ℕ) (r : Result T ShapeError
 numbered_valid list n (Ok x) P k h = k x
 numbered_valid list n (Err f) P k h = h
 
-items_valid : {T : Type 0} (make : Row → List Field → Option T) (row : Data → Option Row) (list : Member) (n : ℕ) (ds : Items) → ItemValid make row → Good format_error_is_reported (λ xs. ⊤) (items_from make row list n ds)
+items_valid : {T : Type 0} (make : RowKind → List Field → Option T) (row : Data → Option RowKind) (list : Member) (n : ℕ) (ds : Items) → ItemValid make row → Good format_error_is_reported (λ xs. ⊤) (items_from make row list n ds)
 items_valid make row list n no_items h = tt
 items_valid make row list n (item d ds) h =
     valid_bind format_error_is_reported _ (numbered list n (item_of make row d)) _ (numbered_valid list n (item_of make row d) _
     (λ x. valid_bind format_error_is_reported _ (items_from make row list (n + 1) ds) _ (valid_map format_error_is_reported (λ xs. ⊤) _ (items_from make row list (n + 1) ds) (λ xs z. tt) (items_valid make row list (n + 1) ds h))) (h d))
 
-items_by : {T : Type 0} (make : Row → List Field → Option T) (row : Data → Option Row) (list : Member) (o : Option Items) → ItemValid make row → Good format_error_is_reported (λ xs. ⊤) (items_where make row list o)
+items_by : {T : Type 0} (make : RowKind → List Field → Option T) (row : Data → Option RowKind) (list : Member) (o : Option Items) → ItemValid make row → Good format_error_is_reported (λ xs. ⊤) (items_where make row list o)
 items_by make row list None h = refl
 items_by make row list (Some ds) h = items_valid make row list 1 ds h
 
-with_items : {T B : Type 0} (make : Row → List Field → Option T) (row : Data → Option Row) (list : Member) (d : Data) (g : List T → B) → ItemValid make row → Good format_error_is_reported (λ x. ⊤) (items_at make row list d >>= (λ xs. Ok (g xs)))
+with_items : {T B : Type 0} (make : RowKind → List Field → Option T) (row : Data → Option RowKind) (list : Member) (d : Data) (g : List T → B) → ItemValid make row → Good format_error_is_reported (λ x. ⊤) (items_at make row list d >>= (λ xs. Ok (g xs)))
 with_items make row list d g h =
     valid_bind format_error_is_reported _ (items_at make row list d) _ (valid_map format_error_is_reported (λ xs. ⊤) _ (items_at make row list d) (λ xs z. tt) (items_by make row list (option_and_then as_array (get (name_of list) d)) h))
 
@@ -115,11 +115,11 @@ command_where d (Some kind) e = valid_bind format_error_is_reported _ (object (f
 pub command_valid : (d : Data) → Good format_error_is_reported (λ x. ⊤) (command_of d)
 command_valid d = command_where d (kind_at d) refl
 
-reported_from : (r : Result Envelope Fault) (s : Result Envelope FormatError) → Reports r s → Good format_error_is_reported (λ x. ⊤) s → IsReported r
+reported_from : (r : Result Envelope ReadFault) (s : Result Envelope FormatError) → Reports r s → Good format_error_is_reported (λ x. ⊤) s → IsReported r
 reported_from (Ok x) s e h = tt
 reported_from (Err (fault.Reported p)) s e h = subst (λ (s : Result Envelope FormatError). Good format_error_is_reported (λ x. ⊤) s) e h
 reported_from (Err fault.Memory) s e h = tt
 
 -- the same of what was read
-pub command_reported : (d : Data) (r : Result Envelope Fault) → Reports r (command_of d) → IsReported r
+pub command_reported : (d : Data) (r : Result Envelope ReadFault) → Reports r (command_of d) → IsReported r
 command_reported d r e = reported_from r (command_of d) e (command_valid d)

@@ -4,14 +4,15 @@ use Rattle.std.specs.Option.{option_or}
 use Rattle.serde_json.specs.Data.{Data}
 use Rattle.serde_json.specs.Find.{get, as_str}
 use Rattle.plant_base.specs.{Command, Envelope}
-use Rattle.plant_json_in.specs.declared.words.CommandKind.{CommandKind}
+use Rattle.plant_json_in.specs.declared.command_tables.CommandKind.{CommandKind}
 use Rattle.plant_json_in.specs.declared.fields.Field.{Field}
 use Rattle.plant_json_in.specs.declared.format_errors.FormatError.{FormatError}
-use Rattle.plant_json_in.specs.Words.{command_kind}
-use Rattle.plant_json_in.specs.Tables.{shared_members, own_of}
+use Rattle.plant_json_in.specs.CommandTables.{command_kind}
+use Rattle.plant_json_in.specs.Tables.{shared_members}
+use Rattle.plant_json_in.specs.CommandTables.{own_of}
 use Rattle.plant_json_in.specs.FormatErrors.{◌>>=◌, object, or_malformed}
 use Rattle.plant_json_in.specs.Fields.{fields_of, none_other}
-use Rattle.plant_json_in.specs.declared.words.CommandKind.TheVariants as c
+use Rattle.plant_json_in.specs.declared.command_tables.CommandKind.TheVariants as c
 use Rattle.plant_json_in.specs.declared.fields.Field.TheVariants as field
 use Rattle.plant_json_in.specs.declared.format_errors.ShapeError.TheVariants as shape_error
 use Rattle.plant_json_in.specs.declared.format_errors.FormatError.TheVariants as format_error

@@ -6,14 +6,15 @@ use Rattle.serde_json.specs.Find.{get, as_number, as_u64, as_str, as_array, as_o
 use Rattle.plant_base.specs.{digits_of, is_due, only, is_id, is_text, is_unit, is_amount, is_moment}
 use Rattle.plant_questions.specs.{cursor_in}
 use Rattle.plant_json_in.specs.declared.members.Member.{Member}
-use Rattle.plant_json_in.specs.declared.members.Rule.{Rule}
-use Rattle.plant_json_in.specs.declared.members.Rule.TheVariants as rule
+use Rattle.plant_json_in.specs.declared.members.MemberRule.{MemberRule}
+use Rattle.plant_json_in.specs.declared.members.MemberRule.TheVariants as rule
 use Rattle.plant_json_in.specs.declared.fields.Field.{Field}
 use Rattle.plant_json_in.specs.declared.fields.Field.TheVariants as field
 use Rattle.plant_json_in.specs.declared.format_errors.ShapeError.{ShapeError}
 use Rattle.plant_json_in.specs.declared.format_errors.ShapeError.TheVariants as shape_error
 use Rattle.plant_json_in.specs.Members.{name_of, rule_of, is_needed}
-use Rattle.plant_json_in.specs.Words.{command_kind, line_kind, batch_word, order_state, recipe_state}
+use Rattle.plant_json_in.specs.Words.{line_kind, batch_word, order_state, recipe_state}
+use Rattle.plant_json_in.specs.CommandTables.{command_kind}
 use Rattle.plant_json_in.specs.FormatErrors.{◌>>=◌}
 use Rattle.plant_json_in.specs.QuestionTables.{asked_kind}
 
@@ -31,7 +32,7 @@ abbrev pub chosen : {A : Type 0} → Option A → Option Field
 chosen kind = option_map (λ k. field.Chosen) kind
 
 -- the typed value that a text is by a rule, where the rule asks for a text
-abbrev pub field_of_text : Rule → List ℕ → Option Field
+abbrev pub field_of_text : MemberRule → List ℕ → Option Field
 field_of_text rule.Id text = option_map field.Id (only is_id text)
 field_of_text rule.Text text = option_map field.Text (only is_text text)
 field_of_text rule.Unit text = option_map field.Unit (only is_unit text)
@@ -49,7 +50,7 @@ field_of_text rule.Kind text = chosen (line_kind text)
 field_of_text _ text = None
 
 -- the typed value that a value is by a rule
-abbrev pub field_of : Rule → Data → Option Field
+abbrev pub field_of : MemberRule → Data → Option Field
 field_of rule.Amount d = option_map field.Amount (option_and_then (only is_amount) (natural d))
 field_of rule.Moment d = option_map field.Moment (option_and_then (only is_moment) (natural d))
 field_of (rule.Number least greatest) d = option_map field.Number (option_and_then (only (is_between least greatest)) (natural d))
@@ -59,7 +60,7 @@ field_of rule.Object d = option_map (λ ms. field.Object) (as_object d)
 field_of r d = option_and_then (field_of_text r) (as_str d)
 
 -- the typed value that a part of a path is by a rule: numbers in digits, at most 16 of an amount and 3 of another, whatever its range
-abbrev pub field_of_digits : Rule → List ℕ → Option Field
+abbrev pub field_of_digits : MemberRule → List ℕ → Option Field
 field_of_digits rule.Amount text = option_map field.Amount (option_and_then (only is_amount) (digits_of 16 text))
 field_of_digits (rule.Number least greatest) text = option_map field.Number (digits_of 3 text)
 field_of_digits r text = field_of_text r text

@@ -4,8 +4,8 @@ use Rattle.plant_json_in.specs.declared.format_errors.ShapeError.{ShapeError}
 use Rattle.plant_json_in.specs.declared.format_errors.ShapeError.TheVariants as shape_error
 use Rattle.plant_json_in.specs.declared.format_errors.FormatError.{FormatError}
 use Rattle.plant_json_in.specs.declared.format_errors.FormatError.TheVariants as format_error
-use Rattle.plant_json_in.specs.declared.format_errors.Fault.{Fault}
-use Rattle.plant_json_in.specs.declared.format_errors.Fault.TheVariants as fault
+use Rattle.plant_json_in.specs.declared.format_errors.ReadFault.{ReadFault}
+use Rattle.plant_json_in.specs.declared.format_errors.ReadFault.TheVariants as fault
 use Rattle.plant_json_in.specs.Members.{name_of, rule_of, rule_text}
 
 -- ---- readings
@@ -17,7 +17,7 @@ Ok a >>= f = f a
 Err e >>= f = Err e
 
 -- what was read is this, or else this is wrong; nothing is said where memory was refused
-abbrev pub Reports : {T : Type 0} → Result T Fault → Result T FormatError → Type 0
+abbrev pub Reports : {T : Type 0} → Result T ReadFault → Result T FormatError → Type 0
 Reports (Ok v) r = r ≡ Ok v
 Reports (Err (fault.Reported p)) r = r ≡ Err p
 Reports (Err fault.Memory) r = ⊤
@@ -43,7 +43,7 @@ format_error_is_reported (format_error.Item list number f) = is_reported f
 format_error_is_reported _ = true
 
 -- why nothing was read says what is wrong, or memory was refused
-abbrev pub IsReported : {A : Type 0} → Result A Fault → Type 0
+abbrev pub IsReported : {A : Type 0} → Result A ReadFault → Type 0
 IsReported (Ok x) = ⊤
 IsReported (Err (fault.Reported p)) = format_error_is_reported p ≡ true
 IsReported (Err fault.Memory) = ⊤

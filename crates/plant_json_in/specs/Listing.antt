@@ -2,9 +2,9 @@
 use Rattle.std.specs.Prelude.{List, [], ◌∷◌, Some, Result, Ok, Err}
 use Rattle.serde_json.specs.Data.{Data}
 use Rattle.plant_base.specs.{Command}
-use Rattle.plant_base.specs.declared.command.Command.TheVariants as body
+use Rattle.plant_base.specs.declared.commands.Command.TheVariants as body
 use Rattle.plant_json_in.specs.declared.members.Member.TheVariants as m
-use Rattle.plant_json_in.specs.declared.words.Row.TheVariants as row
+use Rattle.plant_json_in.specs.declared.words.RowKind.TheVariants as row
 use Rattle.plant_json_in.specs.declared.fields.Field.{Field}
 use Rattle.plant_json_in.specs.declared.format_errors.FormatError.{FormatError}
 use Rattle.plant_json_in.specs.FormatErrors.{◌>>=◌}

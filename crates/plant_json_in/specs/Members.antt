@@ -3,11 +3,11 @@ use Rattle.std.specs.Prelude.{ℕ, List, ◌++◌, codes, decimal, Bool, true, f
 use Rattle.plant_base.specs.{greatest_amount, greatest_moment, greatest_sublot, greatest_version, greatest_priority, greatest_phase}
 use Rattle.plant_json_in.specs.declared.members.Member.{Member}
 use Rattle.plant_json_in.specs.declared.members.Member.TheVariants as m
-use Rattle.plant_json_in.specs.declared.members.Rule.{Rule}
-use Rattle.plant_json_in.specs.declared.members.Rule.TheVariants as rule
+use Rattle.plant_json_in.specs.declared.members.MemberRule.{MemberRule}
+use Rattle.plant_json_in.specs.declared.members.MemberRule.TheVariants as rule
 
 -- the name of a member, and the rule of its value
-abbrev pub entry_of : Member → List ℕ × Rule
+abbrev pub entry_of : Member → List ℕ × MemberRule
 entry_of m.At = (codes "at", rule.Moment)
 entry_of m.By = (codes "by", rule.Text)
 entry_of m.Note = (codes "note", rule.Text)
@@ -62,7 +62,7 @@ entry_of m.Command = (codes "command", rule.Object)
 abbrev pub name_of : Member → List ℕ
 name_of which = (entry_of which).0
 
-abbrev pub rule_of : Member → Rule
+abbrev pub rule_of : Member → MemberRule
 rule_of which = (entry_of which).1
 
 -- the member must be there
@@ -81,7 +81,7 @@ is_needed _ = true
 abbrev pub number_text : ℕ → ℕ → List ℕ
 number_text least greatest = codes "a whole number from " ++ decimal least ++ codes " to " ++ decimal greatest
 
-abbrev pub rule_text : Rule → List ℕ
+abbrev pub rule_text : MemberRule → List ℕ
 rule_text rule.Id = codes "an id: 1 to 24 of A to Z, 0 to 9 and -, the first a letter"
 rule_text rule.Text = codes "a text of at most 60 characters, each from the space to ~"
 rule_text rule.Unit = codes "a unit: 1 to 8 letters and digits"

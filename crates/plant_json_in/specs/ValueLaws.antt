@@ -3,14 +3,14 @@ use Rattle.std.specs.Prelude.{⊤, ℕ, List, [], ◌∷◌, Bool, true, false, 
 use Rattle.plant_base.specs.{JobState, RecipeState, Word}
 use Rattle.plant_questions.specs.{Cursor}
 use Rattle.plant_json_in.specs.declared.members.Member.{Member}
-use Rattle.plant_json_in.specs.declared.members.Rule.{Rule}
-use Rattle.plant_json_in.specs.declared.members.Rule.TheVariants as rule
+use Rattle.plant_json_in.specs.declared.members.MemberRule.{MemberRule}
+use Rattle.plant_json_in.specs.declared.members.MemberRule.TheVariants as rule
 use Rattle.plant_json_in.specs.declared.fields.Field.{Field}
 use Rattle.plant_json_in.specs.declared.fields.Field.TheVariants as field
 use Rattle.plant_json_in.specs.Members.{rule_of, is_needed}
 
 -- what a value says that obeys the rule
-abbrev pub Means : Rule → Type 0
+abbrev pub Means : MemberRule → Type 0
 Means rule.Id = List ℕ
 Means rule.Text = List ℕ
 Means rule.Unit = List ℕ
@@ -32,7 +32,7 @@ Means rule.Kind = ⊤
 Means rule.List = ⊤
 Means rule.Object = ⊤
 
-abbrev pub field_in : (r : Rule) → Means r → Field
+abbrev pub field_in : (r : MemberRule) → Means r → Field
 field_in rule.Id x = field.Id x
 field_in rule.Text x = field.Text x
 field_in rule.Unit x = field.Unit x
@@ -55,11 +55,11 @@ field_in rule.List x = field.List
 field_in rule.Object x = field.Object
 
 -- the same of a member that may be left out
-abbrev pub May : Bool → Rule → Type 0
+abbrev pub May : Bool → MemberRule → Type 0
 May true r = Means r
 May false r = Option (Means r)
 
-abbrev pub may_in : (needed : Bool) (r : Rule) → May needed r → Field
+abbrev pub may_in : (needed : Bool) (r : MemberRule) → May needed r → Field
 may_in true r x = field_in r x
 may_in false r None = field.Absent
 may_in false r (Some x) = field_in r x

@@ -7,12 +7,12 @@ ghost use Rattle.plant_json_in.specs.Commands.{plain_of, body_of, text_or_empty,
 ghost use Rattle.plant_json_in.specs.Commands.{envelope_with, kind_at, command_by};
 ghost use Rattle.plant_json_in.specs.Commands.{command_of};
 
+use crate::command_tables::{CommandKind, command_kind, own_of};
 use crate::fields::{Field, fields_of, none_other};
-use crate::format_errors::{Fault, FormatError, ShapeError, made, object};
+use crate::format_errors::{FormatError, ReadFault, ShapeError, object, or_malformed};
 use crate::listing::{add_recipe_of, import_orders_of, merge_of};
 use crate::plain::{batches_of, blocks_of, goods_of, plans_of};
-use crate::tables::{own_of, shared_members};
-use crate::words::{CommandKind, command_kind};
+use crate::tables::shared_members;
 use plant_base::{Command, Envelope, Id, Text};
 use serde_json::Value;
 use std::alloc::Global;
@@ -33,14 +33,14 @@ fn body_of(
     kind: CommandKind,
     fields: &[Field],
     value: &Value,
-) -> Result<Command, Fault>
+) -> Result<Command, ReadFault>
     ensures { Reports result (body_of kind fields.now (view value.now)) }
 {
     match kind {
         CommandKind::Merge => merge_of(alloc, fields, value),
         CommandKind::AddRecipe => add_recipe_of(alloc, fields, value),
         CommandKind::ImportOrders => import_orders_of(alloc, fields, value),
-        _ => object(made(plain_of(kind, fields))),
+        _ => object(or_malformed(plain_of(kind, fields))),
     }
 }
 
@@ -106,7 +106,7 @@ fn command_by(
     kind: Option<CommandKind>,
     shared: &[Field],
     value: &Value,
-) -> Result<Envelope, Fault>
+) -> Result<Envelope, ReadFault>
     ensures { Reports result (command_by kind shared.now (view value.now)) }
 {
     match kind {
@@ -115,13 +115,13 @@ fn command_by(
             let fields = object(fields_of(value, own))?;
             let body = body_of(alloc, kind, fields.as_slice(), value)?;
             object(none_other(value, shared_members(), own))?;
-            object(made(envelope_with(shared, body)))
+            object(or_malformed(envelope_with(shared, body)))
         }
-        None => Err(Fault::Reported(FormatError::Object(ShapeError::Malformed))),
+        None => Err(ReadFault::Reported(FormatError::Object(ShapeError::Malformed))),
     }
 }
 
-fn read_command(alloc: Global, value: &Value) -> Result<Envelope, Fault>
+fn read_command(alloc: Global, value: &Value) -> Result<Envelope, ReadFault>
     ensures { Reports result (command_of (view value.now)) }
 {
     let shared = object(fields_of(value, shared_members()))?;
@@ -132,7 +132,7 @@ fn read_command(alloc: Global, value: &Value) -> Result<Envelope, Fault>
 ///
 /// - `Reported`: the object is no command, and this is the first thing that is wrong with it, which has a text of its own.
 /// - `Memory`: memory was refused while its list was read. Nothing is said of the object.
-pub fn command_of(alloc: Global, value: &Value) -> Result<Envelope, Fault>
+pub fn command_of(alloc: Global, value: &Value) -> Result<Envelope, ReadFault>
     ensures reads { Reports result (command_of (view value.now)) }
     ensures reported { IsReported result }
 {

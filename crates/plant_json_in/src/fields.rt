@@ -8,15 +8,16 @@ ghost use Rattle.plant_json_in.specs.Fields.{exactly, field_of_part, field_of_te
 ghost use Rattle.plant_json_in.specs.ValueLaws.{Values, fields_in};
 ghost use Rattle.plant_json_in.specs.FormatErrors.{is_reported};
 ghost use Rattle.plant_json_in.specs.Tables.{most_members};
-ghost use Rattle.plant_json_in.specs.declared.members.Rule.TheVariants as rule;
+ghost use Rattle.plant_json_in.specs.declared.members.MemberRule.TheVariants as rule;
 
+use crate::command_tables::command_kind;
 use crate::format_errors::ShapeError;
-use crate::members::{Member, Rule};
+use crate::members::{Member, MemberRule};
 use crate::question_tables::asked_kind;
-use crate::words::{batch_word, command_kind, line_kind, order_state, recipe_state};
+use crate::words::{batch_word, line_kind, order_state, recipe_state};
 use arrayvec::ArrayVec;
 use plant_base::{Amount, Due, Id, JobState, Moment, RecipeState, Text, Unit, Word};
-use plant_questions::{Cursor, Key};
+use plant_questions::{Cursor, CursorKey};
 use serde_json::{Map, Value};
 use std::marker::Model;
 
@@ -175,40 +176,43 @@ fn chosen<T: Copy>(kind: Option<T>) -> Option<Field>
 }
 
 /// The typed value that a text is by a rule, where the rule asks for a text.
-fn field_of_text(rule: Rule, text: &str) -> Option<Field>
+fn field_of_text(rule: MemberRule, text: &str) -> Option<Field>
     ensures { result ≡ field_of_text rule text.now }
 {
     match rule {
-        Rule::Id => Some(Field::Id(read_id(text.as_bytes())?)),
-        Rule::Text => Some(Field::Text(read_text(text.as_bytes())?)),
-        Rule::Unit => Some(Field::Unit(read_unit(text.as_bytes())?)),
-        Rule::Due => Some(Field::Due(read_due(text.as_bytes())?)),
-        Rule::Word => Some(Field::Word(batch_word(text)?)),
-        Rule::OrderState => Some(Field::OrderState(order_state(text)?)),
-        Rule::RecipeState => Some(Field::RecipeState(recipe_state(text)?)),
-        Rule::RecipeCursor => Some(Field::RecipeCursor(Cursor::read(text)?)),
-        Rule::DueCursor => Some(Field::DueCursor(Cursor::read(text)?)),
-        Rule::HoldCursor => Some(Field::HoldCursor(Cursor::read(text)?)),
-        Rule::MovementCursor => Some(Field::MovementCursor(Cursor::read(text)?)),
-        Rule::Command => chosen(command_kind(text)),
-        Rule::Question => chosen(asked_kind(text)),
-        Rule::Kind => chosen(line_kind(text)),
-        Rule::Amount | Rule::Moment | Rule::Number(_, _) | Rule::Small(_, _) => None,
-        Rule::List | Rule::Object => None,
+        MemberRule::Id => Some(Field::Id(read_id(text.as_bytes())?)),
+        MemberRule::Text => Some(Field::Text(read_text(text.as_bytes())?)),
+        MemberRule::Unit => Some(Field::Unit(read_unit(text.as_bytes())?)),
+        MemberRule::Due => Some(Field::Due(read_due(text.as_bytes())?)),
+        MemberRule::Word => Some(Field::Word(batch_word(text)?)),
+        MemberRule::OrderState => Some(Field::OrderState(order_state(text)?)),
+        MemberRule::RecipeState => Some(Field::RecipeState(recipe_state(text)?)),
+        MemberRule::RecipeCursor => Some(Field::RecipeCursor(Cursor::read(text)?)),
+        MemberRule::DueCursor => Some(Field::DueCursor(Cursor::read(text)?)),
+        MemberRule::HoldCursor => Some(Field::HoldCursor(Cursor::read(text)?)),
+        MemberRule::MovementCursor => Some(Field::MovementCursor(Cursor::read(text)?)),
+        MemberRule::Command => chosen(command_kind(text)),
+        MemberRule::Question => chosen(asked_kind(text)),
+        MemberRule::Kind => chosen(line_kind(text)),
+        MemberRule::Amount
+        | MemberRule::Moment
+        | MemberRule::Number(_, _)
+        | MemberRule::Small(_, _) => None,
+        MemberRule::List | MemberRule::Object => None,
     }
 }
 
 /// The typed value that a value is by a rule.
-fn field_of(rule: Rule, value: &Value) -> Option<Field>
+fn field_of(rule: MemberRule, value: &Value) -> Option<Field>
     ensures { result ≡ field_of rule (view value.now) }
 {
     match rule {
-        Rule::Amount => Some(Field::Amount(Amount::new(value.as_u64()?)?)),
-        Rule::Moment => Some(Field::Moment(Moment::new(value.as_u64()?)?)),
-        Rule::Number(least, greatest) => number_of(value, least, greatest),
-        Rule::Small(least, greatest) => small_of(value, least, greatest),
-        Rule::List => list_of(value),
-        Rule::Object => object_of(value),
+        MemberRule::Amount => Some(Field::Amount(Amount::new(value.as_u64()?)?)),
+        MemberRule::Moment => Some(Field::Moment(Moment::new(value.as_u64()?)?)),
+        MemberRule::Number(least, greatest) => number_of(value, least, greatest),
+        MemberRule::Small(least, greatest) => small_of(value, least, greatest),
+        MemberRule::List => list_of(value),
+        MemberRule::Object => object_of(value),
         _ => field_of_text(rule, value.as_str()?),
     }
 }
@@ -226,8 +230,8 @@ pub fn field_of_part(member: Member, part: Option<&str>) -> Option<Field>
         };
     };
     match member.rule() {
-        Rule::Amount => Some(Field::Amount(Amount::new(u64::read_key(text)?)?)),
-        Rule::Number(_, _) => Some(Field::Number(u16::read_key(text)?)),
+        MemberRule::Amount => Some(Field::Amount(Amount::new(u64::read_key(text)?)?)),
+        MemberRule::Number(_, _) => Some(Field::Number(u16::read_key(text)?)),
         rule => field_of_text(rule, text),
     }
 }
@@ -259,10 +263,7 @@ fn each_field(value: &Value, members: &[Member]) -> Result<Fields, ShapeError>
 {
     let mut fields = ArrayVec::<Field, MOST_MEMBERS>::new();
     for member in members {
-        match member_of(value, *member) {
-            Ok(field) => fields.push(field),
-            Err(shape_error) => return Err(shape_error),
-        }
+        fields.push(member_of(value, *member)?);
     }
     Ok(Fields { fields })
 }
@@ -325,8 +326,6 @@ pub fn exactly(value: &Value, members: &[Member]) -> Result<Fields, ShapeError>
     ensures { result ≡ exactly members.now (view value.now) }
 {
     let fields = fields_of(value, members)?;
-    match none_other(value, members, &[]) {
-        Ok(()) => Ok(fields),
-        Err(shape_error) => Err(shape_error),
-    }
+    none_other(value, members, &[])?;
+    Ok(fields)
 }

@@ -103,7 +103,7 @@ impl std::error::Error for FormatError {}
 
 /// Why nothing was read.
 #[derive(Clone, Copy, Debug, PartialEq, Eq, Error)]
-pub enum Fault {
+pub enum ReadFault {
     /// This is wrong.
     #[error("{0}")]
     Reported(FormatError),
@@ -125,19 +125,19 @@ pub enum LineFault {
 
 /// What was read of the line's object: a flaw is that of the line.
 /// `Reported` of that problem exactly where there is a flaw.
-pub fn object<T: Drop>(read: Result<T, ShapeError>) -> Result<T, Fault>
+pub fn object<T: Drop>(read: Result<T, ShapeError>) -> Result<T, ReadFault>
     ensures reads { Reports result (object read) }
-    ensures reported { IfErr read (λ shape_error. IsErrOf result (Fault.Reported (format_error.Object shape_error))) }
+    ensures reported { IfErr read (λ shape_error. IsErrOf result (ReadFault.Reported (format_error.Object shape_error))) }
 {
     match read {
         Ok(value) => Ok(value),
-        Err(shape_error) => Err(Fault::Reported(FormatError::Object(shape_error))),
+        Err(shape_error) => Err(ReadFault::Reported(FormatError::Object(shape_error))),
     }
 }
 
 /// What was made of an object's values, which have the types of its shape: so something always is.
 /// `Malformed` exactly where nothing was made.
-pub fn made<T: Drop>(value: Option<T>) -> Result<T, ShapeError>
+pub fn or_malformed<T: Drop>(value: Option<T>) -> Result<T, ShapeError>
     ensures { result ≡ or_malformed value }
 {
     match value {

@@ -5,6 +5,7 @@
 #![tactic(auto)]
 
 mod checks;
+mod command_tables;
 mod commands;
 mod fields;
 mod format_errors;
@@ -19,13 +20,14 @@ mod tables;
 mod words;
 
 pub use checks::{ToCheck, check_of, to_check_of};
+pub use command_tables::{CommandKind, command_kind, own_of};
 pub use commands::command_of;
 pub use fields::{Field, Fields, exactly, field_of_part, fields_of, none_other};
-pub use format_errors::{Fault, FormatError, LineFault, ShapeError, made, object};
-pub use members::{Member, Rule};
+pub use format_errors::{FormatError, LineFault, ReadFault, ShapeError, object, or_malformed};
+pub use members::{Member, MemberRule};
 pub use question_tables::{
     Around, AskedKind, ListKind, NodeKind, QuestionKind, Topic, asked_kind, question_members,
 };
 pub use questions::{node_in, question_of, question_of_parts};
-pub use tables::{check_members, own_of, row_own, shared_members};
-pub use words::{CommandKind, Row, command_kind, line_kind, order_state, recipe_state};
+pub use tables::{check_members, row_own, shared_members};
+pub use words::{RowKind, line_kind, order_state, recipe_state};

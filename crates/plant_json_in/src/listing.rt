@@ -5,14 +5,14 @@ ghost use Rattle.plant_json_in.specs.FormatErrors.{Reports};
 ghost use Rattle.plant_json_in.specs.Listing.{merge_of, add_recipe_of, import_orders_of};
 
 use crate::Field::{self, Amount, Id, List, Number, Text};
-use crate::format_errors::{Fault, FormatError, ShapeError};
+use crate::format_errors::{FormatError, ReadFault, ShapeError};
 use crate::lists::items_at;
 use plant_base::{AddRecipe, Command, Header, ImportOrders, Merge};
 use serde_json::Value;
 use std::alloc::Global;
 
 /// The merge that the fields and the list of its parts make, or the first problem of a part.
-pub(crate) fn merge_of(alloc: Global, fields: &[Field], value: &Value) -> Result<Command, Fault>
+pub(crate) fn merge_of(alloc: Global, fields: &[Field], value: &Value) -> Result<Command, ReadFault>
     ensures { Reports result (merge_of fields.now (view value.now)) }
 {
     match fields {
@@ -20,7 +20,7 @@ pub(crate) fn merge_of(alloc: Global, fields: &[Field], value: &Value) -> Result
             let parts = items_at(alloc, value)?;
             Ok(Command::Merge(Merge { new, place, parts }))
         }
-        _ => Err(Fault::Reported(FormatError::Object(ShapeError::Malformed))),
+        _ => Err(ReadFault::Reported(FormatError::Object(ShapeError::Malformed))),
     }
 }
 
@@ -29,7 +29,7 @@ pub(crate) fn add_recipe_of(
     alloc: Global,
     fields: &[Field],
     value: &Value,
-) -> Result<Command, Fault>
+) -> Result<Command, ReadFault>
     ensures { Reports result (add_recipe_of fields.now (view value.now)) }
 {
     match fields {
@@ -57,7 +57,7 @@ pub(crate) fn add_recipe_of(
                 lines,
             }))
         }
-        _ => Err(Fault::Reported(FormatError::Object(ShapeError::Malformed))),
+        _ => Err(ReadFault::Reported(FormatError::Object(ShapeError::Malformed))),
     }
 }
 
@@ -66,7 +66,7 @@ pub(crate) fn import_orders_of(
     alloc: Global,
     fields: &[Field],
     value: &Value,
-) -> Result<Command, Fault>
+) -> Result<Command, ReadFault>
     ensures { Reports result (import_orders_of fields.now (view value.now)) }
 {
     match fields {
@@ -74,6 +74,6 @@ pub(crate) fn import_orders_of(
             let orders = items_at(alloc, value)?;
             Ok(Command::ImportOrders(ImportOrders { orders }))
         }
-        _ => Err(Fault::Reported(FormatError::Object(ShapeError::Malformed))),
+        _ => Err(ReadFault::Reported(FormatError::Object(ShapeError::Malformed))),
     }
 }

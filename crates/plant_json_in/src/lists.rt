@@ -3,16 +3,16 @@ ghost use Rattle.std.specs.Prelude.{◌≡◌, Some};
 ghost use Rattle.serde_json.specs.View.{view, items_view};
 ghost use Rattle.plant_json_in.specs.FormatErrors.{Reports};
 ghost use Rattle.plant_json_in.specs.declared.members.Member.TheVariants as m;
-ghost use Rattle.plant_json_in.specs.declared.words.Row.TheVariants as row;
+ghost use Rattle.plant_json_in.specs.declared.words.RowKind.TheVariants as row;
 ghost use Rattle.plant_json_in.specs.Lists.{line_row, item_of, items_from, items_at, part_of};
 ghost use Rattle.plant_json_in.specs.Lists.{order_of, line_of};
 
 use crate::Field::{self, Amount, Chosen, Due, Id, Number, Small, Text};
 use crate::fields::{exactly, fields_of};
-use crate::format_errors::{Fault, FormatError, ShapeError, made};
+use crate::format_errors::{FormatError, ReadFault, ShapeError, or_malformed};
 use crate::members::Member;
 use crate::tables::row_own;
-use crate::words::{Row, line_kind};
+use crate::words::{RowKind, line_kind};
 use plant_base::{Items, OrderRow, Part, RecipeLine};
 use serde_json::Value;
 use std::alloc::Global;
@@ -23,27 +23,27 @@ pub(crate) trait Item: Sized + Drop {
     ghost use Rattle.serde_json.specs.Data.{Data};
     ghost use Rattle.plant_json_in.specs.declared.fields.Field.{Field};
     ghost use Rattle.plant_json_in.specs.declared.members.Member.{Member};
-    ghost use Rattle.plant_json_in.specs.declared.words.Row.{Row};
+    ghost use Rattle.plant_json_in.specs.declared.words.RowKind.{RowKind};
 
     /// The member that has the list.
     ghost list: { Member };
 
     /// Which row an object is.
-    ghost row_at: { Data → Option Row };
+    ghost row_at: { Data → Option RowKind };
 
     /// The one that a row's values make.
-    ghost make: { Row → List Field → Option Self };
+    ghost make: { RowKind → List Field → Option Self };
 
     /// The member that has the list.
     fn list() -> Member
         ensures { result ≡ list };
 
     /// Which row an object is.
-    fn row_at(value: &Value) -> Option<Row>
+    fn row_at(value: &Value) -> Option<RowKind>
         ensures { result ≡ row_at (view value.now) };
 
     /// The one that a row's values make.
-    fn make(row: Row, fields: &[Field]) -> Option<Self>
+    fn make(row: RowKind, fields: &[Field]) -> Option<Self>
         ensures { result ≡ make row fields.now };
 }
 
@@ -58,13 +58,13 @@ impl Item for Part {
         Member::Parts
     }
 
-    fn row_at(_value: &Value) -> Option<Row> {
-        Some(Row::Part)
+    fn row_at(_value: &Value) -> Option<RowKind> {
+        Some(RowKind::Part)
     }
 
-    fn make(row: Row, fields: &[Field]) -> Option<Part> {
+    fn make(row: RowKind, fields: &[Field]) -> Option<Part> {
         match (row, fields) {
-            (Row::Part, &[Id(lot), Number(sub), Amount(amount)]) => {
+            (RowKind::Part, &[Id(lot), Number(sub), Amount(amount)]) => {
                 Some(Part { lot, sub, amount })
             }
             _ => None,
@@ -83,14 +83,14 @@ impl Item for OrderRow {
         Member::Orders
     }
 
-    fn row_at(_value: &Value) -> Option<Row> {
-        Some(Row::Order)
+    fn row_at(_value: &Value) -> Option<RowKind> {
+        Some(RowKind::Order)
     }
 
-    fn make(row: Row, fields: &[Field]) -> Option<OrderRow> {
+    fn make(row: RowKind, fields: &[Field]) -> Option<OrderRow> {
         match (row, fields) {
             (
-                Row::Order,
+                RowKind::Order,
                 &[
                     Id(order),
                     Id(recipe),
@@ -123,22 +123,22 @@ impl Item for RecipeLine {
         Member::Lines
     }
 
-    fn row_at(value: &Value) -> Option<Row> {
+    fn row_at(value: &Value) -> Option<RowKind> {
         line_kind(value.get("kind")?.as_str()?)
     }
 
-    fn make(row: Row, fields: &[Field]) -> Option<RecipeLine> {
+    fn make(row: RowKind, fields: &[Field]) -> Option<RecipeLine> {
         match (row, fields) {
-            (Row::In, &[Chosen, Id(def), Amount(amount)]) => {
+            (RowKind::In, &[Chosen, Id(def), Amount(amount)]) => {
                 Some(RecipeLine::In { def, amount })
             }
-            (Row::Out, &[Chosen, Id(def), Amount(amount)]) => {
+            (RowKind::Out, &[Chosen, Id(def), Amount(amount)]) => {
                 Some(RecipeLine::Out { def, amount })
             }
-            (Row::Parameter, &[Chosen, Id(name), Text(value)]) => {
+            (RowKind::Parameter, &[Chosen, Id(name), Text(value)]) => {
                 Some(RecipeLine::Parameter { name, value })
             }
-            (Row::Phase, &[Chosen, Id(unit_procedure), Id(operation), Id(phase)]) => Some(
+            (RowKind::Phase, &[Chosen, Id(unit_procedure), Id(operation), Id(phase)]) => Some(
                 RecipeLine::Phase {
                     unit_procedure,
                     operation,
@@ -160,17 +160,17 @@ fn item_of<T: Item>(value: &Value) -> Result<T, ShapeError>
     match T::row_at(value) {
         Some(row) => {
             let fields = exactly(value, row_own(row))?;
-            made(T::make(row, fields.as_slice()))
+            or_malformed(T::make(row, fields.as_slice()))
         }
-        None => match fields_of(value, &[Member::Kind]) {
-            Ok(_) => Err(ShapeError::Malformed),
-            Err(shape_error) => Err(shape_error),
-        },
+        None => {
+            fields_of(value, &[Member::Kind])?;
+            Err(ShapeError::Malformed)
+        }
     }
 }
 
 /// The items of a list, or the problem of the first that has one.
-fn items_of<T: Item>(alloc: Global, values: &[Value]) -> Result<Items<T>, Fault>
+fn items_of<T: Item>(alloc: Global, values: &[Value]) -> Result<Items<T>, ReadFault>
     ensures { Reports result (items_from T.make T.row_at T.list 1 (items_view values.now)) }
 {
     let list = T::list();
@@ -180,9 +180,9 @@ fn items_of<T: Item>(alloc: Global, values: &[Value]) -> Result<Items<T>, Fault>
         match item_of(value) {
             Ok(item) => match items.push(item) {
                 Ok(()) => number += 1,
-                Err(_) => return Err(Fault::Memory),
+                Err(_) => return Err(ReadFault::Memory),
             },
-            Err(shape_error) => return Err(Fault::Reported(FormatError::Item {
+            Err(shape_error) => return Err(ReadFault::Reported(FormatError::Item {
                 list,
                 number,
                 shape_error,
@@ -193,11 +193,11 @@ fn items_of<T: Item>(alloc: Global, values: &[Value]) -> Result<Items<T>, Fault>
 }
 
 /// The items of the command's list, or the problem of the first that has one.
-pub(crate) fn items_at<T: Item>(alloc: Global, value: &Value) -> Result<Items<T>, Fault>
+pub(crate) fn items_at<T: Item>(alloc: Global, value: &Value) -> Result<Items<T>, ReadFault>
     ensures { Reports result (items_at T.make T.row_at T.list (view value.now)) }
 {
     match value.get(T::list().name()).and_then(Value::as_array) {
         Some(values) => items_of(alloc, values),
-        None => Err(Fault::Reported(FormatError::Object(ShapeError::Breaks(T::list())))),
+        None => Err(ReadFault::Reported(FormatError::Object(ShapeError::Breaks(T::list())))),
     }
 }

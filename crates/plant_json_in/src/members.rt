@@ -10,7 +10,7 @@ use std::fmt;
 
 /// What a value may be.
 #[derive(Clone, Copy, Debug, PartialEq, Eq)]
-pub enum Rule {
+pub enum MemberRule {
     /// An id.
     Id,
     /// A text.
@@ -53,45 +53,54 @@ pub enum Rule {
     Object,
 }
 
-impl fmt::Display for Rule {
+impl fmt::Display for MemberRule {
     ghost output = { λ rule. Some (rule_text rule) };
 
     fn fmt<W: fmt::Write>(&self, f: &mut fmt::Formatter<W>) -> fmt::Result {
         match self {
-            Rule::Id => f.write_str("an id: 1 to 24 of A to Z, 0 to 9 and -, the first a letter"),
-            Rule::Text => f.write_str("a text of at most 60 characters, each from the space to ~"),
-            Rule::Unit => f.write_str("a unit: 1 to 8 letters and digits"),
-            Rule::Due => f.write_str("a date like 2027-03-01, of the years 2000 to 2099"),
-            Rule::Amount => {
+            MemberRule::Id => f.write_str(
+                "an id: 1 to 24 of A to Z, 0 to 9 and -, the first a letter",
+            ),
+            MemberRule::Text => f.write_str(
+                "a text of at most 60 characters, each from the space to ~",
+            ),
+            MemberRule::Unit => f.write_str("a unit: 1 to 8 letters and digits"),
+            MemberRule::Due => f.write_str("a date like 2027-03-01, of the years 2000 to 2099"),
+            MemberRule::Amount => {
                 let greatest = GREATEST_AMOUNT;
                 write!(f, "a whole number from 1 to {greatest}")
             }
-            Rule::Moment => {
+            MemberRule::Moment => {
                 let greatest = GREATEST_MOMENT;
                 write!(f, "a whole number from 0 to {greatest}")
             }
-            Rule::Number(least, greatest) => {
+            MemberRule::Number(least, greatest) => {
                 write!(f, "a whole number from {least} to {greatest}")
             }
-            Rule::Small(least, greatest) => write!(f, "a whole number from {least} to {greatest}"),
-            Rule::Word => {
+            MemberRule::Small(least, greatest) => write!(
+                f,
+                "a whole number from {least} to {greatest}"
+            ),
+            MemberRule::Word => {
                 f.write_str("one of start, hold, restart, stop, abort, reset, pause and resume")
             }
-            Rule::OrderState => f.write_str("one of open, cancelled, released and finished"),
-            Rule::RecipeState => f.write_str("one of draft, approved and withdrawn"),
-            Rule::RecipeCursor => {
+            MemberRule::OrderState => f.write_str("one of open, cancelled, released and finished"),
+            MemberRule::RecipeState => f.write_str("one of draft, approved and withdrawn"),
+            MemberRule::RecipeCursor => {
                 f.write_str("a recipe and a version of at most 3 digits, with a dot between them")
             }
-            Rule::DueCursor => f.write_str("a due date and an order, with a dot between them"),
-            Rule::HoldCursor => f.write_str("a lot and a hold, with a dot between them"),
-            Rule::MovementCursor => f.write_str(
+            MemberRule::DueCursor => f.write_str(
+                "a due date and an order, with a dot between them",
+            ),
+            MemberRule::HoldCursor => f.write_str("a lot and a hold, with a dot between them"),
+            MemberRule::MovementCursor => f.write_str(
                 "a number of at most 16 digits and a line of at most 3, with a dot between them",
             ),
-            Rule::Command => f.write_str("the word of a command"),
-            Rule::Question => f.write_str("the word of a question"),
-            Rule::Kind => f.write_str("one of in, out, par and phase"),
-            Rule::List => f.write_str("a list"),
-            Rule::Object => f.write_str("a JSON object"),
+            MemberRule::Command => f.write_str("the word of a command"),
+            MemberRule::Question => f.write_str("the word of a question"),
+            MemberRule::Kind => f.write_str("one of in, out, par and phase"),
+            MemberRule::List => f.write_str("a list"),
+            MemberRule::Object => f.write_str("a JSON object"),
         }
     }
 }
@@ -203,61 +212,61 @@ pub enum Member {
 
 impl Member {
     /// Its name, and the rule of its value.
-    fn entry(self) -> (&'static str, Rule)
+    fn entry(self) -> (&'static str, MemberRule)
         ensures name { result.0.now ≡ name_of self }
         ensures rule { result.1 ≡ rule_of self }
     {
         match self {
-            Member::At => ("at", Rule::Moment),
-            Member::By => ("by", Rule::Text),
-            Member::Note => ("note", Rule::Text),
-            Member::Reference => ("ref", Rule::Id),
-            Member::Do => ("do", Rule::Command),
-            Member::Ask => ("ask", Rule::Question),
-            Member::Class => ("class", Rule::Id),
-            Member::Name => ("name", Rule::Text),
-            Member::Definition => ("def", Rule::Id),
-            Member::Unit => ("unit", Rule::Unit),
-            Member::Lot => ("lot", Rule::Id),
-            Member::Sub => ("sub", Rule::Number(0, GREATEST_SUBLOT)),
-            Member::Amount => ("amount", Rule::Amount),
-            Member::Place => ("place", Rule::Text),
-            Member::New => ("new", Rule::Id),
-            Member::Parts => ("parts", Rule::List),
-            Member::Hold => ("hold", Rule::Id),
-            Member::Recall => ("recall", Rule::Id),
-            Member::Recipe => ("recipe", Rule::Id),
-            Member::Version => ("version", Rule::Number(1, GREATEST_VERSION)),
-            Member::Product => ("product", Rule::Id),
-            Member::Base => ("base", Rule::Amount),
-            Member::Least => ("min", Rule::Amount),
-            Member::Greatest => ("max", Rule::Amount),
-            Member::Title => ("title", Rule::Text),
-            Member::Lines => ("lines", Rule::List),
-            Member::Orders => ("orders", Rule::List),
-            Member::Order => ("order", Rule::Id),
-            Member::Batch => ("batch", Rule::Id),
-            Member::Word => ("word", Rule::Word),
-            Member::Phase => ("phase", Rule::Small(1, GREATEST_PHASE)),
-            Member::Size => ("size", Rule::Amount),
-            Member::Due => ("due", Rule::Due),
-            Member::Priority => ("priority", Rule::Small(1, GREATEST_PRIORITY)),
-            Member::Kind => ("kind", Rule::Kind),
-            Member::Quantity => ("qty", Rule::Amount),
-            Member::Parameter => ("name", Rule::Id),
-            Member::Value => ("value", Rule::Text),
-            Member::UnitProcedure => ("unit", Rule::Id),
-            Member::Operation => ("oper", Rule::Id),
-            Member::PhaseName => ("phase", Rule::Id),
-            Member::State => ("state", Rule::OrderState),
-            Member::Above => ("above", Rule::Id),
-            Member::RecipeState => ("state", Rule::RecipeState),
-            Member::AfterRecipe => ("above", Rule::RecipeCursor),
-            Member::AfterDue => ("above", Rule::DueCursor),
-            Member::AfterHold => ("above", Rule::HoldCursor),
-            Member::AfterMovement => ("above", Rule::MovementCursor),
-            Member::AfterNumber => ("above", Rule::Amount),
-            Member::Command => ("command", Rule::Object),
+            Member::At => ("at", MemberRule::Moment),
+            Member::By => ("by", MemberRule::Text),
+            Member::Note => ("note", MemberRule::Text),
+            Member::Reference => ("ref", MemberRule::Id),
+            Member::Do => ("do", MemberRule::Command),
+            Member::Ask => ("ask", MemberRule::Question),
+            Member::Class => ("class", MemberRule::Id),
+            Member::Name => ("name", MemberRule::Text),
+            Member::Definition => ("def", MemberRule::Id),
+            Member::Unit => ("unit", MemberRule::Unit),
+            Member::Lot => ("lot", MemberRule::Id),
+            Member::Sub => ("sub", MemberRule::Number(0, GREATEST_SUBLOT)),
+            Member::Amount => ("amount", MemberRule::Amount),
+            Member::Place => ("place", MemberRule::Text),
+            Member::New => ("new", MemberRule::Id),
+            Member::Parts => ("parts", MemberRule::List),
+            Member::Hold => ("hold", MemberRule::Id),
+            Member::Recall => ("recall", MemberRule::Id),
+            Member::Recipe => ("recipe", MemberRule::Id),
+            Member::Version => ("version", MemberRule::Number(1, GREATEST_VERSION)),
+            Member::Product => ("product", MemberRule::Id),
+            Member::Base => ("base", MemberRule::Amount),
+            Member::Least => ("min", MemberRule::Amount),
+            Member::Greatest => ("max", MemberRule::Amount),
+            Member::Title => ("title", MemberRule::Text),
+            Member::Lines => ("lines", MemberRule::List),
+            Member::Orders => ("orders", MemberRule::List),
+            Member::Order => ("order", MemberRule::Id),
+            Member::Batch => ("batch", MemberRule::Id),
+            Member::Word => ("word", MemberRule::Word),
+            Member::Phase => ("phase", MemberRule::Small(1, GREATEST_PHASE)),
+            Member::Size => ("size", MemberRule::Amount),
+            Member::Due => ("due", MemberRule::Due),
+            Member::Priority => ("priority", MemberRule::Small(1, GREATEST_PRIORITY)),
+            Member::Kind => ("kind", MemberRule::Kind),
+            Member::Quantity => ("qty", MemberRule::Amount),
+            Member::Parameter => ("name", MemberRule::Id),
+            Member::Value => ("value", MemberRule::Text),
+            Member::UnitProcedure => ("unit", MemberRule::Id),
+            Member::Operation => ("oper", MemberRule::Id),
+            Member::PhaseName => ("phase", MemberRule::Id),
+            Member::State => ("state", MemberRule::OrderState),
+            Member::Above => ("above", MemberRule::Id),
+            Member::RecipeState => ("state", MemberRule::RecipeState),
+            Member::AfterRecipe => ("above", MemberRule::RecipeCursor),
+            Member::AfterDue => ("above", MemberRule::DueCursor),
+            Member::AfterHold => ("above", MemberRule::HoldCursor),
+            Member::AfterMovement => ("above", MemberRule::MovementCursor),
+            Member::AfterNumber => ("above", MemberRule::Amount),
+            Member::Command => ("command", MemberRule::Object),
         }
     }
 
@@ -269,7 +278,7 @@ impl Member {
     }
 
     /// What its value may be.
-    pub fn rule(self) -> Rule
+    pub fn rule(self) -> MemberRule
         ensures { result ≡ rule_of self }
     {
         self.entry().1

@@ -11,7 +11,7 @@ use Rattle.plant_view.specs.{batch_by, is_named, is_scrap}
 use Rattle.plant_questions.specs.{other_lot}
 use Rattle.sql_queries.specs.{has_values}
 use Rattle.plant_tables_columns.specs.{other_lot as column_lot, number, null_or, row_of_movement}
-use Rattle.plant_tables.proofs.KeyTies.{and_true}
+use Rattle.plant_tables.proofs.EqualKeys.{and_true}
 use Rattle.plant_tables.proofs.SortedRowsAreUnique.{int_cmp_pos}
 use Rattle.std.proofs.Math.Bool.{and-true, and_comm}
 

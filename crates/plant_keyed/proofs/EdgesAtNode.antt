@@ -1,4 +1,4 @@
--- The rows of edges that look-ups find are the edges at a node.
+-- The rows of edges that lookups find are the edges at a node.
 use Rattle.std.proofs.Common.{◌≡◌, ◌∙◌, ℕ, Bool, true, List, [], ◌∷◌, ◌++◌, map, filter, option_map, Option, Some, None, Contains, refl, sym, ap, subst, inl, inr, ◌==◌, filter_map, eq-eqb}
 use Rattle.std.specs.List.{cons_option}
 use Rattle.std.proofs.lemmas.Bool.{and_from}

@@ -9,6 +9,9 @@ mod PageIsFirstRows
 mod TwoKeyPages
 mod TextsSelect
 pub mod AbstractionIsState
-mod InOrderAgain
+mod SortedPermutationIsUnique
 mod LookupsReport
 mod ComparisonTests
+mod LookupTexts
+mod RowsShown
+mod IdLookups

@@ -1,4 +1,4 @@
--- What look-ups keep, and what they report.
+-- What lookups keep, and what they report.
 use Rattle.std.proofs.Common.{◌≡◌, Bool, Option, Some, None, Result, IfOk, IfSome, refl, sym, subst}
 use Rattle.std.proofs.lemmas.Result.{IfOk-weaker}
 use Rattle.sqlite.specs.Effect.{Database}
@@ -20,7 +20,7 @@ reported_by old new was failed P frame fact = record {
   holds = λ honest. let earlier = honest_before old new was failed frame honest in fact honest.clean earlier.valid earlier.holds;
 }
 
--- the same of what a look-up found, where it follows from the tables of a valid state
+-- the same of what a lookup found, where it follows from the tables of a valid state
 pub reported_found : {A E : Type 0} (old new : store.State) (was failed : Bool) (result : Result A E) (Q : A → Type 0) (P : A → Type 0) → PreservesFrame old new was failed
     → (HasCleanDisk new → IfOk result Q) → (StateInvariant (abstraction old.now) → HoldsTables old.now (tables_of newest_schema (abstraction old.now)) → (a : A) → Q a → P a) → IsReported old new was failed (IfOk result P)
 reported_found old new was failed result Q P frame found reports =
@@ -99,7 +99,7 @@ recalled_so old new was failed x y fact frame stays reports = record {
   stays = stays;
 }
 
--- a look-up after it that remembers nothing more reports its fact
+-- a lookup after it that remembers nothing more reports its fact
 pub traced_on : (a b c : store.State) (f g h : Bool) (x y z : LookupCache) (fact : State → Type 0) → PreservesFrame a b f g → CacheStaysValid a.now b g x y → IsReported b c g h (fact (abstraction b.now)) → z ≡ y
     → IsTraced a c f h x z (fact (abstraction a.now))
 traced_on a b c f g h x y z fact first stays second same =

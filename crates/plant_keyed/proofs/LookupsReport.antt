@@ -1,4 +1,4 @@
--- What look-ups report of the view that they are of.
+-- What lookups report of the view that they are of.
 use Rattle.std.proofs.Common.{◌≡◌, Result, IfOk}
 use Rattle.sqlite.specs.Held.{state}
 use Rattle.sqlite.specs.State as store

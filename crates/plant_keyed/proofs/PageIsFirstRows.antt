@@ -25,7 +25,7 @@ use Rattle.plant_tables.proofs.SortedRowsAreUnique.{sorted_keys}
 use Rattle.plant_tables.proofs.AllRowsDecoded.{map_same, all_again}
 use Rattle.plant_questions.specs.{in_order, page_size, page_of, Page}
 use Rattle.plant_keyed.specs.{IsPaged}
-use Rattle.plant_keyed.proofs.InOrderAgain.{IsOnce, again_in_order, kept_in_order, ordered}
+use Rattle.plant_keyed.proofs.SortedPermutationIsUnique.{IsOnce, again_in_order, kept_in_order, ordered}
 use Rattle.plant_questions.proofs.FoundRows.{of_mapped, take_mapped}
 
 stored_total : (places : List ℕ) → IsTotalOrder (stored_order places)

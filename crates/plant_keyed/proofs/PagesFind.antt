@@ -14,7 +14,7 @@ use Rattle.sqlite_value.proofs.OrderLemmas.{value_cmp-Int, value_cmp-Text}
 use Rattle.plant_base.specs.{HasClassValues, HasDefinitionValues, HasLotValues, HasHoldValues, HasRecallValues, State, newest_schema, id_cmp, same, class_order, definition_order, job_order, lot_order, hold_order, recall_order, job_state_name, BatchRow, Class, Definition, Hold, Job, JobState, Lifting, Lot, Recall, Receipt, Sublot}
 use Rattle.plant_view.proofs.ListLemmas.{all_weaker}
 use Rattle.plant_view.specs.{tables_of, batch_row_order, sublot_order}
-use Rattle.plant_view.specs.Tables.{Tables}
+use Rattle.plant_view.specs.TableRows.{Tables}
 use Rattle.plant_invariant.specs.{AreApart}
 use Rattle.plant_invariant.specs.StateInvariant.{StateInvariant}
 use Rattle.plant_tables.specs.{class_table, definition_table, job_table, batch_table, lot_table, hold_table, receipt_table, recall_table, sublot_table, HoldsTables}
@@ -26,9 +26,9 @@ use Rattle.plant_invariant_tables.proofs.TablesHaveValidValues.{in_order, valid_
 use Rattle.sql_queries.specs.{is_beyond, first_of}
 use Rattle.plant_questions.specs.{page_size, page_of, text_after, is_after, is_order_in, orders_in, agree, is_batch_in, batches_in, is_lot_of, lots_of, is_hold_on, holds_on, is_recall_in, recalls_in, classes_after, is_definition_in, definitions_in, lots_after, sublots_after, holds_after, number_after, number_order, is_number_after, receipts_by_number, Page}
 use Rattle.plant_keyed.specs.{IsPaged}
-use Rattle.plant_keyed.proofs.InOrderAgain.{AreApart as ArePlacesApart, apart_once}
+use Rattle.plant_keyed.proofs.SortedPermutationIsUnique.{AreApart as ArePlacesApart, apart_once}
 use Rattle.plant_keyed.proofs.PageIsFirstRows.{page_again, page_in_order}
-use Rattle.plant_keyed.proofs.AbstractionIsState.{recall_again}
+use Rattle.plant_keyed.proofs.RowsShown.{recall_again}
 use Rattle.plant_keyed.proofs.ComparisonTests.{text_is, number_is}
 
 -- ---- keys as a store compares them

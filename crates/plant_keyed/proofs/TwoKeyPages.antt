@@ -27,10 +27,10 @@ use Rattle.plant_invariant_tables.proofs.TablesHaveValidValues.{in_order, valid_
 use Rattle.plant_questions.specs.{page_size, page_of, recipe_after, recipes_in, movement_after, is_movement_after, lot_made, is_in_ledger, ledger_of, due_after, due_order, orders_by_due, Cursor, Page, in_order as as_sorted}
 use Rattle.plant_questions.proofs.MergedLists.{merged_filters}
 use Rattle.plant_keyed.specs.{IsOfBoth, IsPagedBeyond}
-use Rattle.plant_keyed.proofs.InOrderAgain.{IsOnce, kept_in_order, once_by_key, ordered}
+use Rattle.plant_keyed.proofs.SortedPermutationIsUnique.{IsOnce, kept_in_order, once_by_key, ordered}
 use Rattle.plant_keyed.proofs.PagesFind.{by_number, by_text_number, by_two_texts, number_cmp}
 use Rattle.plant_keyed.proofs.PageIsFirstRows.{page_again, relisted}
-use Rattle.plant_keyed.proofs.AbstractionIsState.{movement_again}
+use Rattle.plant_keyed.proofs.RowsShown.{movement_again}
 use Rattle.plant_keyed.proofs.ComparisonTests.{named_is, text_is}
 use Rattle.std.proofs.Math.Bool.{or-false, and-or_distrib_right}
 

@@ -8,7 +8,7 @@ use Rattle.plant_trace.specs.declared.direction.Direction.TheVariants.{Forward, 
 use Rattle.plant_view.specs.{edges_of, position_of}
 use Rattle.plant_keyed.specs.Edges.{AreTurned}
 use Rattle.plant_keyed.specs.LookupOutcomes.{IsHonest, IsReported}
-use Rattle.plant_keyed.specs.Abstraction.{abstraction}
+use Rattle.plant_keyed.specs.StateShown.{abstraction}
 use Rattle.plant_keyed.specs.declared.edge_cache.EdgeCache.{EdgeCache}
 use Rattle.plant_keyed.specs.declared.lookup_cache.LookupCache.{LookupCache}
 
@@ -21,7 +21,7 @@ pub record IsCacheOf (s : State) (c : LookupCache) : Type 0 where
   pub position : IfSome c.position (λ p. p ≡ position_of s)
   pub edges : AreEdgesOf s c.edges
 
--- where the look-ups end honest, what is remembered is as true of the state that they show as what was remembered before
+-- where the lookups end honest, what is remembered is as true of the state that they show as what was remembered before
 abbrev pub CacheStaysValid : Database → store.State → Bool → LookupCache → LookupCache → Type 0
 CacheStaysValid old new failed was is = IsHonest new failed → IsCacheOf (abstraction old) was ↔ IsCacheOf (abstraction new.now) is
 
@@ -43,7 +43,7 @@ is_same_way _ _ = false
 abbrev pub are_seen : Direction → EdgeCache → Bool
 are_seen direction d = d.are_read && is_same_way d.direction direction
 
--- What look-ups report of edges: the fact holds where what was remembered is true.
+-- What lookups report of edges: the fact holds where what was remembered is true.
 pub record IsTraced (old new : store.State) (had_failed has_failed : Bool) (was is : LookupCache) (fact : Type 0) : Type 0 where
   pub reported : IsReported old new had_failed has_failed (IsCacheOf (abstraction old.now) was → fact)
   pub stays : CacheStaysValid old.now new has_failed was is

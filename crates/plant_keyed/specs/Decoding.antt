@@ -1,4 +1,4 @@
--- The rows that a look-up finds.
+-- The rows that a lookup finds.
 use Rattle.std.specs.Prelude.{◌≡◌, ℕ, List, Option, Some, slice_get}
 use Rattle.sqlite.specs.Effect.{Database}
 use Rattle.sqlite.specs.Order.{Row}

@@ -1,4 +1,4 @@
--- What look-ups keep, one after another: the laws of a view, which its impl names.
+-- What lookups keep, one after another: the laws of a view, which its impl names.
 use Rattle.std.specs.Prelude.{◌≡◌, Bool, refl}
 use Rattle.std.proofs.Common.{◌∙◌, subst, inl, arith}
 use Rattle.sqlite.specs.Effect.{Database}
@@ -11,7 +11,7 @@ use Rattle.plant_invariant.specs.StateInvariant.{StateInvariant}
 use Rattle.plant_tables.specs.{HoldsTables}
 use Rattle.plant_keyed.specs.LookupOutcomes.{IsHonest, PreservesFrame}
 use Rattle.plant_keyed.specs.Caching.{CacheStaysValid}
-use Rattle.plant_keyed.specs.Abstraction.{abstraction}
+use Rattle.plant_keyed.specs.StateShown.{abstraction}
 use Rattle.plant_keyed.specs.declared.lookup_cache.LookupCache.{LookupCache}
 
 pub frame_refl : (c : store.State) (failed : Bool) → PreservesFrame c c failed failed

@@ -10,36 +10,36 @@ ghost use Rattle.plant_keyed.specs.Edges.{begins_at, id_of, AreKindsAt, AreTurne
 ghost use Rattle.plant_keyed.specs.LookupOutcomes.{PreservesFrame, IsReported};
 ghost use Rattle.plant_keyed.specs.Caching.{AreEdgesOf, IsTraced, CacheStaysValid, one_more};
 ghost use Rattle.plant_keyed.specs.Caching.{are_few, are_seen};
-ghost use Rattle.plant_keyed.specs.Abstraction.{abstraction};
+ghost use Rattle.plant_keyed.specs.StateShown.{abstraction};
 
 use crate::edge_cache::EdgeCache;
 use crate::faults::if_memory;
 use crate::keyed::Keyed;
-use crate::texts;
+use crate::lookup_texts;
 use plant_base::{EdgeKind, EdgeRow, Id};
 use plant_tables::table_defs::EDGE;
 use plant_tables_columns::storing::{id as text_of, small};
 use plant_trace::{Direction, Node, neighbours};
 use plant_view::ends;
-use sql_tables::Fault;
+use sql_tables::StoreFault;
 use sqlite::Alter;
 use std::alloc::{AllocError, Global};
 
 /// So many nodes are looked up before all edges are read, and one more for each so many commands that the desk has
-/// accepted: reading the edges that these made takes about as long as the look-ups of a node.
+/// accepted: reading the edges that these made takes about as long as the lookups of a node.
 const FEW: u64 = 256;
 
 const A_LOOKUP: u64 = 16;
 
 impl<'a, S: Alter> Keyed<'a, S> {
     /// The edges of a kind that begin at the lot or batch of this id, as the direction sees them. The faults are those
-    /// of each look-up.
+    /// of each lookup.
     fn edges_of_kind(
         &mut self,
         kind: EdgeKind,
         id: &Id,
         direction: Direction,
-    ) -> Result<Vec<EdgeRow>, Fault>
+    ) -> Result<Vec<EdgeRow>, StoreFault>
         ensures same_reference { self.new.conn.ghost_name ≡ self.old.conn.ghost_name }
         ensures reported { IsReported (state S.Store self.old.conn.now) (state S.Store self.new.conn.now)
             self.old.has_failed self.new.has_failed
@@ -49,13 +49,13 @@ impl<'a, S: Alter> Keyed<'a, S> {
     {
         let key = [small(kind.number()), text_of(id)];
         match direction {
-            Direction::Forward => self.found(&EDGE, texts::EDGES_FROM, &key),
-            Direction::Back => self.found(&EDGE, texts::EDGES_TO, &key),
+            Direction::Forward => self.found(&EDGE, lookup_texts::EDGES_FROM, &key),
+            Direction::Back => self.found(&EDGE, lookup_texts::EDGES_TO, &key),
         }
     }
 
-    /// The edges that begin at the node, as the direction sees them. The faults are those of each look-up.
-    fn edges_at(&mut self, node: &Node, direction: Direction) -> Result<Vec<EdgeRow>, Fault>
+    /// The edges that begin at the node, as the direction sees them. The faults are those of each lookup.
+    fn edges_at(&mut self, node: &Node, direction: Direction) -> Result<Vec<EdgeRow>, StoreFault>
         ensures same_reference { self.new.conn.ghost_name ≡ self.old.conn.ghost_name }
         ensures reported { IsReported (state S.Store self.old.conn.now) (state S.Store self.new.conn.now)
             self.old.has_failed self.new.has_failed
@@ -75,8 +75,8 @@ impl<'a, S: Alter> Keyed<'a, S> {
     }
 
     /// The nodes that come right after this one in the direction, strictly ascending, by the edges that begin at it. The
-    /// faults are those of each look-up.
-    fn look_up_next(&mut self, node: Node, direction: Direction) -> Result<Vec<Node>, Fault>
+    /// faults are those of each lookup.
+    fn look_up_next(&mut self, node: Node, direction: Direction) -> Result<Vec<Node>, StoreFault>
         ensures same_reference { self.new.conn.ghost_name ≡ self.old.conn.ghost_name }
         ensures reported { IsReported (state S.Store self.old.conn.now) (state S.Store self.new.conn.now)
             self.old.has_failed self.new.has_failed
@@ -89,8 +89,8 @@ impl<'a, S: Alter> Keyed<'a, S> {
         Ok(nodes)
     }
 
-    /// All edges. The faults are those of each look-up.
-    fn all_edges(&mut self) -> Result<Vec<EdgeRow>, Fault>
+    /// All edges. The faults are those of each lookup.
+    fn all_edges(&mut self) -> Result<Vec<EdgeRow>, StoreFault>
         ensures same_reference { self.new.conn.ghost_name ≡ self.old.conn.ghost_name }
         ensures reported { IsReported (state S.Store self.old.conn.now) (state S.Store self.new.conn.now)
             self.old.has_failed self.new.has_failed
@@ -99,11 +99,11 @@ impl<'a, S: Alter> Keyed<'a, S> {
         ensures cached { self.new.cache.now ≡ self.old.cache.now }
         ensures asked { self.new.asked ≡ self.old.asked }
     {
-        self.found(&EDGE, texts::EDGES, &[])
+        self.found(&EDGE, lookup_texts::EDGES, &[])
     }
 
-    /// Reads all edges and remembers them as the direction sees them. The faults are those of each look-up.
-    fn fill(&mut self, direction: Direction) -> Result<(), Fault>
+    /// Reads all edges and remembers them as the direction sees them. The faults are those of each lookup.
+    fn fill(&mut self, direction: Direction) -> Result<(), StoreFault>
         requires { self.old.cache.now.edges.are_read ≡ false }
         ensures same_reference { self.new.conn.ghost_name ≡ self.old.conn.ghost_name }
         ensures frame { PreservesFrame (state S.Store self.old.conn.now) (state S.Store self.new.conn.now)
@@ -120,8 +120,8 @@ impl<'a, S: Alter> Keyed<'a, S> {
     }
 
     /// Reads and remembers all edges, where the nodes that were asked for are so many that this is no dearer than what was
-    /// looked up for them. The faults are those of each look-up.
-    fn fill_if_many(&mut self, direction: Direction) -> Result<(), Fault>
+    /// looked up for them. The faults are those of each lookup.
+    fn fill_if_many(&mut self, direction: Direction) -> Result<(), StoreFault>
         ensures same_reference { self.new.conn.ghost_name ≡ self.old.conn.ghost_name }
         ensures frame { PreservesFrame (state S.Store self.old.conn.now) (state S.Store self.new.conn.now)
             self.old.has_failed self.new.has_failed }
@@ -141,12 +141,12 @@ impl<'a, S: Alter> Keyed<'a, S> {
     }
 
     /// The nodes that come right after this one in the direction, strictly ascending. The faults are those of each
-    /// look-up.
+    /// lookup.
     pub(crate) fn next_nodes(
         &mut self,
         node: Node,
         direction: Direction,
-    ) -> Result<Vec<Node>, Fault>
+    ) -> Result<Vec<Node>, StoreFault>
         ensures same_reference { self.new.conn.ghost_name ≡ self.old.conn.ghost_name }
         ensures traced { IsTraced (state S.Store self.old.conn.now) (state S.Store self.new.conn.now)
             self.old.has_failed self.new.has_failed self.old.cache.now self.new.cache.now

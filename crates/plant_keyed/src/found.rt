@@ -12,7 +12,7 @@ ghost use Rattle.plant_keyed.specs.Decoding.{AreFound, AreDecoded};
 use crate::faults::if_memory;
 use plant_tables_columns::{Decoded, decode_all};
 use sql_queries::find_rows;
-use sql_tables::{Fault, TableDef};
+use sql_tables::{StoreFault, TableDef};
 use sqlite::types::ValueRef;
 use sqlite::{Alter, Connection, Row};
 use std::alloc::Global;
@@ -26,7 +26,7 @@ pub(crate) fn found_rows<S: Alter, R: Decoded>(
     table_def: &TableDef<'_>,
     sql: &str,
     values: &[ValueRef<'_>],
-) -> Result<Vec<R>, Fault>
+) -> Result<Vec<R>, StoreFault>
     requires { (places : List ℕ) × Selects table_def.now places sql.now }
     ensures rows { (places : List ℕ) → Selects table_def.now places sql.now
         → AreGiven places (bound values.now) → HasCleanDisk (state S.Store conn.new)
@@ -43,16 +43,19 @@ pub(crate) fn found_rows<S: Alter, R: Decoded>(
 
 /// The rows of the desk that were read. The faults are those of the reading; Store where a value of a row breaks its rule,
 /// and Memory where there is none for the rows.
-fn decoded_by<R: Decoded>(alloc: Global, read: Result<Vec<Row>, Fault>) -> Result<Vec<R>, Fault>
+fn decoded_by<R: Decoded>(
+    alloc: Global,
+    read: Result<Vec<Row>, StoreFault>,
+) -> Result<Vec<R>, StoreFault>
     ensures handed { IfErr read (λ fault. result ≡ Err fault) }
     ensures rows { IfOk read (λ stored. IfOk result
         (λ rows. all_from R.row_from stored.items ≡ Some rows.items)) }
     ensures broken { IfOk read (λ stored. IfErr result
-        (λ fault. fault ≡ Fault.Store → all_from R.row_from stored.items ≡ None)) }
+        (λ fault. fault ≡ StoreFault.Store → all_from R.row_from stored.items ≡ None)) }
 {
     let stored = read?;
     match if_memory(decode_all(alloc, stored.as_slice()))? {
         Some(rows) => Ok(rows),
-        None => Err(Fault::Store),
+        None => Err(StoreFault::Store),
     }
 }

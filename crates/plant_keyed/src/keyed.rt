@@ -9,15 +9,15 @@ ghost use Rattle.plant_view.specs.{position_of};
 ghost use Rattle.plant_keyed.specs.Decoding.{AreFound, IsFirstFound, AreDecoded, IsDecoded};
 ghost use Rattle.plant_keyed.specs.LookupOutcomes.{PreservesFrame, IsReported};
 ghost use Rattle.plant_keyed.specs.Caching.{IsTraced, CacheStaysValid};
-ghost use Rattle.plant_keyed.specs.Abstraction.{abstraction};
+ghost use Rattle.plant_keyed.specs.StateShown.{abstraction};
 
 use crate::found::found_rows;
 use crate::lookup_cache::LookupCache;
-use crate::texts;
+use crate::lookup_texts;
 use plant_base::{Meta, Position};
 use plant_tables::table_defs::META;
 use plant_tables_columns::Decoded;
-use sql_tables::{Fault, TableDef};
+use sql_tables::{StoreFault, TableDef};
 use sqlite::types::ValueRef;
 use sqlite::{Alter, Connection};
 use std::alloc::Global;
@@ -29,9 +29,9 @@ use std::alloc::Global;
 #[derive(Drop)]
 pub struct Keyed<'a, S: Alter> {
     pub(crate) alloc: Global,
-    /// The connection that is lent; look-ups read through it.
+    /// The connection that is lent; lookups read through it.
     pub conn: &'a mut Connection<S>,
-    /// Whether a look-up failed; the connection may be closed then.
+    /// Whether a lookup failed; the connection may be closed then.
     pub has_failed: bool,
     /// What lookups remember.
     pub cache: &'a mut LookupCache,
@@ -69,7 +69,7 @@ impl<'a, S: Alter> Keyed<'a, S> {
         table_def: &TableDef<'_>,
         sql: &str,
         values: &[ValueRef<'_>],
-    ) -> Result<Vec<R>, Fault>
+    ) -> Result<Vec<R>, StoreFault>
         requires { (places : List ℕ) × Selects table_def.now places sql.now }
         ensures same_reference { self.new.conn.ghost_name ≡ self.old.conn.ghost_name }
         ensures rows { (places : List ℕ) → Selects table_def.now places sql.now
@@ -100,7 +100,7 @@ impl<'a, S: Alter> Keyed<'a, S> {
         table_def: &TableDef<'_>,
         sql: &str,
         values: &[ValueRef<'_>],
-    ) -> Result<Option<R>, Fault>
+    ) -> Result<Option<R>, StoreFault>
         requires { (places : List ℕ) × Selects table_def.now places sql.now }
         ensures same_reference { self.new.conn.ghost_name ≡ self.old.conn.ghost_name }
         ensures row { (places : List ℕ) → Selects table_def.now places sql.now
@@ -121,7 +121,7 @@ impl<'a, S: Alter> Keyed<'a, S> {
 
     /// How many commands were accepted, and the moment of the last, read anew and remembered. Store where table meta has
     /// no row, and as each lookup; an Ok comes of a connection that is open.
-    pub fn read_position(&mut self) -> Result<Position, Fault>
+    pub fn read_position(&mut self) -> Result<Position, StoreFault>
         ensures same_reference { self.new.conn.ghost_name ≡ self.old.conn.ghost_name }
         ensures reported { IsReported (state S.Store self.old.conn.now) (state S.Store self.new.conn.now)
             self.old.has_failed self.new.has_failed
@@ -134,18 +134,18 @@ impl<'a, S: Alter> Keyed<'a, S> {
         ensures remembered { OnOk result (IsSome self.new.cache.now.position) }
         ensures commands { IfOk result (λ p. self.new.commands ≡ p.seq) }
     {
-        match self.first_found::<Meta>(&META, texts::META, &[])? {
+        match self.first_found::<Meta>(&META, lookup_texts::META, &[])? {
             Some(meta) => {
                 self.commands = meta.position.seq;
                 self.cache.remember(meta.position);
                 Ok(meta.position)
             }
-            None => Err(Fault::Store),
+            None => Err(StoreFault::Store),
         }
     }
 
     /// The position that was read before, else as it is read now. The faults are those of each lookup.
-    pub(crate) fn known_position(&mut self) -> Result<Position, Fault>
+    pub(crate) fn known_position(&mut self) -> Result<Position, StoreFault>
         ensures same_reference { self.new.conn.ghost_name ≡ self.old.conn.ghost_name }
         ensures traced { IsTraced (state S.Store self.old.conn.now) (state S.Store self.new.conn.now)
             self.old.has_failed self.new.has_failed self.old.cache.now self.new.cache.now

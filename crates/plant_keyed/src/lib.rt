@@ -8,6 +8,7 @@ mod found;
 mod keyed;
 mod laws;
 mod lookup_cache;
+mod lookup_texts;
 mod marks;
 mod movements;
 mod pages;

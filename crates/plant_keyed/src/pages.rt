@@ -22,7 +22,7 @@ use plant_questions::{HasKeyOrder, PAGE_SIZE, Page, merge_pages, text_after};
 use plant_tables_columns::storing::{small, word};
 use plant_tables_columns::{Decoded, decode_all};
 use sql_queries::{find_page, first_key};
-use sql_tables::{Fault, TableDef};
+use sql_tables::{StoreFault, TableDef};
 use sqlite::types::ValueRef;
 use sqlite::{Alter, Connection};
 use std::alloc::{AllocError, Global};
@@ -31,8 +31,8 @@ use std::alloc::{AllocError, Global};
 /// Memory where there is none for the rows.
 fn page_by<R: Decoded>(
     alloc: Global,
-    read: Result<sql_queries::Page, Fault>,
-) -> Result<Page<R>, Fault>
+    read: Result<sql_queries::RowPage, StoreFault>,
+) -> Result<Page<R>, StoreFault>
     ensures handed { IfErr read (λ fault. result ≡ Err fault) }
     ensures rows { IfOk read (λ stored. IfOk result
         (λ page. (all_from R.row_from stored.rows.items ≡ Some page.rows)
@@ -47,11 +47,11 @@ fn page_by<R: Decoded>(
 pub(crate) fn decoded_page<R>(
     decoded: Result<Option<Vec<R>>, AllocError>,
     has_more: bool,
-) -> Result<Page<R>, Fault>
+) -> Result<Page<R>, StoreFault>
     ensures rows { IfOk decoded (λ found. IfSome found (λ rows. IfOk result
         (λ page. (page.rows ≡ rows.items) × (page.has_more ≡ has_more)))) }
-    ensures broken { IfOk decoded (λ found. IfNone found (result ≡ Err Fault.Store)) }
-    ensures refused { IfErr decoded (λ _. result ≡ Err Fault.Memory) }
+    ensures broken { IfOk decoded (λ found. IfNone found (result ≡ Err StoreFault.Store)) }
+    ensures refused { IfErr decoded (λ _. result ≡ Err StoreFault.Memory) }
     ensures only { IfOk result (λ page. IfOk decoded (λ found. IfSome found (λ rows. page.rows ≡ rows.items))) }
 {
     match decoded {
@@ -59,8 +59,8 @@ pub(crate) fn decoded_page<R>(
             rows: Items::new(rows),
             has_more,
         }),
-        Ok(None) => Err(Fault::Store),
-        Err(_) => Err(Fault::Memory),
+        Ok(None) => Err(StoreFault::Store),
+        Err(_) => Err(StoreFault::Memory),
     }
 }
 
@@ -73,7 +73,7 @@ fn page_over<S: Alter, R: Decoded>(
     by: &[usize],
     sql: &str,
     values: &[ValueRef<'_>],
-) -> Result<Page<R>, Fault>
+) -> Result<Page<R>, StoreFault>
     requires { (places : List ℕ) × (next : ℕ) × SelectsPage table_def.now by.now places next sql.now }
     ensures rows { (places : List ℕ) (next : ℕ) → SelectsPage table_def.now by.now places next sql.now
         → AreBounds places page_size (bound values.now) → HasCleanDisk (state S.Store conn.new)
@@ -90,14 +90,14 @@ fn page_over<S: Alter, R: Decoded>(
 }
 
 impl<'a, S: Alter> Keyed<'a, S> {
-    /// The same over the lent connection: whether the look-up failed is kept.
+    /// The same over the lent connection: whether the lookup failed is kept.
     fn page_found<R: Decoded>(
         &mut self,
         table_def: &TableDef<'_>,
         by: &[usize],
         sql: &str,
         values: &[ValueRef<'_>],
-    ) -> Result<Page<R>, Fault>
+    ) -> Result<Page<R>, StoreFault>
         requires { (places : List ℕ) × (next : ℕ) × SelectsPage table_def.now by.now places next sql.now }
         ensures same_reference { self.new.conn.ghost_name ≡ self.old.conn.ghost_name }
         ensures rows { (places : List ℕ) (next : ℕ) → SelectsPage table_def.now by.now places next sql.now
@@ -125,7 +125,7 @@ impl<'a, S: Alter> Keyed<'a, S> {
         sql: &str,
         given: ValueRef<'v>,
         cursor: &'v Option<Id>,
-    ) -> Result<Page<R>, Fault>
+    ) -> Result<Page<R>, StoreFault>
         requires { (place : ℕ) × (next : ℕ)
             × SelectsPage table_def.now (first_of table_def.now.keys) (place ∷ []) next sql.now }
         ensures same_reference { self.new.conn.ghost_name ≡ self.old.conn.ghost_name }
@@ -151,7 +151,7 @@ impl<'a, S: Alter> Keyed<'a, S> {
         table_def: &TableDef<'_>,
         sql: &str,
         cursor: &Option<Id>,
-    ) -> Result<Page<R>, Fault>
+    ) -> Result<Page<R>, StoreFault>
         requires { (next : ℕ) × SelectsPage table_def.now (first_of table_def.now.keys) [] next sql.now }
         ensures same_reference { self.new.conn.ghost_name ≡ self.old.conn.ghost_name }
         ensures rows { (next : ℕ) → SelectsPage table_def.now (first_of table_def.now.keys) [] next sql.now
@@ -169,7 +169,7 @@ impl<'a, S: Alter> Keyed<'a, S> {
 
     /// A page of the rows that have this value in one column, and come after a cursor of two values in two others, in the order
     /// of the columns with these indexes: by one text those with its first value and after its second, by another those after its
-    /// first. The faults are those of each look-up.
+    /// first. The faults are those of each lookup.
     pub(crate) fn page_beyond<'v, R: Decoded + HasKeyOrder + Copy + Drop>(
         &mut self,
         table_def: &TableDef<'_>,
@@ -179,7 +179,7 @@ impl<'a, S: Alter> Keyed<'a, S> {
         given: ValueRef<'v>,
         first: ValueRef<'v>,
         second: ValueRef<'v>,
-    ) -> Result<Page<R>, Fault>
+    ) -> Result<Page<R>, StoreFault>
         requires { (place : ℕ) × (next : ℕ) × (last : ℕ)
             × SelectsPage table_def.now by.now (place ∷ next ∷ []) last at.now
             × SelectsPage table_def.now by.now (place ∷ []) next beyond.now }

@@ -14,36 +14,39 @@ ghost use Rattle.plant_questions.specs.{page_size, number_after};
 ghost use Rattle.plant_keyed.specs.Decoding.{AreFound};
 ghost use Rattle.plant_keyed.specs.LookupOutcomes.{PreservesFrame, IsReported};
 ghost use Rattle.plant_keyed.specs.Paging.{IsPaged};
-ghost use Rattle.plant_keyed.specs.Abstraction.{abstraction};
+ghost use Rattle.plant_keyed.specs.StateShown.{abstraction};
 
 use crate::faults::if_memory;
 use crate::keyed::Keyed;
+use crate::lookup_texts;
 use crate::pages::decoded_page;
-use crate::texts;
 use plant_base::{Id, Receipt};
 use plant_questions::{PAGE_SIZE, Page, number_after};
 use plant_tables::table_defs::RECEIPT;
 use plant_tables_columns::decode_receipts;
 use plant_tables_columns::storing::{id, large, small};
 use sql_queries::{find_page, find_rows};
-use sql_tables::{Fault, TableDef};
+use sql_tables::{StoreFault, TableDef};
 use sqlite::types::ValueRef;
 use sqlite::{Alter, Connection, Row};
 use std::alloc::Global;
 
 /// The receipts that were read. The faults are those of the reading; Store where a value of a row breaks its rule, and
 /// Memory where there is none for the receipts and their contents.
-fn receipts_by(alloc: Global, read: Result<Vec<Row>, Fault>) -> Result<Vec<Receipt>, Fault>
+fn receipts_by(
+    alloc: Global,
+    read: Result<Vec<Row>, StoreFault>,
+) -> Result<Vec<Receipt>, StoreFault>
     ensures handed { IfErr read (λ fault. result ≡ Err fault) }
     ensures rows { IfOk read (λ stored. IfOk result
         (λ rows. all_from receipt_from stored.items ≡ Some rows.items)) }
     ensures broken { IfOk read (λ stored. IfErr result
-        (λ fault. fault ≡ Fault.Store → all_from receipt_from stored.items ≡ None)) }
+        (λ fault. fault ≡ StoreFault.Store → all_from receipt_from stored.items ≡ None)) }
 {
     let stored = read?;
     match if_memory(decode_receipts(alloc, stored.as_slice()))? {
         Some(rows) => Ok(rows),
-        None => Err(Fault::Store),
+        None => Err(StoreFault::Store),
     }
 }
 
@@ -61,7 +64,7 @@ fn found_receipts<S: Alter>(
     table_def: &TableDef<'_>,
     sql: &str,
     values: &[ValueRef<'_>],
-) -> Result<Vec<Receipt>, Fault>
+) -> Result<Vec<Receipt>, StoreFault>
     requires { (places : List ℕ) × Selects table_def.now places sql.now }
     ensures rows { (places : List ℕ) → Selects table_def.now places sql.now
         → AreGiven places (bound values.now) → HasCleanDisk (state S.Store conn.new)
@@ -79,8 +82,8 @@ fn found_receipts<S: Alter>(
 /// Memory where there is none for the receipts and their contents.
 fn receipts_page_by(
     alloc: Global,
-    read: Result<sql_queries::Page, Fault>,
-) -> Result<Page<Receipt>, Fault>
+    read: Result<sql_queries::RowPage, StoreFault>,
+) -> Result<Page<Receipt>, StoreFault>
     ensures handed { IfErr read (λ fault. result ≡ Err fault) }
     ensures rows { IfOk read (λ stored. IfOk result
         (λ page. (all_from receipt_from stored.rows.items ≡ Some page.rows)
@@ -101,7 +104,7 @@ fn receipts_page_over<S: Alter>(
     by: &[usize],
     sql: &str,
     values: &[ValueRef<'_>],
-) -> Result<Page<Receipt>, Fault>
+) -> Result<Page<Receipt>, StoreFault>
     requires { (places : List ℕ) × (next : ℕ) × SelectsPage table_def.now by.now places next sql.now }
     ensures rows { (places : List ℕ) (next : ℕ) → SelectsPage table_def.now by.now places next sql.now
         → AreBounds places page_size (bound values.now) → HasCleanDisk (state S.Store conn.new)
@@ -118,14 +121,14 @@ fn receipts_page_over<S: Alter>(
 }
 
 impl<'a, S: Alter> Keyed<'a, S> {
-    /// The same page over the lent connection: whether the look-up failed is kept.
+    /// The same page over the lent connection: whether the lookup failed is kept.
     fn receipts_page_found(
         &mut self,
         table_def: &TableDef<'_>,
         by: &[usize],
         sql: &str,
         values: &[ValueRef<'_>],
-    ) -> Result<Page<Receipt>, Fault>
+    ) -> Result<Page<Receipt>, StoreFault>
         requires { (places : List ℕ) × (next : ℕ) × SelectsPage table_def.now by.now places next sql.now }
         ensures same_reference { self.new.conn.ghost_name ≡ self.old.conn.ghost_name }
         ensures rows { (places : List ℕ) (next : ℕ) → SelectsPage table_def.now by.now places next sql.now
@@ -154,7 +157,7 @@ impl<'a, S: Alter> Keyed<'a, S> {
         by: &[usize],
         sql: &str,
         cursor: Option<u64>,
-    ) -> Result<Page<Receipt>, Fault>
+    ) -> Result<Page<Receipt>, StoreFault>
         requires { (next : ℕ) × SelectsPage table_def.now by.now [] next sql.now }
         ensures same_reference { self.new.conn.ghost_name ≡ self.old.conn.ghost_name }
         ensures rows { (next : ℕ) → SelectsPage table_def.now by.now [] next sql.now
@@ -175,7 +178,7 @@ impl<'a, S: Alter> Keyed<'a, S> {
         table_def: &TableDef<'_>,
         sql: &str,
         values: &[ValueRef<'_>],
-    ) -> Result<Vec<Receipt>, Fault>
+    ) -> Result<Vec<Receipt>, StoreFault>
         requires { (places : List ℕ) × Selects table_def.now places sql.now }
         ensures same_reference { self.new.conn.ghost_name ≡ self.old.conn.ghost_name }
         ensures rows { (places : List ℕ) → Selects table_def.now places sql.now
@@ -197,7 +200,7 @@ impl<'a, S: Alter> Keyed<'a, S> {
     }
 
     /// The receipt of the command of a reference.
-    pub(crate) fn receipt_of(&mut self, reference: &Id) -> Result<Option<Receipt>, Fault>
+    pub(crate) fn receipt_of(&mut self, reference: &Id) -> Result<Option<Receipt>, StoreFault>
         ensures same_reference { self.new.conn.ghost_name ≡ self.old.conn.ghost_name }
         ensures reported { IsReported (state S.Store self.old.conn.now) (state S.Store self.new.conn.now)
             self.old.has_failed self.new.has_failed
@@ -205,7 +208,7 @@ impl<'a, S: Alter> Keyed<'a, S> {
             ≡ receipt_at (abstraction (state S.Store self.old.conn.now).now) reference.now)) }
         ensures cached { self.new.cache.now ≡ self.old.cache.now }
     {
-        let rows = self.receipts_found(&RECEIPT, texts::RECEIPT_BY_ID, &[id(reference)])?;
+        let rows = self.receipts_found(&RECEIPT, lookup_texts::RECEIPT_BY_ID, &[id(reference)])?;
         Ok(first_of(rows))
     }
 }

@@ -5,7 +5,7 @@ ghost use Rattle.std.specs.Prelude.{◌≡◌, if◌then◌else◌};
 
 use crate::faults::if_memory;
 use crate::keyed::Keyed;
-use crate::texts;
+use crate::{lookup_texts, texts};
 use plant_base::{
     BatchRow, Class, Definition, Due, Hold, Id, Job, JobState, Lot, Movement, Recall, Receipt,
     Recipe, RecipeState, Sublot,
@@ -20,7 +20,7 @@ use plant_tables::table_defs::{
 use plant_tables_columns::RecallState;
 use plant_tables_columns::storing::{id as text_of, large, small, truth, word};
 use sql_queries::first_key;
-use sql_tables::Fault;
+use sql_tables::StoreFault;
 use sqlite::Alter;
 
 /// The state of the recalls that are open, or of those that were lifted.
@@ -35,7 +35,7 @@ fn recall_state(are_open: bool) -> RecallState
 }
 
 impl<'a, S: Alter> Worklists for Keyed<'a, S> {
-    fn orders_in(&mut self, state: JobState, cursor: Option<Id>) -> Result<Page<Job>, Fault> {
+    fn orders_in(&mut self, state: JobState, cursor: Option<Id>) -> Result<Page<Job>, StoreFault> {
         self.page_with(&JOB, texts::ORDERS_IN_STATE, word(state.name()), &cursor)
     }
 
@@ -44,7 +44,7 @@ impl<'a, S: Alter> Worklists for Keyed<'a, S> {
         &mut self,
         state: JobState,
         cursor: Option<Cursor<Due, Id>>,
-    ) -> Result<Page<Job>, Fault> {
+    ) -> Result<Page<Job>, StoreFault> {
         self.page_beyond(
             &JOB,
             &[5, 1],
@@ -57,23 +57,31 @@ impl<'a, S: Alter> Worklists for Keyed<'a, S> {
     }
 
     // By the column seq.
-    fn receipts_after(&mut self, cursor: Option<u64>) -> Result<Page<Receipt>, Fault> {
+    fn receipts_after(&mut self, cursor: Option<u64>) -> Result<Page<Receipt>, StoreFault> {
         self.receipts_page_after(&RECEIPT, &[2], texts::RECEIPTS_AFTER, cursor)
     }
 
-    fn batches_in(&mut self, closed: bool, cursor: Option<Id>) -> Result<Page<BatchRow>, Fault> {
+    fn batches_in(
+        &mut self,
+        closed: bool,
+        cursor: Option<Id>,
+    ) -> Result<Page<BatchRow>, StoreFault> {
         self.page_with(&BATCH, texts::BATCHES_BY_CLOSED, truth(closed), &cursor)
     }
 
-    fn lots_of(&mut self, def: Id, cursor: Option<Id>) -> Result<Page<Lot>, Fault> {
+    fn lots_of(&mut self, def: Id, cursor: Option<Id>) -> Result<Page<Lot>, StoreFault> {
         self.page_with(&LOT, texts::LOTS_OF_DEFINITION, text_of(&def), &cursor)
     }
 
-    fn holds_on(&mut self, lot: Id, cursor: Option<Id>) -> Result<Page<Hold>, Fault> {
+    fn holds_on(&mut self, lot: Id, cursor: Option<Id>) -> Result<Page<Hold>, StoreFault> {
         self.page_with(&HOLD, texts::HOLDS_ON_LOT, text_of(&lot), &cursor)
     }
 
-    fn recalls_in(&mut self, are_open: bool, cursor: Option<Id>) -> Result<Page<Recall>, Fault> {
+    fn recalls_in(
+        &mut self,
+        are_open: bool,
+        cursor: Option<Id>,
+    ) -> Result<Page<Recall>, StoreFault> {
         self.page_with(
             &RECALL,
             texts::RECALLS_IN_STATE,
@@ -82,11 +90,15 @@ impl<'a, S: Alter> Worklists for Keyed<'a, S> {
         )
     }
 
-    fn classes_after(&mut self, cursor: Option<Id>) -> Result<Page<Class>, Fault> {
+    fn classes_after(&mut self, cursor: Option<Id>) -> Result<Page<Class>, StoreFault> {
         self.page_after(&CLASS, texts::CLASSES_AFTER, &cursor)
     }
 
-    fn definitions_in(&mut self, class: Id, cursor: Option<Id>) -> Result<Page<Definition>, Fault> {
+    fn definitions_in(
+        &mut self,
+        class: Id,
+        cursor: Option<Id>,
+    ) -> Result<Page<Definition>, StoreFault> {
         self.page_with(
             &DEFINITION,
             texts::DEFINITIONS_OF_CLASS,
@@ -99,7 +111,7 @@ impl<'a, S: Alter> Worklists for Keyed<'a, S> {
         &mut self,
         state: RecipeState,
         cursor: Option<Cursor<Id, u16>>,
-    ) -> Result<Page<Recipe>, Fault> {
+    ) -> Result<Page<Recipe>, StoreFault> {
         self.page_beyond(
             &RECIPE,
             first_key(&RECIPE),
@@ -115,7 +127,7 @@ impl<'a, S: Alter> Worklists for Keyed<'a, S> {
         &mut self,
         lot: Id,
         cursor: Option<Cursor<u64, u16>>,
-    ) -> Result<Page<Movement>, Fault> {
+    ) -> Result<Page<Movement>, StoreFault> {
         let place = movement_after(&cursor);
         let seq = large(place.first)?;
         let line = small(place.second);
@@ -141,19 +153,23 @@ impl<'a, S: Alter> Worklists for Keyed<'a, S> {
         if_memory(merge_pages(self.alloc, &named, &made))
     }
 
-    fn movements_into(&mut self, lot: Id) -> Result<Vec<Movement>, Fault> {
-        self.found(&MOVEMENT, texts::MOVEMENTS_INTO_LOT, &[text_of(&lot)])
+    fn movements_into(&mut self, lot: Id) -> Result<Vec<Movement>, StoreFault> {
+        self.found(
+            &MOVEMENT,
+            lookup_texts::MOVEMENTS_INTO_LOT,
+            &[text_of(&lot)],
+        )
     }
 
-    fn lots_after(&mut self, cursor: Option<Id>) -> Result<Page<Lot>, Fault> {
+    fn lots_after(&mut self, cursor: Option<Id>) -> Result<Page<Lot>, StoreFault> {
         self.page_after(&LOT, texts::LOTS_AFTER, &cursor)
     }
 
-    fn sublots_after(&mut self, cursor: Option<Id>) -> Result<Page<Sublot>, Fault> {
+    fn sublots_after(&mut self, cursor: Option<Id>) -> Result<Page<Sublot>, StoreFault> {
         self.page_after(&SUBLOT, texts::SUBLOTS_AFTER, &cursor)
     }
 
-    fn holds_after(&mut self, cursor: Option<Id>) -> Result<Page<Hold>, Fault> {
+    fn holds_after(&mut self, cursor: Option<Id>) -> Result<Page<Hold>, StoreFault> {
         self.page_after(&HOLD, texts::HOLDS_AFTER, &cursor)
     }
 }

@@ -14,16 +14,16 @@ use Rattle.sqlite.specs.State as store
 use Rattle.sqlite.specs.Tree.{Trees}
 use Rattle.plant_base.specs.{State, newest_schema}
 use Rattle.plant_view.specs.{tables_of}
-use Rattle.plant_view.specs.Tables.{Tables}
+use Rattle.plant_view.specs.TableRows.{Tables}
 use Rattle.sql_tables.specs.{Keeps, HasStoredRows, KeepsOtherTables, IsSettled}
 use Rattle.sql_tables.proofs.TransactionEnds.{IsStore}
 use Rattle.plant_tables.specs.{desk_table_defs, meta_table, HoldsTablesOf, IsAtOf}
 use Rattle.plant_tables_columns.specs.{row_of_meta}
 use Rattle.plant_tables.specs.{Loads, IsVersion}
 use Rattle.plant_tables.proofs.AllRowsDecoded.{loaded_rows}
-use Rattle.plant_migrate.specs.{IsReadable, FailureLeavesAmid, IsRaisedFrom, IsRaisedTo, HasKnownVersion, raised_to}
-use Rattle.plant_migrate.proofs.RaisingEnds.{raised_to_is}
-use Rattle.plant_migrate.proofs.RowsBeforeRaising.{from_since}
+use Rattle.plant_migrate.specs.{IsReadable, FailureLeavesAmid, IsMigratedFrom, IsMigratedTo, HasKnownVersion, migrated_to}
+use Rattle.plant_migrate.proofs.MigrationEnds.{migrated_to_is}
+use Rattle.plant_migrate.proofs.RowsBeforeMigration.{from_since}
 use Rattle.plant_migrate.proofs.NothingWritten.{at_still, amid_since}
 
 pub version_is : (version : ℕ) (db : Database) (t : Tables) (n : ℤ) → HoldsTablesOf version db t → IsVersion db n → n ≡ pos t.meta.schema
@@ -60,10 +60,10 @@ below version to n fits is few test = let at : le_z (to_z w64 to) (pos version) 
 
 -- it is at least the schema that is asked for
 pub stays_at : (version to : ℕ) (old new : store.State) (s : State) → to ≤ version → IsReadable version old s → Keeps old new → IsStore new → IsTrue new.is_open
-    → IsAtOf (raised_to version to) new (tables_of (raised_to version to) s) × KeepsOtherTables desk_table_defs old.now new.now
+    → IsAtOf (migrated_to version to) new (tables_of (migrated_to version to) s) × KeepsOtherTables desk_table_defs old.now new.now
 stays_at version to old new s low readable kept laws live =
     let test : nat_le to version ≡ true = grind (arith, nat_tests) in
-    let is : raised_to version to ≡ version = rw test refl in
+    let is : migrated_to version to ≡ version = rw test refl in
     (subst (λ k. IsAtOf k new (tables_of k s)) (sym is) (at_still version old new (tables_of version s) readable.at kept laws live), subst (KeepsOtherTables desk_table_defs old.now) (sym (kept.now live)) (record { kept = λ x listed foreign. (listed, refl) }))
 
 -- still readable after calls that only read
@@ -77,10 +77,10 @@ handed_on version v fits is = ap nat_abs (to_z-of_z w64 v fits ∙ is)
 -- it is below the one that is asked for
 pub rises_to : (version handed to : ℕ) (old mid new : store.State) (s : State) → handed ≡ version → version < to → IsReadable version old s → Keeps old mid → IsStore mid → IsTrue mid.is_open
     → ((u : State) → IsReadable handed mid u → IsAtOf to new (tables_of to u) × KeepsOtherTables desk_table_defs mid.now new.now)
-    → IsAtOf (raised_to version to) new (tables_of (raised_to version to) s) × KeepsOtherTables desk_table_defs old.now new.now
+    → IsAtOf (migrated_to version to) new (tables_of (migrated_to version to) s) × KeepsOtherTables desk_table_defs old.now new.now
 rises_to version handed to old mid new s same under readable kept laws live done =
     let it = done s (subst (λ k. IsReadable k mid s) (sym same) (still_readable version old mid s readable kept laws live)) in
-    let is : raised_to version to ≡ to = raised_to_is version to (omega (arith, under)) in
+    let is : migrated_to version to ≡ to = migrated_to_is version to (omega (arith, under)) in
     (subst (λ k. IsAtOf k new (tables_of k s)) (sym is) it.0, subst (λ (d : Database). KeepsOtherTables desk_table_defs d new.now) (kept.now live) it.1)
 
 pub cut_from : (version handed to : ℕ) (old mid new : store.State) (s : State) → handed ≡ version → IsReadable version old s → Keeps old mid → IsStore mid → IsTrue mid.is_open
@@ -90,14 +90,14 @@ cut_from version handed to old mid new s same readable kept laws live done =
     amid_since version to old mid new s (kept.now live) (subst (λ k. FailureLeavesAmid k to mid new s) same here)
 
 -- what was made of the tables of the version that is read
-pub raised_reported : (to : ℕ) (old mid : store.State) (trees : Trees) (v : ℤ) → SFits w64 v → IsVersion old.now v → to ≤ newest_schema → le_z (to_z w64 to) (to_z w64 (of_z w64 v)) ≡ false → mid.now ≡ old.now → (IsSettled old → IsSettled mid)
-    → IsRaisedFrom (nat_abs (to_z w64 (of_z w64 v))) to mid trees → IsRaisedTo to old trees
-raised_reported to old mid trees v fits reported few test same settles made =
+pub migrated_reported : (to : ℕ) (old mid : store.State) (trees : Trees) (v : ℤ) → SFits w64 v → IsVersion old.now v → to ≤ newest_schema → le_z (to_z w64 to) (to_z w64 (of_z w64 v)) ≡ false → mid.now ≡ old.now → (IsSettled old → IsSettled mid)
+    → IsMigratedFrom (nat_abs (to_z w64 (of_z w64 v))) to mid trees → IsMigratedTo to old trees
+migrated_reported to old mid trees v fits reported few test same settles made =
     let number = version_number old.now v reported in
-    let here : IsRaisedFrom number.0 to mid trees = subst (λ k. IsRaisedFrom k to mid trees) (handed_on number.0 v fits number.1) made in
+    let here : IsMigratedFrom number.0 to mid trees = subst (λ k. IsMigratedFrom k to mid trees) (handed_on number.0 v fits number.1) made in
     record {
       version = number.0;
       reported = subst (IsVersion old.now) number.1 reported;
       below = below number.0 to v fits number.1 few test;
-      raised = from_since number.0 to old mid trees same settles here;
+      migrated = from_since number.0 to old mid trees same settles here;
     }

@@ -1,9 +1,9 @@
-pub mod RaisedBySteps
+pub mod MigratedBySteps
 pub mod ChangesOfState
 pub mod NothingWritten
-pub mod OneStep
-pub mod RaisingEnds
+pub mod StepsCompose
+pub mod MigrationEnds
 pub mod LaterNamesFree
-pub mod RowsBeforeRaising
+pub mod RowsBeforeMigration
 pub mod KnownVersion
-pub mod RaisingFaults
+pub mod MigrationFaults

@@ -5,14 +5,14 @@ use Rattle.std.proofs.lemmas.Bool.Decides.{nat_tests}
 use Rattle.sqlite.specs.Tree.{Trees}
 use Rattle.sqlite.specs.Effect.{Database}
 use Rattle.sqlite.specs.State.{State, HasCleanDisk, Survives}
-use Rattle.plant_base.specs.PlantState as desk
+use Rattle.plant_base.specs.StateRows as desk
 use Rattle.plant_view.specs.{tables_of}
-use Rattle.plant_view.specs.Tables.{Tables}
+use Rattle.plant_view.specs.TableRows.{Tables}
 use Rattle.sql_tables.specs.{Keeps, KeepsOtherTables, IsSettled}
 use Rattle.sql_tables.proofs.TransactionEnds.{IsStore}
 use Rattle.plant_tables.specs.{desk_table_defs, HoldsTablesOf, IsAtOf, FindsOf, FailureLeavesOf}
 use Rattle.plant_tables.proofs.WritingEnds.{finds_same}
-use Rattle.plant_migrate.specs.{FailureLeavesAmid, FindsBetween, raised_to}
+use Rattle.plant_migrate.specs.{FailureLeavesAmid, FindsBetween, migrated_to}
 
 pub keeps_itself : (s : State) → Keeps s s
 keeps_itself s = record { was_open = λ live. live; now = λ _. refl; committed = λ _. refl }
@@ -48,18 +48,18 @@ module _ (version : ℕ) (old new : State) (t : Tables) (at : IsAtOf version old
   }
 
 -- the version itself is one from it to the one that is asked for
-pub raised_above : (version to : ℕ) → version ≤ raised_to version to
-raised_above version to = elim (cases_Bool (nat_le to version)) [
+pub migrated_above : (version to : ℕ) → version ≤ migrated_to version to
+migrated_above version to = elim (cases_Bool (nat_le to version)) [
   | inl low ↦ rw low (omega arith)
   | inr high ↦ rw high (grind (arith, nat_tests))
 ]
 
--- a raising to a schema that wasn't begun
-pub not_raised : (version to : ℕ) (old new : State) (s : desk.State) → IsAtOf version old (tables_of version s) → Keeps old new → IsStore new → HasCleanDisk new → Survives old new (λ _. ⊥) → FailureLeavesAmid version to old new s
-not_raised version to old new s at kept laws clean wrote = record {
+-- a migration to a schema that wasn't begun
+pub not_migrated : (version to : ℕ) (old new : State) (s : desk.State) → IsAtOf version old (tables_of version s) → Keeps old new → IsStore new → HasCleanDisk new → Survives old new (λ _. ⊥) → FailureLeavesAmid version to old new s
+not_migrated version to old new s at kept laws clean wrote = record {
   crash_states = laws.something clean;
   nothing_else = λ db left. elim (wrote.crash clean db left) [
-    | inl still ↦ let low : version ≤ version = omega arith in (version, low, raised_above version to, found_still version old new (tables_of version s) at kept laws db still)
+    | inl still ↦ let low : version ≤ version = omega arith in (version, low, migrated_above version to, found_still version old new (tables_of version s) at kept laws db still)
     | inr none ↦ absurd none
   ];
   shows = λ live. inl (at_still version old new (tables_of version s) at kept laws live, kept.now live);
@@ -69,7 +69,7 @@ not_raised version to old new s at kept laws clean wrote = record {
 pub amid_since : (version to : ℕ) (first mid new : State) (s : desk.State) → mid.now ≡ first.now → FailureLeavesAmid version to mid new s → FailureLeavesAmid version to first new s
 amid_since version to first mid new s same cut = record {
   crash_states = cut.crash_states;
-  nothing_else = λ db left. subst (λ (d : Database). FindsBetween version (raised_to version to) s d db) same (cut.nothing_else db left);
+  nothing_else = λ db left. subst (λ (d : Database). FindsBetween version (migrated_to version to) s d db) same (cut.nothing_else db left);
   shows = λ live. elim (cut.shows live) [
     | inl still ↦ inl (still.0, still.1 ∙ same)
     | inr amid ↦ inr (record { later = amid.later; above = amid.above; below = amid.below; at = amid.at; others = subst (λ (d : Database). KeepsOtherTables desk_table_defs d new.now) same amid.others })

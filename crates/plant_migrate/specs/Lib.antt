@@ -1,8 +1,8 @@
-pub mod Raised
+pub mod Migrated
 pub mod Steps
 pub mod FailureLeaves
-pub mod Calls
-pub use Raised.{AreEdges, added_rows, edge_booked, edge_change, edges_from, raised_by, raised_once}
-pub use Steps.{FailureLeavesWithin, FindsRisable, IsRaisedBy, IsRaisedOnce, IsRisable}
-pub use FailureLeaves.{FailureLeavesAmid, FindsBetween, HasKnownVersion, IsBetween, IsRaisedFrom, IsRaisedTo, IsRead, IsReadable, raised_to}
-pub use Calls.{raise_fault}
+pub mod MigrationContracts
+pub use Migrated.{AreEdges, added_rows, edge_booked, edge_change, edges_from, migrated_by, migrated_once}
+pub use Steps.{FailureLeavesWithin, FindsMigratable, IsMigratedBy, IsMigratedOnce, IsMigratable}
+pub use FailureLeaves.{FailureLeavesAmid, FindsBetween, HasKnownVersion, IsBetween, IsMigratedFrom, IsMigratedTo, IsRead, IsReadable, migrated_to}
+pub use MigrationContracts.{raise_fault}

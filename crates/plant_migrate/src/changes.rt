@@ -1,14 +1,14 @@
-//! The rows that a raising adds.
+//! The rows that a migration adds.
 
 ghost use Rattle.std.specs.Prelude.{◌≡◌, IfOk, IsOkUnless};
 ghost use Rattle.std.specs.List.{filter_map};
-ghost use Rattle.plant_migrate.specs.Raised.{edge_booked, edge_change, edges_from, added_rows};
-ghost use Rattle.plant_migrate.specs.Raised.{AreEdges};
+ghost use Rattle.plant_migrate.specs.Migrated.{edge_booked, edge_change, edges_from, added_rows};
+ghost use Rattle.plant_migrate.specs.Migrated.{AreEdges};
 
 use plant_base::{EdgeRow, MovementKind};
 use plant_tables::BookedRow;
 use plant_view::{RowChange, RowParts, edge_row};
-use sql_tables::Fault;
+use sql_tables::StoreFault;
 use std::alloc::{AllocError, Global};
 
 /// The edge that a booked movement makes, where its columns are those of its kind and it makes one.
@@ -46,8 +46,8 @@ pub(crate) fn edges_from(
     alloc: Global,
     version: u64,
     booked: &[BookedRow],
-) -> Result<Vec<RowChange>, Fault>
-    ensures fault { IsOkUnless result Fault.Memory }
+) -> Result<Vec<RowChange>, StoreFault>
+    ensures fault { IsOkUnless result StoreFault.Memory }
     ensures edges { IfOk result (λ changes. changes.items ≡ edges_from version booked.now) }
 {
     if version != 1 {
@@ -55,7 +55,7 @@ pub(crate) fn edges_from(
     }
     match edge_changes(alloc, booked) {
         Ok(changes) => Ok(changes),
-        Err(_) => Err(Fault::Memory),
+        Err(_) => Err(StoreFault::Memory),
     }
 }
 

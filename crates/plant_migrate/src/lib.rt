@@ -1,10 +1,10 @@
-//! The raising of the desk's tables from one schema to the next, up to the newest.
+//! The migration of the desk's tables from one schema to the next, up to the newest.
 #![tactic(auto)]
 
 mod changes;
-mod raising;
+mod migration;
 mod rows;
 mod steps;
 
-pub use raising::{RaiseFault, raise};
-pub use rows::raise_rows;
+pub use migration::{RaiseFault, raise};
+pub use rows::migrate_rows;

@@ -13,7 +13,7 @@ use Rattle.plant_base.specs.{Agrees}
 use Rattle.plant_orders.specs.declared.source.OrdersFault.{OrdersFault}
 use Rattle.plant_orders.specs.declared.source.OrdersFault.TheVariants as orders
 use Rattle.plant_orders.specs.declared.examining.Examined.{Examined}
-use Rattle.plant_orders.specs.declared.examining.RowFault.{RowFault}
+use Rattle.plant_orders.specs.declared.examining.RecordFault.{RecordFault}
 use Rattle.plant_orders.specs.declared.examining.NumberedOrder.{NumberedOrder}
 use Rattle.plant_orders.specs.declared.fault.CsvKind.TheVariants as kind
 
@@ -58,11 +58,11 @@ module _ (n : ℕ) (fields : List (List ℕ)) (records : List (List (List ℕ)))
   over_orders e = let t : (n == 1000) ≡ true = grind (arith, nat_tests) in rw t refl
 
   -- what was found before, with that of a row more
-  pub faults_added : (before now : List RowFault) → n < 1000 → now ≡ before ++ row_faults (n + 1) fields
+  pub faults_added : (before now : List RecordFault) → n < 1000 → now ≡ before ++ row_faults (n + 1) fields
       → before ++ faults_from n (fields ∷ records) ≡ now ++ faults_from (n + 1) records
   faults_added before now h added =
       ap (λ fs. before ++ fs) (row_more_faults h) ∙ sym (append_assoc before (row_faults (n + 1) fields) (faults_from (n + 1) records))
-      ∙ ap (λ (fs : List RowFault). fs ++ faults_from (n + 1) records) (sym added)
+      ∙ ap (λ (fs : List RecordFault). fs ++ faults_from (n + 1) records) (sym added)
 
   pub orders_added : (before now : List NumberedOrder) → n < 1000 → now ≡ before ++ row_orders (n + 1) fields
       → before ++ orders_from n (fields ∷ records) ≡ now ++ orders_from (n + 1) records

@@ -9,7 +9,7 @@ use Rattle.plant_orders.specs.Orders.{fault, id_of, due_of, order_of, is_header}
 use Rattle.plant_orders.specs.declared.fault.CsvKind.{CsvKind}
 use Rattle.plant_orders.specs.declared.fault.CsvKind.TheVariants as kind
 use Rattle.plant_orders.specs.declared.examining.Examined.{Examined}
-use Rattle.plant_orders.specs.declared.examining.RowFault.{RowFault}
+use Rattle.plant_orders.specs.declared.examining.RecordFault.{RecordFault}
 use Rattle.plant_orders.specs.declared.examining.NumberedOrder.{NumberedOrder}
 
 -- ---- a row
@@ -43,19 +43,19 @@ text_or_none None = []
 text_or_none (Some text) = text
 
 -- a fault of a row or of the file, of no field
-abbrev pub whole_fault : ℕ → CsvKind → RowFault
+abbrev pub whole_fault : ℕ → CsvKind → RecordFault
 whole_fault n k = record { fault = fault n k; found = [] }
 
 -- the fault of a field, with its text, where it breaks its rule
-abbrev pub field_fault : ℕ → List (List ℕ) → CsvKind → List RowFault
+abbrev pub field_fault : ℕ → List (List ℕ) → CsvKind → List RecordFault
 field_fault n fields k = if is_valid fields k then [] else record { fault = fault n k; found = text_or_none (field_at fields (place_of k)) } ∷ []
 
-abbrev pub field_faults : ℕ → List (List ℕ) → List CsvKind → List RowFault
+abbrev pub field_faults : ℕ → List (List ℕ) → List CsvKind → List RecordFault
 field_faults n fields [] = []
 field_faults n fields (k ∷ ks) = field_fault n fields k ++ field_faults n fields ks
 
 -- what is wrong with a row: that it hasn't six fields, or each field that breaks its rule
-unfoldable pub row_faults : ℕ → List (List ℕ) → List RowFault
+unfoldable pub row_faults : ℕ → List (List ℕ) → List RecordFault
 row_faults n fields = if length fields == 6 then field_faults n fields field_kinds else whole_fault n kind.Shape ∷ []
 
 abbrev pub order_in : ℕ → Result OrderRow CsvKind → List NumberedOrder
@@ -69,7 +69,7 @@ row_orders n fields = order_in n (order_of fields)
 -- ---- a file
 
 -- what is wrong with the records after the first n rows; there are at most 1,000 rows
-abbrev pub faults_from : ℕ → List (List (List ℕ)) → List RowFault
+abbrev pub faults_from : ℕ → List (List (List ℕ)) → List RecordFault
 faults_from n [] = []
 faults_from n (fields ∷ records) =
     if n == 1000 then whole_fault 1001 kind.TooManyRows ∷ []
@@ -80,7 +80,7 @@ abbrev pub orders_from : ℕ → List (List (List ℕ)) → List NumberedOrder
 orders_from n [] = []
 orders_from n (fields ∷ records) = if n == 1000 then [] else row_orders (n + 1) fields ++ orders_from (n + 1) records
 
-abbrev pub faults_in : List (List (List ℕ)) → List RowFault
+abbrev pub faults_in : List (List (List ℕ)) → List RecordFault
 faults_in [] = whole_fault 0 kind.Header ∷ []
 faults_in (header ∷ records) = if is_header header then faults_from 0 records else whole_fault 0 kind.Header ∷ []
 
@@ -89,7 +89,7 @@ orders_in [] = []
 orders_in (header ∷ records) = if is_header header then orders_from 0 records else []
 
 -- every fault of a file, and the orders among its rows
-unfoldable pub faults_of : List ℕ → List RowFault
+unfoldable pub faults_of : List ℕ → List RecordFault
 faults_of text =
     if nat_lt 262144 (length text) then whole_fault 0 kind.TooLong ∷ []
     else faults_in (records_from default_config 1002 st.StartRecord (strip_bom text))

@@ -1,6 +1,6 @@
 -- The command that takes the orders of a file.
 use Rattle.std.specs.Prelude.{List}
-use Rattle.plant_base.specs.declared.command.Command.TheVariants.{ImportOrders}
+use Rattle.plant_base.specs.declared.commands.Command.TheVariants.{ImportOrders}
 use Rattle.plant_base.specs.{Envelope, OrderRow}
 use Rattle.plant_orders.specs.declared.importing.ImportMetadata.{ImportMetadata}
 

@@ -16,7 +16,7 @@ use std::alloc::{AllocError, Global};
 
 /// A fault of an order file, and the text at fault.
 #[derive(Drop)]
-pub struct RowFault {
+pub struct RecordFault {
     /// The row, and what is wrong with it.
     pub fault: CsvFault,
     /// The field that breaks its rule, as the file has it; empty for a fault of a row or of the file as a whole.
@@ -36,7 +36,7 @@ pub struct NumberedOrder {
 #[derive(Drop)]
 pub struct Examined {
     /// Its faults, in the order of its rows and of their fields; none of an order file.
-    pub faults: Items<RowFault>,
+    pub faults: Items<RecordFault>,
     /// The orders of those rows that have no fault.
     pub orders: Items<NumberedOrder>,
 }
@@ -52,10 +52,10 @@ const FIELD_KINDS: [CsvKind; 6] = [
 ];
 
 /// A fault of a row or of the file, of no field.
-fn whole_fault(alloc: Global, row: u16, kind: CsvKind) -> RowFault
+fn whole_fault(alloc: Global, row: u16, kind: CsvKind) -> RecordFault
     ensures { result ≡ whole_fault row kind }
 {
-    RowFault {
+    RecordFault {
         fault: CsvFault { row, kind },
         found: Items::new(Vec::new(alloc)),
     }
@@ -90,7 +90,7 @@ fn found_at(alloc: Global, row: &ByteRecord, place: usize) -> Result<Items<u8>, 
 /// Adds the fault of a field to the others, where it breaks its rule.
 fn add_field_fault(
     alloc: Global,
-    faults: &mut Vec<RowFault>,
+    faults: &mut Vec<RecordFault>,
     number: u16,
     row: &ByteRecord,
     kind: CsvKind,
@@ -101,7 +101,7 @@ fn add_field_fault(
         return Ok(());
     }
     let found = found_at(alloc, row, place_of(kind))?;
-    faults.push(RowFault {
+    faults.push(RecordFault {
         fault: CsvFault { row: number, kind },
         found,
     })?;
@@ -114,7 +114,7 @@ fn field_faults(
     number: u16,
     row: &ByteRecord,
     kinds: &[CsvKind],
-) -> Result<Vec<RowFault>, AllocError>
+) -> Result<Vec<RecordFault>, AllocError>
     ensures { IfOk result (λ faults. faults.items ≡ field_faults number (fields_of row.now) kinds.now) }
 {
     let mut faults = Vec::new(alloc);
@@ -126,7 +126,7 @@ fn field_faults(
 
 /// What is wrong with the row of this number.
 #[tactic(auto, unfolding(crate::specs::EveryFault::row_faults))]
-fn row_faults(alloc: Global, number: u16, row: &ByteRecord) -> Result<Vec<RowFault>, AllocError>
+fn row_faults(alloc: Global, number: u16, row: &ByteRecord) -> Result<Vec<RecordFault>, AllocError>
     ensures { IfOk result (λ faults. faults.items ≡ row_faults number (fields_of row.now)) }
 {
     if has_all_fields(row) {
@@ -139,15 +139,15 @@ fn row_faults(alloc: Global, number: u16, row: &ByteRecord) -> Result<Vec<RowFau
 
 /// What a record in the middle of a file adds to what was examined before.
 #[derive(Drop)]
-struct Lists {
-    faults: Vec<RowFault>,
+struct ExaminedRows {
+    faults: Vec<RecordFault>,
     orders: Vec<NumberedOrder>,
 }
 
 /// Adds the faults of the row of this number, and the order that it is.
 fn add_row(
     alloc: Global,
-    lists: &mut Lists,
+    lists: &mut ExaminedRows,
     number: u16,
     row: &ByteRecord,
 ) -> Result<(), AllocError>
@@ -184,7 +184,7 @@ pub fn examine(alloc: Global, bytes: &[u8]) -> Result<Examined, AllocError>
     if !is_header(&row) {
         return alone(alloc, CsvKind::Header);
     }
-    let mut lists = Lists {
+    let mut lists = ExaminedRows {
         faults: Vec::new(alloc),
         orders: Vec::new(alloc),
     };
@@ -201,7 +201,7 @@ pub fn examine(alloc: Global, bytes: &[u8]) -> Result<Examined, AllocError>
 }
 
 /// The lists that were examined, of a file that has more rows.
-fn too_many(alloc: Global, mut lists: Lists) -> Result<Examined, AllocError>
+fn too_many(alloc: Global, mut lists: ExaminedRows) -> Result<Examined, AllocError>
     ensures faults { IfOk result (λ examined. examined.faults ≡ lists.faults.items ++ whole_fault 1001 CsvKind.TooManyRows ∷ []) }
     ensures orders { IfOk result (λ examined. examined.orders ≡ lists.orders.items) }
 {
@@ -225,7 +225,7 @@ fn alone(alloc: Global, kind: CsvKind) -> Result<Examined, AllocError>
 }
 
 /// The lists that were examined.
-fn examined_of(lists: Lists) -> Examined
+fn examined_of(lists: ExaminedRows) -> Examined
     ensures faults { result.faults ≡ lists.faults.items }
     ensures orders { result.orders ≡ lists.orders.items }
 {

@@ -8,7 +8,7 @@ mod read;
 mod row;
 mod source;
 
-pub use examining::{Examined, NumberedOrder, RowFault, examine};
+pub use examining::{Examined, NumberedOrder, RecordFault, examine};
 pub use fault::{CsvFault, CsvKind};
 pub use importing::{ImportMetadata, import};
 pub use read::{LONGEST_FILE, read_orders};

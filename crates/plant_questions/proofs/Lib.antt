@@ -5,5 +5,5 @@ pub mod PrefetchSteps
 pub mod MergedLists
 pub mod HoldsOfAllLots
 mod SmallNumbers
-mod PutFromEnd
-pub mod Split
+mod InsertionFromEnd
+pub mod PutSplitsList

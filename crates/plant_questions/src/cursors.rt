@@ -15,7 +15,7 @@ pub struct Cursor<A, B> {
 }
 
 /// A value that a list is ordered by, and how it is written in a cursor.
-pub trait Key: Copy {
+pub trait CursorKey: Copy {
     ghost use Rattle.std.specs.Prelude.{◌≡◌, ℕ, List, Option};
 
     /// The value that a text is.
@@ -27,7 +27,7 @@ pub trait Key: Copy {
 }
 
 /// An id.
-impl Key for Id {
+impl CursorKey for Id {
     ghost key = { only is_id };
 
     fn read_key(text: &str) -> Option<Self> {
@@ -36,7 +36,7 @@ impl Key for Id {
 }
 
 /// A due date.
-impl Key for Due {
+impl CursorKey for Due {
     ghost key = { only is_due };
 
     fn read_key(text: &str) -> Option<Self> {
@@ -45,7 +45,7 @@ impl Key for Due {
 }
 
 /// A number of at most 3 digits.
-impl Key for u16 {
+impl CursorKey for u16 {
     ghost key = { digits_of 3 };
 
     fn read_key(text: &str) -> Option<Self> {
@@ -55,7 +55,7 @@ impl Key for u16 {
 }
 
 /// A number of at most 16 digits.
-impl Key for u64 {
+impl CursorKey for u64 {
     ghost key = { digits_of 16 };
 
     fn read_key(text: &str) -> Option<Self> {
@@ -63,7 +63,7 @@ impl Key for u64 {
     }
 }
 
-impl<A: Key, B: Key> Cursor<A, B> {
+impl<A: CursorKey, B: CursorKey> Cursor<A, B> {
     /// The cursor that a text names: its two values with a dot between them.
     /// `None` where the text isn't written so.
     pub fn read(text: &str) -> Option<Self>

@@ -9,6 +9,7 @@ mod booked;
 mod cursors;
 mod genealogy;
 mod hold_pages;
+mod id_keys;
 mod key_order;
 mod keys;
 mod list_question;
@@ -32,7 +33,7 @@ pub use after_cursor::{
     movement_after, number_after, order_text_after, recipe_text_after, text_after, version_after,
 };
 pub use booked::booked_of;
-pub use cursors::{Cursor, Key};
+pub use cursors::{Cursor, CursorKey};
 pub use genealogy::{BookedEdge, Genealogy, LotNode, NodeAnswer};
 pub use hold_pages::all_holds;
 pub use key_order::HasKeyOrder;

@@ -4,7 +4,7 @@ ghost use Rattle.std.specs.Prelude.{◌≡◌};
 ghost use Rattle.plant_questions.specs.FetchPolicy.{after_hit, after_miss, first_policy, is_due};
 ghost use Rattle.plant_questions.specs.FetchPolicy.{next_pause, row_with, was_worth};
 
-/// A page takes the time of some thirty look-ups: after one that answered so many lots the next is read at once.
+/// A page takes the time of some thirty lookups: after one that answered so many lots the next is read at once.
 const WORTH: u32 = 32;
 
 /// So many lots are looked up before a page is read where nothing speaks for one: more than a page of a list has.

@@ -10,7 +10,7 @@ use plant_view::View;
 /// cursor of two values, or its beginning where none is given, the movements of a lot, and pages of what lots have, lot by
 /// lot. The id or cursor needn't be there.
 ///
-/// The contract of a page is like that of every look-up of a [`View`], and holds in every state.
+/// The contract of a page is like that of every lookup of a [`View`], and holds in every state.
 pub trait Worklists: View {
     ghost use Rattle.std.specs.Prelude.{◌≡◌, IfOk};
     ghost use Rattle.plant_trace.specs.ReadOnly.{ReadOnly};

@@ -15,5 +15,5 @@ pub use scaling::{scaled, scaling_laws};
 pub use table::{next_state, table_law};
 pub use well_formed::{
     GREATEST_LINES, has_output_of, has_some_phase, is_input_of, is_output_of, is_phase,
-    is_repeated_by, is_well_formed, phase_count, scales_within, well_formed_laws,
+    is_repeated_by, is_well_formed, scales_within, well_formed_laws,
 };

@@ -53,11 +53,4 @@ impl Master {
     {
         &self.lines
     }
-
-    /// Gives the lines back. No memory is taken.
-    pub fn into_lines(self) -> Vec<RecipeLine>
-        ensures { result.items ≡ self.lines }
-    {
-        self.lines
-    }
 }

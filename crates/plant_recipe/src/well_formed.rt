@@ -2,7 +2,7 @@
 ghost use Rattle.std.specs.Prelude.{◌≡◌};
 ghost use Rattle.std.specs.List.{list_any};
 ghost use Rattle.plant_recipe.specs.WellFormed.{is_in_of, is_out_of, is_parameter_of, is_phase};
-ghost use Rattle.plant_recipe.specs.WellFormed.{phases_of, has_allowed_length, has_size_range};
+ghost use Rattle.plant_recipe.specs.WellFormed.{has_allowed_length, has_size_range};
 ghost use Rattle.plant_recipe.specs.WellFormed.{has_phase, has_product, repeats, has_no_repeats};
 ghost use Rattle.plant_recipe.specs.WellFormed.{fits, all_fit, is_well_formed};
 ghost use Rattle.plant_recipe.specs.WellFormed.{OccursOnceIfWellFormed, HasPhasesIfWellFormed};
@@ -36,13 +36,6 @@ pub fn is_well_formed(header: &Header, lines: &[RecipeLine]) -> bool
         && has_output_of(header.product, lines)
         && repeats_nothing(lines)
         && all_scale(header.base, header.greatest, lines)
-}
-
-/// How many phases the lines have.
-pub fn phase_count(lines: &[RecipeLine]) -> usize
-    ensures { result ≡ phases_of lines.now }
-{
-    lines.iter().filter(|&&line| is_phase(line)).count()
 }
 
 /// What holds of every well-formed recipe, as a law that a proof above may cite. It does nothing when it runs.

@@ -1,4 +1,4 @@
--- The tests that look-ups by a key make.
+-- The tests that lookups by a key make.
 use Rattle.std.proofs.Common.{◌≡◌, ℕ, Bool, true, false, cond, List, [], ◌∷◌, Some, is_some, find, refl, sym, ◌==◌, ◌&&◌, ◌||◌, nat_cmp, is_eq}
 use Rattle.std.specs.List.{list_any}
 use Rattle.std.specs.Cmp.{both_tied, unsigned_ties}

@@ -1,5 +1,5 @@
 pub mod NoFault
-pub mod CountedTwice
+pub mod CountOfConjunction
 pub mod KeyTests
 pub mod MarksByRecall
 pub mod SetsOfKeys

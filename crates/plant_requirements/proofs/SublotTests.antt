@@ -1,4 +1,4 @@
--- The test that a look-up by a sublot makes.
+-- The test that a lookup by a sublot makes.
 use Rattle.std.proofs.Common.{◌≡◌, ℕ, List, Option, Some, None, refl}
 use Rattle.plant_base.specs.{numbered_cmp}
 use Rattle.grouped_rows.specs.{is_keyed}

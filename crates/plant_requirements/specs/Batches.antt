@@ -8,7 +8,7 @@ use Rattle.plant_recipe.specs.{is_well_formed, is_size_of, control_of}
 use Rattle.plant_view.specs.{lines_among, control_among, job_among}
 use Rattle.plant_requirements.specs.First.{Requirement, RowFault, as_a_whole, fault_unless, first_reported, first_unmet, in_column, names_none, or_fault}
 use Rattle.plant_requirements.specs.Keys.{control_line_key, id_key}
-use Rattle.plant_requirements.specs.declared.fault.Table.TheVariants as table
+use Rattle.plant_requirements.specs.declared.table_names.Table.TheVariants as table
 use Rattle.plant_requirements.specs.declared.fault.Column.TheVariants as column
 use Rattle.plant_requirements.specs.declared.fault.Found.TheVariants as found
 use Rattle.plant_requirements.specs.declared.fault.Wanted.TheVariants as wanted

@@ -4,7 +4,7 @@ use Rattle.std.specs.List.{list_any}
 use Rattle.plant_base.specs.{same, Class, Definition}
 use Rattle.plant_requirements.specs.First.{RowFault, fault_unless, first_reported, names_none}
 use Rattle.plant_requirements.specs.Keys.{id_key}
-use Rattle.plant_requirements.specs.declared.fault.Table.TheVariants as table
+use Rattle.plant_requirements.specs.declared.table_names.Table.TheVariants as table
 use Rattle.plant_requirements.specs.declared.fault.Column.TheVariants as column
 
 abbrev pub is_class_among : List Class → List ℕ → Bool

@@ -2,15 +2,15 @@
 use Rattle.std.specs.Prelude.{ℕ, Bool, true, false, List, [], ◌∷◌, Option, Some, None}
 pub use Rattle.plant_requirements.specs.declared.fault.Column.{Column}
 pub use Rattle.plant_requirements.specs.declared.fault.Found.{Found}
-pub use Rattle.plant_requirements.specs.declared.fault.Key.{Key}
+pub use Rattle.plant_requirements.specs.declared.fault.RowKey.{RowKey}
 pub use Rattle.plant_requirements.specs.declared.fault.RowFault.{RowFault}
-pub use Rattle.plant_requirements.specs.declared.fault.Table.{Table}
+pub use Rattle.plant_requirements.specs.declared.table_names.Table.{Table}
 pub use Rattle.plant_requirements.specs.declared.fault.Wanted.{Wanted}
 use Rattle.plant_requirements.specs.declared.fault.Found.TheVariants as found
 use Rattle.plant_requirements.specs.declared.fault.Wanted.TheVariants as wanted
 
 -- the fault of the row of this table and key: this is in a column, where that is wanted
-abbrev pub in_column : Table × Key → Column → Found → Wanted → RowFault
+abbrev pub in_column : Table × RowKey → Column → Found → Wanted → RowFault
 in_column place c f w = record {
   table = place.0;
   key = place.1;
@@ -20,11 +20,11 @@ in_column place c f w = record {
 }
 
 -- the row of this table and key, where the id in its column is that of no row of the other table
-abbrev pub names_none : Table × Key → Column → List ℕ → Table → RowFault
+abbrev pub names_none : Table × RowKey → Column → List ℕ → Table → RowFault
 names_none place c id other = in_column place c (found.Id id) (wanted.Key other)
 
 -- the row of this table and key, where this is wanted of it as a whole
-abbrev pub as_a_whole : Table × Key → Wanted → RowFault
+abbrev pub as_a_whole : Table × RowKey → Wanted → RowFault
 as_a_whole place w = record {
   table = place.0;
   key = place.1;

@@ -1,4 +1,5 @@
 pub mod Naming
+pub mod TableNames
 pub mod Texts
 pub mod First
 pub mod Keys
@@ -13,14 +14,15 @@ pub mod Numbering
 pub mod Recalls
 pub mod Receipts
 pub mod Times
-pub use Naming.{column_name, table_name}
+pub use Naming.{column_name}
+pub use TableNames.{all_tables, table_name}
 pub use Texts.{fault_text, found_text, wanted_text}
-pub use First.{Column, Found, Key, RowFault, Table, Wanted, Requirement, first_unmet, fault_unless, first_reported, or_fault, as_a_whole, in_column, names_none}
+pub use First.{Column, Found, RowKey, RowFault, Table, Wanted, Requirement, first_unmet, fault_unless, first_reported, or_fault, as_a_whole, in_column, names_none}
 pub use Keys.{booked_key, control_line_key, edge_key, hold_key, id_key, mark_key, number_key, recipe_key, recipe_line_key, sublot_key}
 pub use declared.value_rule.ValueRule.{ValueRule}
 pub use Catalogue.{class_fault, class_fault_in, is_class_among}
 pub use Recipes.{are_numbered, are_recipes, is_recipe_among}
-unfoldable pub use Recipes.{is_whole_recipe}
+unfoldable pub use Recipes.{is_consistent_recipe}
 pub use Orders.{is_started, of_order, order_fault, order_fault_in, recipe_among, row_of_order}
 pub use Batches.{batch_fault, batch_fault_in, control_line_fault, of_batch, control_asked_for, control_if_well_formed, control_of_found, control_sized, is_control, is_row_among}
 pub use Events.{are_events, is_run, kept_progress}

@@ -5,7 +5,7 @@ use Rattle.plant_base.specs.declared.states.JobState.TheVariants.{Open, Cancelle
 use Rattle.plant_view.specs.{is_size_of_recipe}
 use Rattle.plant_requirements.specs.First.{Requirement, RowFault, Wanted, first_reported, first_unmet, in_column, names_none}
 use Rattle.plant_requirements.specs.Keys.{id_key}
-use Rattle.plant_requirements.specs.declared.fault.Table.TheVariants as table
+use Rattle.plant_requirements.specs.declared.table_names.Table.TheVariants as table
 use Rattle.plant_requirements.specs.declared.fault.Column.TheVariants as column
 use Rattle.plant_requirements.specs.declared.fault.Found.TheVariants as found
 use Rattle.plant_requirements.specs.declared.fault.Wanted.TheVariants as wanted

@@ -3,7 +3,7 @@ use Rattle.std.specs.Prelude.{ℕ, ◌==◌, List, [], ◌∷◌, map, length, f
 use Rattle.plant_base.specs.{is_content, Receipt}
 use Rattle.plant_requirements.specs.First.{Column, Found, Requirement, RowFault, Wanted, first_reported, first_unmet, in_column}
 use Rattle.plant_requirements.specs.Keys.{id_key}
-use Rattle.plant_requirements.specs.declared.fault.Table.TheVariants as table
+use Rattle.plant_requirements.specs.declared.table_names.Table.TheVariants as table
 use Rattle.plant_requirements.specs.declared.fault.Column.TheVariants as column
 use Rattle.plant_requirements.specs.declared.fault.Found.TheVariants as found
 use Rattle.plant_requirements.specs.declared.fault.Wanted.TheVariants as wanted

@@ -11,8 +11,8 @@ are_numbered k [] = true
 are_numbered k (n ∷ ns) = n == k && are_numbered (k + 1) ns
 
 -- the recipe is well formed, its lines are numbered from 1 on, and what it names is there
-unfoldable pub is_whole_recipe : List Definition → List MasterLine → Recipe → Bool
-is_whole_recipe definitions rows r =
+unfoldable pub is_consistent_recipe : List Definition → List MasterLine → Recipe → Bool
+is_consistent_recipe definitions rows r =
     is_well_formed r.header (lines_among rows r.header.recipe r.header.version)
     && are_numbered 1 (map (λ l. l.number) (rows_among rows r.header.recipe r.header.version))
     && is_defined definitions r.header.product
@@ -24,5 +24,5 @@ is_recipe_among recipes id version = list_any (λ r. same r.header.recipe id && 
 -- each recipe is whole, and no line is without its recipe
 abbrev pub are_recipes : List Definition → List Recipe → List MasterLine → Bool
 are_recipes definitions recipes rows =
-    list_all (is_whole_recipe definitions rows) recipes
+    list_all (is_consistent_recipe definitions rows) recipes
     && list_all (λ l. is_recipe_among recipes l.recipe l.version) rows

@@ -4,15 +4,16 @@ use Rattle.std.specs.Fmt.{signed_decimal}
 use Rattle.plant_base.specs.{name_of, batch_state_name, job_state_name}
 use Rattle.plant_tables_columns.specs.{MovementKindCode}
 use Rattle.plant_tables_columns.specs.declared.booked.MovementKindCode.TheVariants as kind_code
-use Rattle.plant_requirements.specs.Naming.{table_name, column_name}
+use Rattle.plant_requirements.specs.Naming.{column_name}
+use Rattle.plant_requirements.specs.TableNames.{table_name}
 use Rattle.plant_requirements.specs.declared.value_rule.ValueRule.{ValueRule}
-use Rattle.plant_requirements.specs.First.{Column, Found, Key, RowFault, Wanted}
-use Rattle.plant_requirements.specs.declared.fault.Key.TheVariants as key
+use Rattle.plant_requirements.specs.First.{Column, Found, RowKey, RowFault, Wanted}
+use Rattle.plant_requirements.specs.declared.fault.RowKey.TheVariants as key
 use Rattle.plant_requirements.specs.declared.fault.Found.TheVariants as found
 use Rattle.plant_requirements.specs.declared.fault.Wanted.TheVariants as wanted
 use Rattle.plant_requirements.specs.declared.value_rule.ValueRule.TheVariants as rule
 
-abbrev pub key_text : Key → List ℕ
+abbrev pub key_text : RowKey → List ℕ
 key_text (key.Id id) = id
 key_text (key.Number n) = decimal n
 key_text (key.Ids a b) = a ++ codes " " ++ b
@@ -37,7 +38,7 @@ found_text (found.Id id) = id
 found_text (found.Number n) = decimal n
 found_text (found.Order s) = job_state_name s
 found_text (found.State s) = batch_state_name s
-found_text (found.Sort s) = kind_code_name s
+found_text (found.MovementKind s) = kind_code_name s
 found_text (found.Integer n) = signed_decimal n
 found_text (found.Text text) = codes "'" ++ text ++ codes "'"
 found_text found.LongText = codes "a text of more than 60 bytes"

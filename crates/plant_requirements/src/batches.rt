@@ -7,7 +7,7 @@ ghost use Rattle.plant_requirements.specs.Batches.{control_of_found, control_ask
 ghost use Rattle.plant_requirements.specs.Batches.{batch_fault, batch_fault_in, control_line_fault};
 ghost use Rattle.plant_requirements.specs.First.{first_reported};
 
-use crate::fault::{Column, Found, RowFault, Table, Wanted};
+use crate::fault::{Column, Found, RowFault, Wanted};
 use crate::first::{RowRule, as_a_whole, first_fault, first_of, in_column, names_none};
 use crate::keys::{control_line_key, id_key};
 use crate::numbered::are_numbered;
@@ -15,6 +15,7 @@ use crate::plan_keys::{
     Batches, BatchesOfOrders, ControlLines, Orders, RecipeLines, Recipes, control_of, has_batch,
     has_one_batch, job_at, lines_of, recipe_at,
 };
+use crate::table_names::Table;
 use grouped_rows::Grouped;
 use plant_base::{
     Amount, BatchRow, ControlLine, Header, Items, Job, MasterLine, Recipe, RecipeLine,

@@ -3,10 +3,11 @@
 ghost use Rattle.std.specs.Prelude.{◌≡◌, IfOk};
 ghost use Rattle.plant_requirements.specs.Catalogue.{class_fault, class_fault_in};
 
-use crate::fault::{Column, RowFault, Table};
+use crate::fault::{Column, RowFault};
 use crate::first::{first_of, names_none};
 use crate::keys::id_key;
 use crate::plan_keys::{Classes, has_class};
+use crate::table_names::Table;
 use grouped_rows::Grouped;
 use plant_base::{Class, Definition};
 use std::alloc::{AllocError, Global};

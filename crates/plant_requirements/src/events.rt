@@ -31,7 +31,7 @@ pub fn kept_progress(batch: &BatchRow) -> Progress
 }
 
 /// How many phases the control recipe of a batch has, as far as a progress counts them.
-#[tactic(auto, using(crate::proofs::CountedTwice::counted_among))]
+#[tactic(auto, using(crate::proofs::CountOfConjunction::counted_among))]
 pub fn phases_of(controls: &Grouped<ControlLines>, batch: Id) -> u8
     ensures { result ≡ min (phases_among controls.now.rows.now batch) greatest_phases }
 {

@@ -5,7 +5,8 @@ ghost use Rattle.plant_requirements.specs.First.{as_a_whole, first_reported, in_
 ghost use Rattle.plant_requirements.specs.First.{or_fault, fault_unless};
 ghost use Rattle.plant_requirements.specs.First.{RowFault as Reported};
 
-use crate::fault::{Column, Found, Key, RowFault, Table, Wanted};
+use crate::fault::{Column, Found, RowFault, RowKey, Wanted};
+use crate::table_names::Table;
 use plant_base::Id;
 use std::alloc::{AllocError, Global};
 
@@ -23,7 +24,7 @@ pub trait RowRule<R> {
 }
 
 /// The fault of the row of this table and key: this is in a column, where that is wanted.
-pub fn in_column(place: (Table, Key), column: Column, found: Found, wanted: Wanted) -> RowFault
+pub fn in_column(place: (Table, RowKey), column: Column, found: Found, wanted: Wanted) -> RowFault
     ensures { result ≡ in_column place column found wanted }
 {
     RowFault {
@@ -36,14 +37,14 @@ pub fn in_column(place: (Table, Key), column: Column, found: Found, wanted: Want
 }
 
 /// The row of this table and key, where the id in its column is that of no row of the other table.
-pub fn names_none(place: (Table, Key), column: Column, id: Id, other: Table) -> RowFault
+pub fn names_none(place: (Table, RowKey), column: Column, id: Id, other: Table) -> RowFault
     ensures { result ≡ names_none place column id other }
 {
     in_column(place, column, Found::Id(id), Wanted::Key(other))
 }
 
 /// The row of this table and key, where this is wanted of it as a whole.
-pub fn as_a_whole(place: (Table, Key), wanted: Wanted) -> RowFault
+pub fn as_a_whole(place: (Table, RowKey), wanted: Wanted) -> RowFault
     ensures { result ≡ as_a_whole place wanted }
 {
     RowFault {

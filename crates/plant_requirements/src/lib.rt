@@ -2,8 +2,8 @@
 //! The rules on classes, recipes, orders, batches and events: what is reported of the first row that breaks them.
 //!
 //! Other rows are looked up by their key.
-//! What the rules on movements, numbers, moments and receipts ask of a row in tables that a desk has written, and the rules on recalls
-//! and falling moments, each as a test.
+//! What the rules on movements, numbers, moments and receipts ask of a row, and the rules on recalls and on the order of moments,
+//! each as a test.
 //!
 //! Other rows are looked up by their key.
 #![tactic(auto)]
@@ -24,12 +24,14 @@ pub mod recalls;
 pub mod receipts;
 pub mod recipes;
 pub mod stock_keys;
+mod table_names;
 mod texts;
 mod times;
 mod value_rule;
 
-pub use fault::{Column, Found, Key, RowFault, Table, Wanted};
+pub use fault::{Column, Found, RowFault, RowKey, Wanted};
 pub use marks::{are_marks, marks_within};
 pub use recalls::are_recalls;
+pub use table_names::{Table, all_tables};
 pub use times::moments_never_fall;
 pub use value_rule::ValueRule;

@@ -4,10 +4,11 @@ ghost use Rattle.std.specs.Prelude.{◌≡◌, IfOk};
 ghost use Rattle.plant_requirements.specs.Orders.{batch_wanted, is_closed, is_left_open};
 ghost use Rattle.plant_requirements.specs.Orders.{is_started, order_fault, order_fault_in};
 
-use crate::fault::{Column, Found, RowFault, Table, Wanted};
+use crate::fault::{Column, Found, RowFault, Wanted};
 use crate::first::{first_of, in_column, names_none};
 use crate::keys::id_key;
 use crate::plan_keys::{BatchesOfOrders, Recipes, batch_of, recipe_at};
+use crate::table_names::Table;
 use grouped_rows::Grouped;
 use plant_base::{BatchRow, Job, JobState, Recipe};
 use plant_recipe::is_size_of;

@@ -1,4 +1,4 @@
-//! The lots and the moments of recalls.
+//! The rules that each recall is of a lot that is there, and that recalls and their liftings have moments in their order.
 
 ghost use Rattle.std.specs.Prelude.{◌≡◌, IfOk};
 ghost use Rattle.plant_requirements.specs.Recalls.{is_lifted_between, is_timely, is_right_recall};

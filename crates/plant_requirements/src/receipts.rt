@@ -6,10 +6,11 @@ ghost use Rattle.plant_base.specs.{is_content, is_content_byte, is_there};
 ghost use Rattle.plant_requirements.specs.Receipts.{receipt_as, receipt_fault, receipt_fault_in};
 ghost use Rattle.plant_requirements.specs.Receipts.{seqs_of};
 
-use crate::fault::{Column, Found, RowFault, Table, Wanted};
+use crate::fault::{Column, Found, RowFault, Wanted};
 use crate::first::{first_of, in_column};
 use crate::keys::id_key;
 use crate::numbering::is_given;
+use crate::table_names::Table;
 use grouped_rows::{Grouped, Grouping};
 use plant_base::Receipt;
 use std::alloc::{AllocError, Global};

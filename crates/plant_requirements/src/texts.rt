@@ -3,29 +3,29 @@ ghost use Rattle.std.specs.Prelude.{◌≡◌, Some};
 ghost use Rattle.plant_requirements.specs.Texts.{fault_text, found_text, key_text, plain_wanted};
 ghost use Rattle.plant_requirements.specs.Texts.{kind_code_name, rule_text, stock_text, wanted_text};
 
-use crate::fault::{Found, Key, RowFault, Wanted};
+use crate::fault::{Found, RowFault, RowKey, Wanted};
 use crate::value_rule::ValueRule;
 use plant_tables_columns::MovementKindCode;
 use std::fmt;
 
-impl fmt::Display for Key {
+impl fmt::Display for RowKey {
     ghost output = { λ key. Some (key_text key) };
 
     fn fmt<W: fmt::Write>(&self, f: &mut fmt::Formatter<W>) -> fmt::Result {
         match self {
-            Key::Id(id) => f.write_str(id.as_str()),
-            Key::Number(number) => write!(f, "{number}"),
-            Key::Ids(first, second) => write!(f, "{} {}", first.as_str(), second.as_str()),
-            Key::Numbers(first, second) => write!(f, "{first} {second}"),
-            Key::IdNumber(id, number) => write!(f, "{} {number}", id.as_str()),
-            Key::IdNumbers(id, first, second) => write!(f, "{} {first} {second}", id.as_str()),
-            Key::NumberIds(number, first, second) => {
+            RowKey::Id(id) => f.write_str(id.as_str()),
+            RowKey::Number(number) => write!(f, "{number}"),
+            RowKey::Ids(first, second) => write!(f, "{} {}", first.as_str(), second.as_str()),
+            RowKey::Numbers(first, second) => write!(f, "{first} {second}"),
+            RowKey::IdNumber(id, number) => write!(f, "{} {number}", id.as_str()),
+            RowKey::IdNumbers(id, first, second) => write!(f, "{} {first} {second}", id.as_str()),
+            RowKey::NumberIds(number, first, second) => {
                 write!(f, "{number} {} {}", first.as_str(), second.as_str())
             }
-            Key::IdNumberId(first, number, second) => {
+            RowKey::IdNumberId(first, number, second) => {
                 write!(f, "{} {number} {}", first.as_str(), second.as_str())
             }
-            Key::Place(place) => write!(f, "number {place} by its key"),
+            RowKey::Place(place) => write!(f, "number {place} by its key"),
         }
     }
 }
@@ -54,7 +54,7 @@ impl fmt::Display for Found {
             Found::Number(number) => write!(f, "{number}"),
             Found::Order(state) => f.write_str(state.name()),
             Found::State(state) => f.write_str(state.name()),
-            Found::Sort(kind_code) => f.write_str(kind_code_name(*kind_code)),
+            Found::MovementKind(kind_code) => f.write_str(kind_code_name(*kind_code)),
             Found::Integer(number) => write!(f, "{number}"),
             Found::Text(text) => write!(f, "'{}'", text.as_str()),
             Found::LongText => f.write_str("a text of more than 60 bytes"),

@@ -3,7 +3,7 @@ use Rattle.std.proofs.Common.{◌≡◌, ◌∙◌, ◌<◌, Bool, true, false, 
 use Rattle.std.proofs.lemmas.Bool.{false≢true}
 use Rattle.std.proofs.lemmas.Bool.Decides.{nat_tests}
 use Rattle.plant_base.specs.{greatest_seq, State, lot_at, place_at, Command, Part, Refusal}
-use Rattle.plant_base.specs.declared.command.Command.TheVariants as body
+use Rattle.plant_base.specs.declared.commands.Command.TheVariants as body
 use Rattle.plant_recipe.specs.declared.progress.Progress.{Progress}
 use Rattle.plant_view.specs.{refuse, at_limit}
 use Rattle.plant_rules_production.specs.{refuse_turn}

@@ -4,7 +4,7 @@ use Rattle.plant_base.specs.{content_of, State, same, Envelope, Receipt, Refusal
 use Rattle.plant_base.specs.declared.refusal.Refusal.TheVariants.{BadForm, RefReused}
 use Rattle.plant_view.proofs.ListLemmas.{same_itself}
 use Rattle.plant_view.specs.{refuse}
-use Rattle.plant_rules.specs.{IsRepeated, is_whole, wrong, wrong_there, kept_for, decoded}
+use Rattle.plant_rules.specs.{IsRepeated, is_well_formed_body, wrong, wrong_there, kept_for, decoded}
 use Rattle.plant_rules.specs.{checked, checked_by, item_of}
 use Rattle.plant_rules.specs.declared.checking.Checked.TheVariants.{Accepted, Refused}
 
@@ -22,7 +22,7 @@ decoded_same None content n rest is = absurd is
 decoded_same (Some r) content n rest is = ap (λ b. if b then None else Some RefReused) (ap (λ c. same c content) is.1 ∙ same_itself content)
 
 -- a command that was accepted before fails no condition
-pub repeat_passes : (s : State) (e : Envelope) (n : ℕ) → is_whole e.body ≡ true → IsRepeated (content_of e) n (kept_for s e) → wrong s e ≡ None
+pub repeat_passes : (s : State) (e : Envelope) (n : ℕ) → is_well_formed_body e.body ≡ true → IsRepeated (content_of e) n (kept_for s e) → wrong s e ≡ None
 unfolding wrong
 repeat_passes s e n whole is =
     ap (λ b. refuse (not b) BadForm (decoded (kept_for s e) (content_of e) (wrong_there s e))) whole

@@ -2,7 +2,7 @@
 use Rattle.std.proofs.Common.{◌≡◌, List, [], ◌∷◌, ◌++◌, Option, Some, None, refl}
 use Rattle.plant_base.specs.{EdgeRow, Movement}
 use Rattle.plant_view.specs.{edge_row_of, changed, changed_all, RowChange}
-use Rattle.plant_view.specs.Tables.{Tables}
+use Rattle.plant_view.specs.TableRows.{Tables}
 use Rattle.plant_view.proofs.EdgeRowOrder.{with_edge}
 use Rattle.plant_rules.specs.{edge_changes, edge_change}
 

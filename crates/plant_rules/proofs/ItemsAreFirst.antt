@@ -2,7 +2,7 @@
 use Rattle.std.proofs.Common.{◌≡◌, ℕ, ◌+◌, Bool, true, false, cond, List, [], ◌∷◌, ◌++◌, length, Some, None, refl, ap, arith, not, if◌then◌else◌}
 use Rattle.std.specs.List.{AllByRecursion, position_from}
 use Rattle.plant_base.specs.{State, AddRecipe, ImportOrders, Merge, RecipeLine, Refusal}
-use Rattle.plant_base.specs.declared.command.Command.TheVariants as body
+use Rattle.plant_base.specs.declared.commands.Command.TheVariants as body
 use Rattle.plant_view.specs.{is_known}
 use Rattle.plant_rules.specs.{first_failing, is_bad_order, is_bad_part, is_for_a_line, item_of, IsFirstFailing}
 

@@ -10,7 +10,7 @@ use Rattle.plant_view.proofs.ListLemmas.{found_passes, same_key, and_left, and_r
 use Rattle.plant_stock.specs.{entered, left}
 use Rattle.plant_view.specs.{refuse}
 use Rattle.plant_rules.specs.{wrong_parts, text_of, found_of, wrong_part}
-use Rattle.plant_rules.specs.declared.parts.Found.{Found}
+use Rattle.plant_rules.specs.declared.parts.FoundPart.{FoundPart}
 use Rattle.plant_view.proofs.CommandsPreserveInvariant.{passed, is_there}
 
 -- ---- parts of different sublots
@@ -108,7 +108,7 @@ parts_fail s (p ∷ ps) rest r e = elim (is_none (lot_at s p.lot)) as (λ b. ref
 -- ---- one part after the other
 
 -- a part that is there, after those before it
-pub next_part : (s : State) (ps : List Part) (i : ℕ) (p : Part) (found : List Found) (f : Found) → i < length ps → p ≡ get_or ps i p → ((rest : Option Refusal) → wrong_part s p rest ≡ rest) × (f ≡ found_of s p)
+pub next_part : (s : State) (ps : List Part) (i : ℕ) (p : Part) (found : List FoundPart) (f : FoundPart) → i < length ps → p ≡ get_or ps i p → ((rest : Option Refusal) → wrong_part s p rest ≡ rest) × (f ≡ found_of s p)
     → (wrong_parts s (drop i ps) None ≡ wrong_parts s ps None) × (found ≡ map (found_of s) (take i ps))
     → (wrong_parts s (drop (i + 1) ps) None ≡ wrong_parts s ps None) × (found ++ f ∷ [] ≡ map (found_of s) (take (i + 1) ps))
 next_part s ps i p found f l at is h =

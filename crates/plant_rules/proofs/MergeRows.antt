@@ -8,7 +8,7 @@ use Rattle.plant_stock.specs.{entered, left, entering, leaving, total_of}
 use Rattle.plant_stock.proofs.StockAfterMovement.{entered_push, left_push}
 use Rattle.plant_view.specs.{sublot_standing, tables_of, changed, changed_all, sublot_order, sublot_row, edge_rows}
 use Rattle.plant_view.specs.DecisionInvariant.{DecisionInvariant}
-use Rattle.plant_view.specs.Tables.{Tables}
+use Rattle.plant_view.specs.TableRows.{Tables}
 use Rattle.plant_view.specs.declared.change.RowChange.TheVariants as row
 use Rattle.plant_rules.specs.{part_line, part_lines, def_of_parts, merge, text_of, found_of, found_rows, total_found, def_found, merge_rows, is_some_blocked}
 use Rattle.plant_rules.proofs.MergeKeepsMarks.{marks_merged}

@@ -2,13 +2,13 @@
 use Rattle.std.proofs.Common.{◌≡◌, ◌∙◌, ◌+◌, ◌<◌, ℕ, Bool, true, false, List, [], ◌∷◌, ◌++◌, Some, None, refl, sym, ap, subst, nat_lt, not, if◌then◌else◌, Result, Ok, Err, IfOk}
 use Rattle.plant_base.specs.{greatest_seq, State, same, newest_schema, content_of, stamp_of, Command, Envelope, Receipt, Stamp}
 use Rattle.plant_base.specs.declared.refusal.Refusal.TheVariants.{BadForm, MomentBack, RefReused}
-use Rattle.plant_base.specs.declared.command.Command.TheVariants as body
+use Rattle.plant_base.specs.declared.commands.Command.TheVariants as body
 use Rattle.plant_view.proofs.ListLemmas.{same_id}
 use Rattle.plant_view.specs.{refuse, tables_of, changed, changed_all, Decides, Decision}
 use Rattle.plant_view.proofs.CommandsPreserveInvariant.{passed}
 use Rattle.plant_view.specs.declared.change.RowChange.TheVariants as row
 use Rattle.plant_view.specs.declared.change.Decision.TheVariants.{Change, Refused, Repeat}
-use Rattle.plant_rules.specs.{is_whole, wrong, wrong_body, wrong_there, decoded, kept_among, kept_for, step, step_body, unless_refused, noted, taken, IsRepeated, IsDecision, IsNoted, again_of}
+use Rattle.plant_rules.specs.{is_well_formed_body, wrong, wrong_body, wrong_there, decoded, kept_among, kept_for, step, step_body, unless_refused, noted, taken, IsRepeated, IsDecision, IsNoted, again_of}
 use Rattle.plant_rules.proofs.EdgeRowChanges.{changed_append}
 use Rattle.plant_rules.proofs.AcceptedHasNumber.{number_left}
 
@@ -33,7 +33,7 @@ blind_wrong s _ rs = refl
 -- ---- decisions
 
 -- after the first condition a command goes on where its reference isn't kept
-pub wrong_new : (s : State) (e : Envelope) → is_whole e.body ≡ true → kept_for s e ≡ None → wrong s e ≡ wrong_there s e
+pub wrong_new : (s : State) (e : Envelope) → is_well_formed_body e.body ≡ true → kept_for s e ≡ None → wrong s e ≡ wrong_there s e
 unfolding wrong
 wrong_new s e whole new = (λ i. refuse (not (whole i)) BadForm (decoded (new i) (content_of e) (wrong_there s e)))
 
@@ -42,7 +42,7 @@ unfolding step
 step_new s e new fine = λ i. unless_refused (fine i) s (taken (new i) s e)
 
 -- a decision with no receipt to be written
-pub decided_plain : (s : State) (e : Envelope) → is_whole e.body ≡ true → e.reference ≡ None → (d : Decision) → Decides (wrong_there s e) s (step_body s (stamp_of e) e.body) d → IsDecision s e d
+pub decided_plain : (s : State) (e : Envelope) → is_well_formed_body e.body ≡ true → e.reference ≡ None → (d : Decision) → Decides (wrong_there s e) s (step_body s (stamp_of e) e.body) d → IsDecision s e d
 decided_plain s e whole unnamed d = by d
   where
     new : kept_for s e ≡ None
@@ -56,12 +56,12 @@ decided_plain s e whole unnamed d = by d
     by (Repeat n) h = absurd h
 
 -- a refusal before the reference
-pub decided_unformed : (s : State) (e : Envelope) → is_whole e.body ≡ false → IsDecision s e (Refused BadForm)
+pub decided_unformed : (s : State) (e : Envelope) → is_well_formed_body e.body ≡ false → IsDecision s e (Refused BadForm)
 unfolding wrong
 decided_unformed s e unformed = λ i. refuse (not (unformed i)) BadForm (decoded (kept_for s e) (content_of e) (wrong_there s e))
 
 -- a decision with its receipt
-pub decided_noted : (s : State) (e : Envelope) (reference : List ℕ) (number : ℕ) → is_whole e.body ≡ true → e.reference ≡ Some reference → kept_for s e ≡ None → (s.seq < greatest_seq → number ≡ s.seq + 1)
+pub decided_noted : (s : State) (e : Envelope) (reference : List ℕ) (number : ℕ) → is_well_formed_body e.body ≡ true → e.reference ≡ Some reference → kept_for s e ≡ None → (s.seq < greatest_seq → number ≡ s.seq + 1)
     → (d made : Decision) → Decides (wrong_there s e) s (step_body s (stamp_of e) e.body) d → IsNoted number reference (content_of e) d made → IsDecision s e made
 decided_noted s e reference number whole named new numbered d made = by d
   where
@@ -84,7 +84,7 @@ decided_noted s e reference number whole named new numbered d made = by d
     by (Repeat n) h is = absurd h
 
 -- a command whose reference is kept
-pub decided_again : (s : State) (e : Envelope) (r : Receipt) → is_whole e.body ≡ true → kept_for s e ≡ Some r → IsDecision s e (again_of r (content_of e))
+pub decided_again : (s : State) (e : Envelope) (r : Receipt) → is_well_formed_body e.body ≡ true → kept_for s e ≡ Some r → IsDecision s e (again_of r (content_of e))
 unfolding wrong
 decided_again s e r whole kept = by (same r.content (content_of e)) refl
   where

@@ -7,11 +7,11 @@ use Rattle.plant_base.specs.declared.states.RecipeState.TheVariants.{Approved, W
 use Rattle.plant_base.specs.declared.refusal.Refusal.TheVariants.{BadForm, MomentBack}
 use Rattle.plant_base.specs.declared.states.Word.TheVariants.{Done}
 use Rattle.plant_base.specs.declared.states.Event.TheVariants as event
-use Rattle.plant_base.specs.declared.command.Command.TheVariants as body
+use Rattle.plant_base.specs.declared.commands.Command.TheVariants as body
 use Rattle.plant_view.proofs.ListLemmas.{all_weaker, and_left, and_right, each_fails, not_false}
 use Rattle.plant_stock.specs.{entered, left}
 use Rattle.plant_view.specs.{sublot_standing}
-use Rattle.plant_rules.specs.{is_own_product, is_whole, wrong, wrong_body, wrong_there, decoded, kept_for, step, step_body, unless_refused, noted, taken}
+use Rattle.plant_rules.specs.{is_own_product, is_well_formed_body, wrong, wrong_body, wrong_there, decoded, kept_for, step, step_body, unless_refused, noted, taken}
 use Rattle.plant_view.specs.DecisionInvariant.{DecisionInvariant}
 use Rattle.plant_trace.proofs.AddingKeepsAcyclic.{first_edge}
 use Rattle.plant_trace.proofs.LeadsIsReach.{none_in}
@@ -35,7 +35,7 @@ amount_small n e = grind (arith, nat_tests)
 abbrev HasStamp : Stamp → Type 0
 HasStamp t = (is_moment t.at ≡ true) × (is_text t.by ≡ true) × (is_text t.note ≡ true)
 
-sound_body : (s : State) → DecisionInvariant s → (t : Stamp) (c : Command) → HasStamp t → HasBodyValues c → is_whole c ≡ true → wrong_body s c ≡ None → DecisionInvariant (step_body s t c)
+sound_body : (s : State) → DecisionInvariant s → (t : Stamp) (c : Command) → HasStamp t → HasBodyValues c → is_well_formed_body c ≡ true → wrong_body s c ≡ None → DecisionInvariant (step_body s t c)
 sound_body s sound t (body.AddClass c) stamp values formed fine = add_class_preserves_invariant s sound t c
 sound_body s sound t (body.AddDefinition c) stamp values formed fine = add_definition_preserves_invariant s sound t c (is_there _ (passed _ _ _ fine).0)
 sound_body s sound t (body.Receive c) stamp values formed fine =
@@ -117,7 +117,7 @@ unless_consistent None s next sound h = h refl
 unless_consistent (Some r) s next sound h = sound
 
 -- what a command does that isn't refused
-pub plain_preserves_invariant : (s : State) → DecisionInvariant s → (e : Envelope) → HasValues e → is_whole e.body ≡ true → wrong_there s e ≡ None → DecisionInvariant (step_body s (stamp_of e) e.body)
+pub plain_preserves_invariant : (s : State) → DecisionInvariant s → (e : Envelope) → HasValues e → is_well_formed_body e.body ≡ true → wrong_there s e ≡ None → DecisionInvariant (step_body s (stamp_of e) e.body)
 plain_preserves_invariant s sound e values formed fine =
     let moment = passed (nat_lt e.at s.at) MomentBack (wrong_body s e.body) fine in
     sound_body s sound (stamp_of e) e.body (values.at, values.by, values.note) values.body formed moment.1
@@ -130,10 +130,10 @@ noted_consistent (Some reference) c s sound = with_bars s sound s.seq s.at s.hol
 pub step_preserves_invariant : (s : State) → DecisionInvariant s → (e : Envelope) → HasValues e → DecisionInvariant (step s e)
 unfolding step wrong
 step_preserves_invariant s sound e values = unless_consistent (wrong s e) s (taken (kept_for s e) s e) sound (λ fine.
-    let formed = passed (not (is_whole e.body)) BadForm (decoded (kept_for s e) (content_of e) (wrong_there s e)) fine in
+    let formed = passed (not (is_well_formed_body e.body)) BadForm (decoded (kept_for s e) (content_of e) (wrong_there s e)) fine in
     by (kept_for s e) (not_false _ formed.0) formed.1)
   where
-    by : (k : Option Receipt) → is_whole e.body ≡ true → decoded k (content_of e) (wrong_there s e) ≡ None → DecisionInvariant (taken k s e)
+    by : (k : Option Receipt) → is_well_formed_body e.body ≡ true → decoded k (content_of e) (wrong_there s e) ≡ None → DecisionInvariant (taken k s e)
     by None formed fine = noted_consistent e.reference (content_of e) _ (plain_preserves_invariant s sound e values formed fine)
     by (Some r) formed fine = sound
 

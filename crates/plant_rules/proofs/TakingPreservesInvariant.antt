@@ -10,7 +10,7 @@ use Rattle.plant_view.specs.{edges_of, IsConsistentGenealogy, sublot_standing, I
 use Rattle.plant_view.specs.DecisionInvariant.{DecisionInvariant}
 use Rattle.plant_view.proofs.GenealogyAfterMovement.{descent_grows, descent_stays, keeps_into_batch}
 use Rattle.plant_view.proofs.CommandsPreserveInvariant.{taking_covered}
-use Rattle.plant_rules.proofs.TakingRows.{Takes, scrap_takes, consumption_takes}
+use Rattle.plant_rules.proofs.StockOutRows.{Takes, scrap_takes, consumption_takes}
 
 consistent_taken : (kind : MovementKind) → Takes kind → (s : State) → DecisionInvariant s → (t : Stamp) (lot : List ℕ) (sub amount : ℕ) → is_some (place_at s lot sub) ≡ true → amount ≤ sublot_standing s lot sub
     → IsConsistentGenealogy s.batches (taken_as s t kind lot sub amount).movements → DecisionInvariant (taken_as s t kind lot sub amount)

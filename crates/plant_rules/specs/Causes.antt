@@ -3,7 +3,7 @@ use Rattle.std.specs.Prelude.{ℕ, Bool, false, not, ◌||◌, List, Option, Som
 use Rattle.std.specs.List.{position_from}
 use Rattle.plant_base.specs.{State, same, definition_at, recipe_at, job_at, lot_at, place_at, AddRecipe, Command, Envelope, OrderRow, Part, Refusal}
 use Rattle.plant_base.specs.declared.refusal.Refusal.TheVariants.{UnknownDefinition, UnknownRecipe, UnknownLot, UnknownSublot, TooLittle, Held, OrderConflict, SizeOutOfRange, MixedMaterials, Recalled}
-use Rattle.plant_base.specs.declared.command.Command.TheVariants as body
+use Rattle.plant_base.specs.declared.commands.Command.TheVariants as body
 use Rattle.plant_view.specs.{is_known, is_size_of_recipe, is_blocked, sublot_standing, is_held}
 use Rattle.plant_rules_production.specs.{conflicts}
 use Rattle.plant_rules.specs.Merging.{def_at, def_of_parts}

@@ -2,7 +2,7 @@
 use Rattle.std.specs.Prelude.{◌≡◌, ℕ, ◌+◌, Bool, true, false, not, List, ◌∷◌, ◌++◌, length, Some}
 use Rattle.std.specs.List.{AllByRecursion}
 use Rattle.plant_base.specs.{State, AddRecipe, ImportOrders, Merge, RecipeLine, Refusal}
-use Rattle.plant_base.specs.declared.command.Command.TheVariants as body
+use Rattle.plant_base.specs.declared.commands.Command.TheVariants as body
 use Rattle.plant_view.specs.{is_known}
 use Rattle.plant_rules.specs.Causes.{is_bad_order, is_bad_part, item_of}
 

@@ -6,7 +6,7 @@ ghost use Rattle.plant_rules.specs.FirstItems.{LinesAreFirst, OrdersAreFirst, Pa
 /// A command that is refused has an item that is the cause exactly where the refusal is for one: of an import for an unknown recipe, a
 /// conflict or a size; of a merge for a part that isn't there, holds too little, is held, is of another material or recalled; of a recipe
 /// for a definition that a line names.
-#[tactic(auto, using(crate::proofs::CausesAreTold::causes_are_told))]
+#[tactic(auto, using(crate::proofs::CausesAreReported::causes_are_told))]
 pub fn causes_law()
     ensures { CausesAreTold }
 {}

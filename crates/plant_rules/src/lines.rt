@@ -3,7 +3,7 @@ ghost use Rattle.std.specs.Prelude.{◌≡◌, IfOk, not};
 ghost use Rattle.plant_trace.specs.ReadOnly.{ReadOnly};
 ghost use Rattle.plant_view.specs.{is_known};
 ghost use Rattle.plant_rules.specs.Causes.{first_failing, is_for_a_line, item_of};
-ghost use Rattle.plant_base.specs.declared.command.Command.TheVariants as body;
+ghost use Rattle.plant_base.specs.declared.commands.Command.TheVariants as body;
 
 use plant_base::{AddRecipe, RecipeLine, Refusal};
 use plant_view::{View, ViewFault, lookup};

@@ -8,7 +8,7 @@ use Rattle.plant_base.specs.declared.rows.RecipeLine.TheVariants.{In, Out, Param
 use Rattle.plant_view.proofs.ListLemmas.{found_passes, found_keeps, same_id, same_key, all_two, each_fails, all_mapped, each_passes}
 use Rattle.plant_recipe.specs.{fits, is_well_formed, is_size_of, line_scaled, scales_to_nothing, control_of}
 use Rattle.plant_recipe.proofs.RecipeLines.{control_fits}
-use Rattle.plant_view.specs.{headers_of, header_among, lines_among, IsWholeRecipe, orders_of, order_among, is_size_of_some, control_among, control_of_header, control_of_order, IsConsistentBatch}
+use Rattle.plant_view.specs.{headers_of, header_among, lines_among, IsConsistentRecipe, orders_of, order_among, is_size_of_some, control_among, control_of_header, control_of_order, IsConsistentBatch}
 use Rattle.plant_view.specs.DecisionInvariant.{DecisionInvariant}
 
 -- the lines are the control recipe of a well-formed recipe for one of its sizes
@@ -27,7 +27,7 @@ module _ (s : State) (sound : DecisionInvariant s) where
   made_by_header o control (Some h) found sized e =
       let test = λ (x : Header). same x.recipe o.recipe && x.version == o.version in
       let keys = same_key h.recipe o.recipe h.version o.version (found_passes test (headers_of s.recipes) h found) in
-      let whole = found_keeps (IsWholeRecipe s.definitions s.master_lines) test (headers_of s.recipes) h sound.recipes.whole found in
+      let whole = found_keeps (IsConsistentRecipe s.definitions s.master_lines) test (headers_of s.recipes) h sound.recipes.whole found in
       let own : lines_among s.master_lines o.recipe o.version ≡ lines_among s.master_lines h.recipe h.version = λ i. lines_among s.master_lines (sym keys.0 i) (sym keys.1 i) in
       record {
         header = h;

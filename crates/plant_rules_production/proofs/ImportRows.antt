@@ -8,7 +8,7 @@ use Rattle.plant_view.specs.declared.change.Decision.TheVariants.{Change, Refuse
 use Rattle.plant_view.specs.declared.change.RowChange.TheVariants as row
 use Rattle.plant_rules_production.specs.declared.orders.FoundOrder.{FoundOrder}
 use Rattle.plant_rules_production.specs.{conflicts, opened, new_orders, found_order, is_unplanned, is_conflict, is_oversize, is_new, wrong_found_orders, wrong_import_orders, import_orders, import_rows}
-use Rattle.plant_view.specs.Tables.{Tables}
+use Rattle.plant_view.specs.TableRows.{Tables}
 use Rattle.plant_view.proofs.ListLemmas.{any_map}
 
 -- ---- rows

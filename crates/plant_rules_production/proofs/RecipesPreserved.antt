@@ -7,7 +7,7 @@ use Rattle.plant_base.specs.{same, put, definition_order, recipe_order, master_l
 use Rattle.plant_base.specs.declared.rows.RecipeLine.TheVariants.{In, Out, Parameter, Phase}
 use Rattle.plant_view.proofs.ListLemmas.{found_passes, all_weaker, sorted_put, found_put, found_same, put_there, put_kept, same_key, key_itself, id_still, none_left, each_passes, sorted_mapped, find_mapped, all_put_apart, all_put_all, sorted_put_all, filter_past_all, filter_new_all, all_numbered, map_numbered, sorted_numbered}
 use Rattle.plant_recipe.specs.{is_well_formed, control_of}
-use Rattle.plant_view.specs.{is_defined, is_known, master_line, numbered, put_all, headers_of, header_among, rows_among, lines_among, IsWholeRecipe, AreConsistentRecipes, orders_of, order_among, is_size_of_some, AreConsistentOrders, control_of_header, control_of_order, AreConsistentBatches}
+use Rattle.plant_view.specs.{is_defined, is_known, master_line, numbered, put_all, headers_of, header_among, rows_among, lines_among, IsConsistentRecipe, AreConsistentRecipes, orders_of, order_among, is_size_of_some, AreConsistentOrders, control_of_header, control_of_order, AreConsistentBatches}
 use Rattle.plant_rules_production.specs.Recipes.{with_state}
 use Rattle.plant_view.proofs.RowKeys.{header_order, header_order_total, recipe_order_total, master_line_order_total, numbered_tie, numbered_test, master_recipe_tied, header_test, keys_apart, master_rises}
 
@@ -61,13 +61,13 @@ pub recipes_moved : (definitions : List Definition) (recipes moved : List Recipe
 recipes_moved definitions recipes moved rows kept sorted sound = record {
   sorted = sorted;
   rows_sorted = sound.rows_sorted;
-  whole = subst (AllByRecursion (IsWholeRecipe definitions rows)) (sym kept) sound.whole;
+  whole = subst (AllByRecursion (IsConsistentRecipe definitions rows)) (sym kept) sound.whole;
   listed = subst (λ hs. AllByRecursion (λ (l : MasterLine). is_some (header_among hs l.recipe l.version) ≡ true) rows) (sym kept) sound.listed;
 }
 
 -- ---- a recipe whose lines are as before
 
-whole_alike : (definitions : List Definition) (rows more : List MasterLine) (h : Header) → rows_among more h.recipe h.version ≡ rows_among rows h.recipe h.version → IsWholeRecipe definitions rows h → IsWholeRecipe definitions more h
+whole_alike : (definitions : List Definition) (rows more : List MasterLine) (h : Header) → rows_among more h.recipe h.version ≡ rows_among rows h.recipe h.version → IsConsistentRecipe definitions rows h → IsConsistentRecipe definitions more h
 whole_alike definitions rows more h e w =
     let line = λ (l : MasterLine). l.line in
     record {
@@ -131,7 +131,7 @@ module _ (definitions : List Definition) (recipes : List Recipe) (rows : List Ma
   recipes_added values line_values version formed product known =
       let h = r.header in
       let test = λ (q : Header). same q.recipe h.recipe && q.version == h.version in
-      let this : IsWholeRecipe definitions more h = record {
+      let this : IsConsistentRecipe definitions more h = record {
         version = version;
         values = values;
         line_values = subst (AllByRecursion HasLineValues) (sym its_lines) line_values;
@@ -143,13 +143,13 @@ module _ (definitions : List Definition) (recipes : List Recipe) (rows : List Ma
       let listed = all_put_all master_line_order master_line_order_total (λ (l : MasterLine). is_some (header_among headed l.recipe l.version) ≡ true) (numbered (master_line h) 1 lines) rows
       (all_numbered (master_line h) (λ (l : MasterLine). is_some (header_among headed l.recipe l.version) ≡ true) (λ k l. found_put header_order h test (headers_of recipes) (key_itself h.recipe h.version)) 1 lines)
       (all_weaker _ _ (λ (l : MasterLine) there. ap is_some (header_stays l.recipe l.version there) ∙ there) rows sound.listed) in
-      let others : (q : Header) → IsWholeRecipe definitions rows q → is_eq (header_order h q) ≡ false → IsWholeRecipe definitions more q = λ q w apart. whole_alike definitions rows more q (other_rows q.recipe q.version (numbered_test h.recipe h.version q.recipe q.version ∙ apart)) w in
-      let whole = all_put_apart header_order header_order_total h (IsWholeRecipe definitions more) (headers_of recipes) (headers_sorted recipes sound.sorted) this
+      let others : (q : Header) → IsConsistentRecipe definitions rows q → is_eq (header_order h q) ≡ false → IsConsistentRecipe definitions more q = λ q w apart. whole_alike definitions rows more q (other_rows q.recipe q.version (numbered_test h.recipe h.version q.recipe q.version ∙ apart)) w in
+      let whole = all_put_apart header_order header_order_total h (IsConsistentRecipe definitions more) (headers_of recipes) (headers_sorted recipes sound.sorted) this
       (all_weaker _ _ others (headers_of recipes) sound.whole) in
       record {
         sorted = sorted_put recipe_order recipe_order_total r recipes sound.sorted;
         rows_sorted = sorted_put_all master_line_order master_line_order_total (numbered (master_line h) 1 lines) rows sound.rows_sorted;
-        whole = subst (AllByRecursion (IsWholeRecipe definitions more)) (sym (headers_put recipes r)) whole;
+        whole = subst (AllByRecursion (IsConsistentRecipe definitions more)) (sym (headers_put recipes r)) whole;
         listed = subst (λ hs. AllByRecursion (λ (l : MasterLine). is_some (header_among hs l.recipe l.version) ≡ true) more) (sym (headers_put recipes r)) listed;
       }
 

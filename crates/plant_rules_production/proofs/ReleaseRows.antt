@@ -9,11 +9,11 @@ use Rattle.plant_base.specs.declared.states.JobState.TheVariants.{Released}
 use Rattle.plant_view.proofs.ListLemmas.{put_map, all_weaker, found_passes, found_keeps, same_key, id_total, all_of, none_left, find_mapped, filter_past_all, all_numbered}
 use Rattle.plant_recipe.specs.{is_phase, is_well_formed, is_size_of, control_of, opening_progress, progress_after}
 use Rattle.plant_view.specs.declared.change.RowChange.TheVariants as row
-use Rattle.plant_view.specs.{refuse, at_limit, control_line, numbered, put_all, headers_of, header_among, orders_of, order_among, is_size_of_some, IsWholeRecipe, is_batch_among, tables_of, changed, changed_all, row_at, batch_row, batch_row_order, phases_among, events_among}
+use Rattle.plant_view.specs.{refuse, at_limit, control_line, numbered, put_all, headers_of, header_among, orders_of, order_among, is_size_of_some, IsConsistentRecipe, is_batch_among, tables_of, changed, changed_all, row_at, batch_row, batch_row_order, phases_among, events_among}
 use Rattle.plant_rules_production.specs.{is_state, is_in, is_open, is_waiting, recipe_of, control_of_recipe, control_of_job, lines_in, wrong_release, released_batch, release, release_rows}
 use Rattle.plant_rules_production.specs.Orders.{with_state}
 use Rattle.plant_view.specs.DecisionInvariant.{DecisionInvariant}
-use Rattle.plant_view.specs.Tables.{Tables}
+use Rattle.plant_view.specs.TableRows.{Tables}
 use Rattle.plant_view.proofs.HeadersFound.{header_found}
 use Rattle.plant_view.proofs.RowKeys.{control_line_order_total, control_batch_tied, ids_apart}
 
@@ -96,7 +96,7 @@ module _ (s : State) (c : Release) (job : Job) (r : Recipe) (rows : List MasterL
       let test = λ (h : Header). same h.recipe o.recipe && h.version == o.version in
       let header = header_found s.recipes o.recipe o.version ∙ ap (option_map (λ (x : Recipe). x.header)) found in
       let keys = same_key r.header.recipe o.recipe r.header.version o.version (found_passes test headers r.header header) in
-      let whole = found_keeps (IsWholeRecipe s.definitions s.master_lines) test headers r.header sound.recipes.whole header in
+      let whole = found_keeps (IsConsistentRecipe s.definitions s.master_lines) test headers r.header sound.recipes.whole header in
       let sized = found_keeps (λ (x : OrderRow). is_size_of_some (header_among headers x.recipe x.version) x.size ≡ true) (λ (x : OrderRow). same x.order c.order) (orders_of s.jobs) o sound.production.orders.sized (order_found s c.order job known) in (
         ap (λ ls. is_well_formed r.header (map (λ (l : MasterLine). l.line) ls)) (listed ∙ (λ i. master_lines_of s (sym keys.0 i) (sym keys.1 i))) ∙ whole.formed,
         ap (λ h. is_size_of_some h o.size) (sym header) ∙ sized,

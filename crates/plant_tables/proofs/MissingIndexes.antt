@@ -8,9 +8,9 @@ use Rattle.sqlite.specs.Schema.{Schema}
 use Rattle.sqlite.specs.State.{State}
 use Rattle.sqlite_rules.specs.Lists.{Has}
 use Rattle.plant_base.specs.{newest_schema}
-use Rattle.plant_view.specs.Tables.{Tables}
-use Rattle.sql_tables.specs.{CreateIndexStatement, Fault, TableDef, IndexDef, AreOf, AreCreateIndexStatements, MakesIndexes, IsSettled, IsUndone}
-use Rattle.sql_tables.proofs.IndexesInTurn.{placed}
+use Rattle.plant_view.specs.TableRows.{Tables}
+use Rattle.sql_tables.specs.{CreateIndexStatement, StoreFault, TableDef, IndexDef, AreOf, AreCreateIndexStatements, MakesIndexes, IsSettled, IsUndone}
+use Rattle.sql_tables.proofs.CreateIndexes.{placed}
 use Rattle.plant_tables.specs.{desk_table_defs, desk_indexes, IsAt, FailureLeaves, contents_of, HoldsTables, missing_in, is_missing, lacking, CreateLacking, AreAllTaken, CreatesIndexes, AddsMissing, CreatesMissingIndexes}
 use Rattle.plant_tables.proofs.StatementsOnDesk.{sql_of}
 use Rattle.plant_tables.proofs.DeskStatements.{indexes_of_desk}
@@ -69,7 +69,7 @@ missing_has schema (x ∷ indexes) index (inr more) free =
 
 -- ---- what is gained
 
-pub gained : {X : Type 0} (texts : List (List ℕ)) (old new : State) (r : Result X Fault) → OnOk r (MakesIndexes texts old new) → OnOk r (CreatesIndexes texts old.now new.now)
+pub gained : {X : Type 0} (texts : List (List ℕ)) (old new : State) (r : Result X StoreFault) → OnOk r (MakesIndexes texts old new) → OnOk r (CreatesIndexes texts old.now new.now)
 gained texts old new r = on_ok_weaker r (λ made indexes of_these says t holds.
     let adds = made desk_table_defs indexes of_these says in
     (adds.has_rows (contents_of t) holds, adds.others (contents_of t) holds, adds.made (contents_of t) holds))
@@ -106,7 +106,7 @@ module _ (old new : State) (texts : List CreateIndexStatement) (makes : CreateLa
   leads : (db : Database) → CreatesIndexes (map sql_of texts) old.now db → HoldsTables db t × AddsMissing old.now db
   leads db creates = creates_missing_indexes old.now db texts makes creates t at.holds
 
-  pub created_at : (r : Result (Unit {0}) Fault) → OnOk r (IsSettled new × CreatesIndexes (map sql_of texts) old.now new.now) → OnErr r (IsUndone (CreatesIndexes (map sql_of texts)) old new)
+  pub created_at : (r : Result (Unit {0}) StoreFault) → OnOk r (IsSettled new × CreatesIndexes (map sql_of texts) old.now new.now) → OnErr r (IsUndone (CreatesIndexes (map sql_of texts)) old new)
       → MatchResult r (λ _. IsAt new t × AddsMissing old.now new.now) (λ _. FailureLeaves old new t t)
   created_at (Ok x) done undone = let it = leads new.now done.1 in (record { settled = done.0; holds = it.0 }, it.1)
-  created_at (Err e) done undone = cut_at newest_schema (CreatesIndexes (map sql_of texts)) old new t (λ db creates. let it = leads db creates in (it.0, it.1.others)) {X = Unit {0}} {E = Fault} newest_schema t at (Err e) undone
+  created_at (Err e) done undone = cut_at newest_schema (CreatesIndexes (map sql_of texts)) old new t (λ db creates. let it = leads db creates in (it.0, it.1.others)) {X = Unit {0}} {E = StoreFault} newest_schema t at (Err e) undone

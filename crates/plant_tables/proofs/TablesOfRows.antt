@@ -3,7 +3,7 @@ use Rattle.std.proofs.Common.{◌≡◌, refl, ap, ◌∙◌, ◌≤◌, true, L
 use Rattle.std.specs.List.{AllByRecursion, cons_option}
 use Rattle.plant_view.proofs.ListLemmas.{all_weaker, all_mapped}
 use Rattle.plant_base.specs.{is_there}
-use Rattle.plant_view.specs.Tables.{Tables}
+use Rattle.plant_view.specs.TableRows.{Tables}
 use Rattle.plant_tables_columns.specs.{movement_from, booked_of, recall_from, stated_of, HasMasterLineValues, HasControlLineValues, HasMovementRowValues, HasReceiptRowValues, HasValidValues}
 use Rattle.plant_tables.specs.{tables_in, rows_in, AreWhole}
 use Rattle.plant_tables_columns.proofs.MovementColumns.{movement_again}

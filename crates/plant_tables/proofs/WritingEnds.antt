@@ -6,7 +6,7 @@ use Rattle.sqlite.specs.Effect.{Database}
 use Rattle.sqlite.specs.State.{State}
 use Rattle.plant_base.specs.{newest_schema}
 use Rattle.plant_view.specs.{changed_all, RowChange}
-use Rattle.plant_view.specs.Tables.{Tables}
+use Rattle.plant_view.specs.TableRows.{Tables}
 use Rattle.sql_tables.specs.{KeepsOtherTables, IsSettled, IsUndone}
 use Rattle.sql_tables.specs.Moves.{Moves}
 use Rattle.plant_tables.specs.{desk_table_defs, table_defs_of, contents_of, all_rows_changed, HoldsTablesOf, AreKeyed, AreFresh, MovesTablesOf, MovesTables, IsAtOf, IsAt, FindsOf, FailureLeavesOf, FailureLeaves}

@@ -1,4 +1,4 @@
--- The indexes that serve look-ups in tables of the desk.
+-- The indexes that serve lookups in tables of the desk.
 use Rattle.std.specs.Prelude.{◌≡◌, ℕ, ◌==◌, nat_le, if◌then◌else◌, List, [], ◌∷◌, ◌++◌, slice_get, Some, codes}
 use Rattle.sqlite.specs.Schema.{Schema}
 use Rattle.plant_base.specs.{newest_schema}

@@ -1,13 +1,13 @@
--- Indexes that tables of the newest schema lack, and what comes of making them.
+-- Indexes that tables of the newest schema lack, and the outcome of making them.
 use Rattle.std.specs.Prelude.{◌≡◌, ◌≢◌, ℕ, Bool, false, true, not, List, filter, map, Option, Some, None, Result, MatchResult, IfErr, if◌then◌else◌}
 use Rattle.sqlite.specs.Change.{is_used}
 use Rattle.sqlite.specs.Effect.{Database}
 use Rattle.sqlite.specs.Schema.{Schema}
 use Rattle.sqlite.specs.State.{State, HasCleanDisk, Survives}
 use Rattle.sqlite_rules.specs.Lists.{Has}
-use Rattle.plant_view.specs.Tables.{Tables}
-use Rattle.sql_tables.specs.{CreateIndexStatement, Fault, IndexDef, HasIndex, AreOf, AreCreateIndexStatements, KeepsOtherTables}
-use Rattle.sql_tables.specs.declared.fault.Fault.TheVariants as fault
+use Rattle.plant_view.specs.TableRows.{Tables}
+use Rattle.sql_tables.specs.{CreateIndexStatement, StoreFault, IndexDef, HasIndex, AreOf, AreCreateIndexStatements, KeepsOtherTables}
+use Rattle.sql_tables.specs.declared.fault.StoreFault.TheVariants as fault
 use Rattle.plant_tables.specs.DeskTableDefs.{desk_table_defs}
 use Rattle.plant_tables.specs.DeskIndexes.{desk_indexes, HasIndexes}
 use Rattle.plant_tables.specs.DeskCrashStates.{IsAt, FailureLeaves}
@@ -48,7 +48,7 @@ abbrev pub CreatesMissingIndexes : Database → Database → Type 0
 CreatesMissingIndexes old new = (t : Tables) → HoldsTables old t → HoldsTables new t × AddsMissing old new
 
 -- The indexes that the tables lacked were made, or weren't.
-pub record HasCreatedIndexes (old new : State) (r : Result (Unit {0}) Fault) : Type 0 where
+pub record HasCreatedIndexes (old new : State) (r : Result (Unit {0}) StoreFault) : Type 0 where
   pub honest : HasCleanDisk new → HasCleanDisk old
   pub gained : HasCleanDisk new → (t : Tables) → IsAt old t → MatchResult r (λ _. IsAt new t × AddsMissing old.now new.now) (λ _. FailureLeaves old new t t)
   -- where no name is free, and for want of memory, nothing is written

@@ -2,15 +2,17 @@
 use Rattle.std.specs.Prelude.{◌≡◌, ℕ, Some, slice_get}
 use Rattle.sqlite.specs.Effect.{Database}
 use Rattle.plant_base.specs.{Movement, Recall}
-use Rattle.plant_view.specs.Tables.{Tables}
+use Rattle.plant_view.specs.TableRows.{Tables}
 use Rattle.sql_tables.specs.{TableDef}
 use Rattle.plant_tables.specs.DeskTableDefs.{table_defs_of}
 use Rattle.plant_tables.specs.DeskTables.{contents_of}
-use Rattle.plant_tables.specs.Keyed.{HoldsTablesOf, LacksLater}
+use Rattle.plant_tables.specs.Keyed.{HoldsTablesOf}
+use Rattle.plant_tables.specs.KeyedRows.{LacksLater}
 use Rattle.plant_tables.specs.Loading.{AreLoaded, contents_loaded}
 use Rattle.plant_tables.specs.declared.loaded.Loaded.{Loaded}
 use Rattle.plant_tables_columns.specs.{movement_from, booked_of, recall_from, stated_of, HasValidValues}
-use Rattle.plant_tables.specs.Collecting.{Rows, rows_from, tables_in, rows_in, AreWhole, AreInOrder}
+use Rattle.plant_tables.specs.DecodedTables.{AreWhole, AreInOrder}
+use Rattle.plant_tables.specs.RowLists.{Rows, rows_from, tables_in, rows_in}
 
 -- Rows whose lines have numbers, whose movements have the columns of their kinds, whose receipts have contents and whose
 -- recalls have the columns of their states are the tables that were loaded.

@@ -3,17 +3,18 @@ ghost use Rattle.sqlite.specs.Effect.{Database, IsDatabase};
 ghost use Rattle.sqlite.specs.State.{HasCleanDisk, Survives, KeepsCommit};
 ghost use Rattle.sqlite.specs.Held.{state};
 ghost use Rattle.plant_view.specs.{changed_all};
-ghost use Rattle.plant_view.specs.Tables.{Tables};
+ghost use Rattle.plant_view.specs.TableRows.{Tables};
 ghost use Rattle.sql_tables.specs.{KeepsOtherTables, AreFree, IsSettled};
 ghost use Rattle.plant_tables.specs.DeskTableDefs.{desk_table_defs};
-ghost use Rattle.plant_tables.specs.Keyed.{AreKeyed, AreFresh, MovesTables};
+ghost use Rattle.plant_tables.specs.Keyed.{AreFresh, MovesTables};
+ghost use Rattle.plant_tables.specs.KeyedRows.{AreKeyed};
 ghost use Rattle.plant_tables.specs.DeskCrashStates.{IsAt, FailureLeaves, opening_tables};
 ghost use Rattle.plant_tables.specs.DeskCrashStates.{MakesDesk, IsUnopened};
 
 use crate::write::{create, write_change, write_changes};
 use plant_base::{Meta, Moment, NEWEST_SCHEMA, Position};
 use plant_view::RowChange;
-use sql_tables::{Fault, Work, in_one};
+use sql_tables::{StoreFault, TransactionWork, in_one};
 use sqlite::{Alter, Connection, Transaction};
 
 /// The writing of some changes.
@@ -22,23 +23,23 @@ struct Writing<'a> {
     changes: &'a [RowChange],
 }
 
-impl<'a> Work for Writing<'a> {
+impl<'a> TransactionWork for Writing<'a> {
     ghost makes = { λ w. MovesTables w.changes.now };
 
-    fn run<S: Alter>(&self, tx: &mut Transaction<'_, S>) -> Result<(), Fault> {
+    fn run<S: Alter>(&self, tx: &mut Transaction<'_, S>) -> Result<(), StoreFault> {
         write_changes(tx, self.changes)
     }
 }
 
 /// Makes the changes in one transaction, whose commit is the last call of the store. The one fault is
-/// [`Fault::Store`], where the store refuses one, or where a number is above 2^63 - 1; then nothing is changed, but a
+/// [`StoreFault::Store`], where the store refuses one, or where a number is above 2^63 - 1; then nothing is changed, but a
 /// commit that failed may be found made after a stop.
 pub fn commit_changes<S: Alter>(
     conn: &mut Connection<S>,
     changes: &[RowChange],
-) -> Result<(), Fault>
+) -> Result<(), StoreFault>
     requires { conn.old.in_transaction ≡ false }
-    ensures fault { IsOkUnless result Fault.Store }
+    ensures fault { IsOkUnless result StoreFault.Store }
     ensures mode { conn.new.in_transaction ≡ false }
     ensures accepted { HasCleanDisk (state S.Store conn.new) → (t : Tables)
         → IsAt (state S.Store conn.old) t → AreKeyed t → AreFresh changes.now t
@@ -59,10 +60,10 @@ pub fn commit_changes<S: Alter>(
 #[derive(Clone, Copy)]
 struct Opening;
 
-impl Work for Opening {
+impl TransactionWork for Opening {
     ghost makes = { λ _. MakesDesk };
 
-    fn run<S: Alter>(&self, tx: &mut Transaction<'_, S>) -> Result<(), Fault> {
+    fn run<S: Alter>(&self, tx: &mut Transaction<'_, S>) -> Result<(), StoreFault> {
         create(tx, NEWEST_SCHEMA)?;
         let position = Position {
             seq: 0,
@@ -77,11 +78,11 @@ impl Work for Opening {
 }
 
 /// Makes the tables of a desk that has accepted nothing, with their indexes, in one transaction. The one fault is
-/// [`Fault::Store`], where the store refuses one, as where its name is taken; then nothing is changed, but a commit that
+/// [`StoreFault::Store`], where the store refuses one, as where its name is taken; then nothing is changed, but a commit that
 /// failed may be found made after a stop.
-pub fn commit_opening<S: Alter>(conn: &mut Connection<S>) -> Result<(), Fault>
+pub fn commit_opening<S: Alter>(conn: &mut Connection<S>) -> Result<(), StoreFault>
     requires { conn.old.in_transaction ≡ false }
-    ensures fault { IsOkUnless result Fault.Store }
+    ensures fault { IsOkUnless result StoreFault.Store }
     ensures mode { conn.new.in_transaction ≡ false }
     ensures made { HasCleanDisk (state S.Store conn.new) → IsSettled (state S.Store conn.old)
         → IsDatabase (state S.Store conn.old).now → AreFree desk_table_defs (state S.Store conn.old).now.schema

@@ -14,14 +14,14 @@ ghost use Rattle.sql_queries.specs.{AnswersUnchanged, BeginsNone, FindsUnchanged
 ghost use Rattle.plant_tables.specs.Loading.{Loads};
 ghost use Rattle.plant_tables.specs.DeskTableDefs.{desk_table_defs, meta_table};
 ghost use Rattle.plant_tables.specs.Version.{row_of, IsValidMeta, IsVersion};
-ghost use Rattle.plant_tables.specs.LoadingCalls.{FindsVersion, FindsVersionUnchanged};
-ghost use Rattle.plant_tables.specs.LoadingCalls.{WantsMeta};
+ghost use Rattle.plant_tables.specs.LoadingContracts.{FindsVersion, FindsVersionUnchanged};
+ghost use Rattle.plant_tables.specs.LoadingContracts.{WantsMeta};
 
-use crate::readings::SELECT_META;
+use crate::select_texts::SELECT_META;
 use crate::table_defs::{META, desk_table_defs};
 use plant_base::{GREATEST_MOMENT, GREATEST_SEQ};
 use sql_queries::{all_free, are_all_declared, read_table};
-use sql_tables::Fault;
+use sql_tables::StoreFault;
 use sqlite::types::ValueRef;
 use sqlite::{Alter, Connection, Row};
 use sqlite_schema::schema::{Schema, Table};
@@ -114,7 +114,7 @@ fn version_in(list: &[Row]) -> Option<i64>
 
 /// The version in table meta. `None` where it isn't declared as its definition says, hasn't one row, or has a row
 /// that isn't valid. The faults are those of [`found`].
-fn version<S: Alter>(alloc: Global, conn: &mut Connection<S>) -> Result<Option<i64>, Fault>
+fn version<S: Alter>(alloc: Global, conn: &mut Connection<S>) -> Result<Option<i64>, StoreFault>
     ensures some { HasCleanDisk (state S.Store conn.new)
         → IfOk result (λ found. IfSome found (IsVersion (state S.Store conn.old).now)) }
     ensures none { HasCleanDisk (state S.Store conn.new)
@@ -134,7 +134,7 @@ fn version<S: Alter>(alloc: Global, conn: &mut Connection<S>) -> Result<Option<i
 
 /// The rows of table meta, as they are stored. Store where it isn't declared as its definition says, where a transaction is
 /// open, and where the store fails; Memory where there is none. Nothing is changed.
-pub fn read_meta<S: Alter>(alloc: Global, conn: &mut Connection<S>) -> Result<Vec<Row>, Fault>
+pub fn read_meta<S: Alter>(alloc: Global, conn: &mut Connection<S>) -> Result<Vec<Row>, StoreFault>
     ensures rows { HasCleanDisk (state S.Store conn.new)
         → IfOk result (λ list. Loads (state S.Store conn.old).now meta_table list.items) }
     ensures same { AnswersUnchanged (state S.Store conn.old) (state S.Store conn.new) result }
@@ -173,7 +173,7 @@ pub fn lacks_counts(schema: &Schema) -> bool
 /// What the store holds of the desk's tables. Store where a transaction is open while table meta is to be read, where
 /// the names of the tables are free but a table counts its rowids and SQLite's own table of counts isn't there, and
 /// where the store fails; Memory where there is none. Nothing is changed.
-pub fn found<S: Alter>(alloc: Global, conn: &mut Connection<S>) -> Result<FoundTables, Fault>
+pub fn found<S: Alter>(alloc: Global, conn: &mut Connection<S>) -> Result<FoundTables, StoreFault>
     ensures nothing { IfOk result (λ found. (found ≡ FoundTables.Nothing)
         ↔ AreFree desk_table_defs (state S.Store conn.old).now.schema) }
     // Where they can be made, there is no fault.
@@ -191,7 +191,7 @@ pub fn found<S: Alter>(alloc: Global, conn: &mut Connection<S>) -> Result<FoundT
 {
     if all_free(conn.schema(), &desk_table_defs()) {
         if lacks_counts(conn.schema()) {
-            return Err(Fault::Store);
+            return Err(StoreFault::Store);
         }
         return Ok(FoundTables::Nothing);
     }

@@ -9,7 +9,9 @@ ghost use Rattle.plant_tables.specs.Missing.{missing_in, CreateLacking, CreatesI
 ghost use Rattle.plant_tables.specs.Missing.{HasCreatedIndexes};
 
 use crate::table_defs;
-use sql_tables::{CreateIndexStatement, Fault, Work, in_one, is_taken, run_create_indexes};
+use sql_tables::{
+    CreateIndexStatement, StoreFault, TransactionWork, in_one, is_taken, run_create_indexes,
+};
 use sqlite::{Alter, Connection, Transaction};
 use sqlite_schema::schema::Schema;
 use std::alloc::{AllocError, Global};
@@ -66,10 +68,10 @@ struct Indexing<'a> {
     texts: &'a [CreateIndexStatement<'a>],
 }
 
-impl<'a> Work for Indexing<'a> {
+impl<'a> TransactionWork for Indexing<'a> {
     ghost makes = { λ w. CreatesIndexes (map (λ text. text.sql.now) w.texts.now) };
 
-    fn run<S: Alter>(&self, tx: &mut Transaction<'_, S>) -> Result<(), Fault> {
+    fn run<S: Alter>(&self, tx: &mut Transaction<'_, S>) -> Result<(), StoreFault> {
         run_create_indexes(tx, self.texts)
     }
 }
@@ -78,22 +80,22 @@ impl<'a> Work for Indexing<'a> {
 /// store: those whose names are free. The tables keep their rows, and where all names are taken nothing is written.
 /// Store where the store refuses one, and then nothing is changed, but a commit that failed may be found made after a
 /// stop; Memory where there is none, and then nothing was written.
-pub fn commit_missing<S: Alter>(alloc: Global, conn: &mut Connection<S>) -> Result<(), Fault>
+pub fn commit_missing<S: Alter>(alloc: Global, conn: &mut Connection<S>) -> Result<(), StoreFault>
     requires { conn.old.in_transaction ≡ false }
     ensures gained { HasCreatedIndexes (state S.Store conn.old) (state S.Store conn.new) result }
     ensures mode { conn.new.in_transaction ≡ false }
 {
     match all_missing(alloc, conn.schema()) {
         Ok(missing) => commit_these(conn, missing.as_slice()),
-        Err(_) => Err(Fault::Memory),
+        Err(_) => Err(StoreFault::Memory),
     }
 }
 
-/// Makes these indexes, which are those that the tables lack, in one transaction. The one fault is [`Fault::Store`].
+/// Makes these indexes, which are those that the tables lack, in one transaction. The one fault is [`StoreFault::Store`].
 fn commit_these<S: Alter>(
     conn: &mut Connection<S>,
     missing: &[CreateIndexStatement<'static>],
-) -> Result<(), Fault>
+) -> Result<(), StoreFault>
     requires rest { conn.old.in_transaction ≡ false }
     requires lacked { CreateLacking (state S.Store conn.old).now.schema missing.now }
     ensures gained { HasCreatedIndexes (state S.Store conn.old) (state S.Store conn.new) result }

@@ -8,8 +8,9 @@ mod finding;
 mod indexing;
 mod laws;
 mod loaded;
-mod raising;
+mod migration;
 mod readings;
+mod select_texts;
 pub mod table_defs;
 mod write;
 
@@ -19,6 +20,6 @@ pub use finding::{FoundTables, found, lacks_counts, read_meta};
 pub use indexing::commit_missing;
 pub use laws::put_law;
 pub use loaded::Loaded;
+pub use migration::commit_migration;
 pub use plant_tables_columns::{BookedRow, MovementKindCode, RecallState, StatedRecall};
-pub use raising::commit_raising;
 pub use write::{create, write_change, write_changes};

@@ -5,13 +5,14 @@ ghost use Rattle.sqlite.specs.State.{HasCleanDisk, Survives};
 ghost use Rattle.sql_queries.specs.{AnswersUnchanged, BeginsNone, FindsUnchanged, KeepsVisible};
 ghost use Rattle.plant_tables.specs.Loading.{AreLoaded, AreRising, HasOthers, contents_loaded};
 ghost use Rattle.plant_tables.specs.Version.{IsKnown, HasTablesOf};
-ghost use Rattle.plant_tables.specs.LoadingCalls.{FindsLoaded, FindsStored, ReportsLacking};
+ghost use Rattle.plant_tables.specs.LoadingContracts.{FindsLoaded, FindsStored, ReportsLacking};
 
-use crate::readings::{desk_readings, readings_of};
+use crate::readings::readings_of;
+use crate::select_texts::desk_readings;
 use crate::table_defs::{desk_table_defs, tables_in};
 use plant_base::NEWEST_SCHEMA;
 use sql_queries::{all_free, are_all_declared, read_table};
-use sql_tables::Fault;
+use sql_tables::StoreFault;
 use sqlite::{Alter, Connection, Row};
 use sqlite_schema::schema::Schema;
 use std::alloc::Global;
@@ -26,13 +27,13 @@ pub struct Loaded {
 }
 
 /// Puts the rows of a table after those of the others. Memory where there is none for the list to grow.
-fn keep(tables: &mut Vec<Vec<Row>>, rows: Vec<Row>) -> Result<(), Fault>
-    ensures fault { IsOkUnless result Fault.Memory }
+fn keep(tables: &mut Vec<Vec<Row>>, rows: Vec<Row>) -> Result<(), StoreFault>
+    ensures fault { IsOkUnless result StoreFault.Memory }
     ensures kept { OnOk result (tables.new.items ≡ tables.old.items ++ rows ∷ []) }
 {
     match tables.push(rows) {
         Ok(()) => Ok(()),
-        Err(_) => Err(Fault::Memory),
+        Err(_) => Err(StoreFault::Memory),
     }
 }
 
@@ -49,7 +50,7 @@ impl Loaded {
 
     /// Takes the rows of the table of this index, the first being 0, out of those that were loaded: none where there is no such
     /// table. Afterwards the table is empty, and the others are as they were.
-    #[tactic(auto, using(crate::proofs::MovementsFirst::table_kept))]
+    #[tactic(auto, using(crate::proofs::ReadOrderIrrelevant::table_kept))]
     pub(crate) fn take(&mut self, alloc: Global, place: usize) -> Vec<Row>
         ensures rows { result.items ≡ contents_loaded self.old place }
         ensures others { HasOthers place self.old self.new }
@@ -67,7 +68,7 @@ impl Loaded {
         alloc: Global,
         conn: &mut Connection<S>,
         schema: u64,
-    ) -> Result<Option<Loaded>, Fault>
+    ) -> Result<Option<Loaded>, StoreFault>
         ensures rows { FindsLoaded schema (state S.Store conn.old) (state S.Store conn.new) result }
         ensures ordered { IfOk result (λ found. IfSome found (AreRising schema)) }
         ensures has_rows { FindsStored schema (state S.Store conn.old) (state S.Store conn.new)
@@ -82,12 +83,12 @@ impl Loaded {
         ensures mode { BeginsNone (state S.Store conn.old) (state S.Store conn.new) }
         ensures crash { Survives (state S.Store conn.old) (state S.Store conn.new) (λ _. ⊥) }
         // Memory is wanted for the rows of a schema that is known, all tables of which exist.
-        ensures known { IfErr result (λ fault. fault ≡ Fault.Memory → IsKnown schema) }
-        ensures memory { IfErr result (λ fault. fault ≡ Fault.Memory
+        ensures known { IfErr result (λ fault. fault ≡ StoreFault.Memory → IsKnown schema) }
+        ensures memory { IfErr result (λ fault. fault ≡ StoreFault.Memory
             → HasTablesOf schema (state S.Store conn.old).now.schema) }
     {
         if schema < 1 || schema > NEWEST_SCHEMA {
-            return Err(Fault::Store);
+            return Err(StoreFault::Store);
         }
         if !has_tables(conn.schema(), schema) {
             return Ok(None);
@@ -99,7 +100,7 @@ impl Loaded {
         alloc: Global,
         conn: &mut Connection<S>,
         schema: u64,
-    ) -> Result<Loaded, Fault>
+    ) -> Result<Loaded, StoreFault>
         ensures rows { HasCleanDisk (state S.Store conn.new)
             → IfOk result (AreLoaded schema (state S.Store conn.old).now) }
         ensures rising { IfOk result (AreRising schema) }

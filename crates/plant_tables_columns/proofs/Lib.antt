@@ -7,4 +7,6 @@ pub mod MovementColumns
 pub mod RecallColumns
 pub mod TableLaws
 pub mod RowLaws
+pub mod PlainLaws
+pub mod StoredAndRead
 pub mod DecodedLists

@@ -16,7 +16,7 @@ use sqlite::Row;
 use sqlite::types::ValueRef;
 
 /// The value of a column, the first being 0, and NULL where there is no such column.
-fn value(row: &Row, at: usize) -> ValueRef<'_>
+pub fn value(row: &Row, at: usize) -> ValueRef<'_>
     ensures { owned result ≡ column row.now at }
 {
     match row.get_ref(at) {
@@ -66,9 +66,9 @@ pub(crate) fn is_null(row: &Row, at: usize) -> bool
     }
 }
 
-/// An id.
+/// The id in a column. `None` where there is none.
 #[tactic(auto, unfolding(crate::specs::Reading::id_from))]
-pub(crate) fn id(row: &Row, at: usize) -> Option<Id>
+pub fn id(row: &Row, at: usize) -> Option<Id>
     ensures { result ≡ id_from (column row.now at) }
 {
     Id::read(bytes(row, at)?)
@@ -125,9 +125,9 @@ pub(crate) fn tiny_within(n: &i64, low: u8, high: u8) -> Option<u8>
     if low <= n && n <= high { Some(n) } else { None }
 }
 
-/// A whole number from `low` to `high`.
+/// The whole number in a column, where it is from `low` to `high`. `None` where there is no such number.
 #[tactic(auto, unfolding(crate::specs::Reading::number_from))]
-pub(crate) fn number(row: &Row, at: usize, low: u64, high: u64) -> Option<u64>
+pub fn number(row: &Row, at: usize, low: u64, high: u64) -> Option<u64>
     ensures { result ≡ number_from low high (column row.now at) }
 {
     let n = integer(row, at)?;

@@ -5,18 +5,18 @@ ghost use Rattle.sqlite_value.specs.Value.{owned};
 ghost use Rattle.plant_tables_columns.specs.Kinds.{number, flag};
 
 use plant_base::{Amount, Content, Id, Moment, Text};
-use sql_tables::Fault;
+use sql_tables::StoreFault;
 use sqlite_value::value::ValueRef;
 
-/// A number of any size: [`Fault::Store`] exactly where it is above 2^63 - 1, which no column holds.
-pub fn large(n: u64) -> Result<ValueRef<'static>, Fault>
+/// A number of any size: [`StoreFault::Store`] exactly where it is above 2^63 - 1, which no column holds.
+pub fn large(n: u64) -> Result<ValueRef<'static>, StoreFault>
     ensures value { IfOk result (λ value. owned value ≡ number n) }
     // It is refused for its size alone, and then as the store's.
-    ensures above { IfErr result (λ fault. (2 ^ 63 ≤ n) × (fault ≡ Fault.Store)) }
+    ensures above { IfErr result (λ fault. (2 ^ 63 ≤ n) × (fault ≡ StoreFault.Store)) }
 {
     match i64::try_from(n) {
         Ok(n) => Ok(ValueRef::Int(n)),
-        Err(_) => Err(Fault::Store),
+        Err(_) => Err(StoreFault::Store),
     }
 }
 

@@ -1,9 +1,9 @@
-pub mod AnswersForetell
+pub mod CheckAnswersMatchReplies
 pub mod RunEnds
-pub mod HeldLine
+pub mod BufferSuffices
 pub mod KnownBytes
 pub mod RunCrashStates
-pub mod LinesAreStd
-pub mod LineSays
-pub mod TurnsInSequence
+pub mod LinesMatchStd
+pub mod LineMeaning
+pub mod RepliesConcatenate
 pub mod TurnEnds

@@ -9,11 +9,11 @@ use Rattle.plant_text.specs.declared.turns.TurnError.TheVariants as S
 use Rattle.plant_text.specs.{Entry, fold, AreAnswered, RunStopped, EndsWithin, nothing, entry_of, entries, ended_lines, all_lines, part_from, LastEnds, end_of, held_after, entries_after, longest_line}
 use Rattle.plant_text.specs.declared.run.RunEnd.{RunEnd}
 use Rattle.plant_text.specs.declared.run.RunEnd.TheVariants as E
-use Rattle.plant_text.proofs.HeldLine.{each-prefix, last_as_whole}
+use Rattle.plant_text.proofs.BufferSuffices.{each-prefix, last_as_whole}
 use Rattle.std.specs.Str.Lines.{lines}
 use Rattle.plant_text.proofs.TurnEnds.{entry_long}
-use Rattle.plant_text.proofs.TurnsInSequence.{reported_more, reported_stops}
-use Rattle.plant_text.proofs.LinesAreStd.{reported_lines}
+use Rattle.plant_text.proofs.RepliesConcatenate.{reported_more, reported_stops}
+use Rattle.plant_text.proofs.LinesMatchStd.{reported_lines}
 
 -- ---- the lines of bytes
 

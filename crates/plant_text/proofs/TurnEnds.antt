@@ -3,7 +3,7 @@ use Rattle.std.proofs.Common.{◌≡◌, ℕ, ◌<◌, List, length, Bool, false
 use Rattle.std.proofs.lemmas.Bool.Decides.{nat_tests}
 use Rattle.std.specs.Io.KnownBytes.{Appends}
 use Rattle.plant_text.proofs.KnownBytes.{Appends-nil}
-use Rattle.plant_text.proofs.LineSays.{line_long}
+use Rattle.plant_text.proofs.LineMeaning.{line_long}
 use Rattle.plant_base.specs.{State, Envelope}
 use Rattle.plant_desk.specs.{States, Executes, Asks, shuts}
 use Rattle.plant_questions.specs.{Answer, DeskFault, Question}
@@ -36,7 +36,7 @@ question_faults k s represents crash_states shut q Store p r = (p, r)
 question_faults k s represents crash_states shut q Memory p r = (p, r)
 question_faults k s represents crash_states shut q Shut p r = p
 
--- the turn of a question, by what came of it and what was written of that
+-- the turn of a question, by its outcome and by what was written
 pub question_ends : (k : ℕ) (s : State) (old new : Option (List ℕ)) (represents : States) (shut : Bool) (crash_states : States → Type 0) (q : Question) (asked : Result Answer DeskFault) (r : Result Bool TurnError)
     → Asks k s represents q asked → shut ≡ false → IfOk asked (λ a. AnswerWritten (text_of_answer a) (is_unknown a) old new r) → IfErr asked (λ f. IsErrAnd r (FaultWritten f old new))
     → TurnEnds k s (question q) old new represents shut crash_states r

@@ -6,8 +6,8 @@ use Rattle.serde_json.specs.Data.{Data}
 use Rattle.serde_json.specs.Find.{get, as_object, as_str}
 use Rattle.serde_json.specs.Read.{read}
 use Rattle.plant_json_in.specs.declared.format_errors.ShapeError.TheVariants as shape_error
-use Rattle.plant_json_in.specs.{Around, AskedKind, Fault, FormatError, NodeKind, QuestionKind, asked_kind, fields_of, node_in, question_in, ◌>>=◌, object}
-use Rattle.plant_json_in.specs.declared.format_errors.Fault.TheVariants as fault
+use Rattle.plant_json_in.specs.{Around, AskedKind, ReadFault, FormatError, NodeKind, QuestionKind, asked_kind, fields_of, node_in, question_in, ◌>>=◌, object}
+use Rattle.plant_json_in.specs.declared.format_errors.ReadFault.TheVariants as fault
 use Rattle.plant_json_in.specs.declared.format_errors.FormatError.TheVariants as format_error
 use Rattle.plant_json_in.specs.declared.members.Member.TheVariants as m
 use Rattle.plant_json_in.specs.declared.question_tables.AskedKind.TheVariants as asked
@@ -42,14 +42,14 @@ asked_by (Some asked.Check) d = check_of d >>= (λ c. Ok (L.Check c))
 asked_by (Some asked) d = question_asked asked d
 
 -- the question that an object is, or the check that it asks for, or its first problem
-abbrev pub asked_of : Data → Result Line FormatError
-asked_of d = asked_by (kind_at d) d
+abbrev pub question_line : Data → Result Line FormatError
+question_line d = asked_by (kind_at d) d
 
 -- the command that an object is, or what it asks for; with `do` and `ask` it would have a member too many for either
 abbrev pub object_says : Data → Result Line FormatError
 object_says d =
     if is_some (get (codes "do") d) then command_of d >>= (λ c. Ok (L.Command c)) else (
-    if is_some (get (codes "ask") d) then asked_of d else
+    if is_some (get (codes "ask") d) then question_line d else
     Err format_error.Neither)
 
 -- what a JSON value says, or its first problem
@@ -70,7 +70,7 @@ unfoldable pub value_in : List ℕ → Result Data FormatError
 value_in bytes = if nat_lt longest_line (length bytes) then Err format_error.TooLong else or_no_json (if is_utf8 bytes then read bytes else None)
 
 -- the problem that a text has, want of memory aside
-abbrev pub IsProblemOf : Fault → Result Data FormatError → Type 0
+abbrev pub IsProblemOf : ReadFault → Result Data FormatError → Type 0
 IsProblemOf (fault.Reported p) r = r ≡ Err p
 IsProblemOf fault.Memory r = ⊤
 

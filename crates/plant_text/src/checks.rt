@@ -2,7 +2,7 @@
 ghost use Rattle.std.specs.Prelude.{◌≡◌, true, false};
 ghost use Rattle.plant_base.specs.{State};
 ghost use Rattle.plant_desk.specs.{IsSameDesk};
-ghost use Rattle.plant_text.specs.Checks.{ChecksAs, AnswersForetell, check_when_shut};
+ghost use Rattle.plant_text.specs.Checks.{ChecksAs, CheckAnswersMatchReplies, check_when_shut};
 
 use plant_desk::Keeper;
 use plant_json_in::ToCheck;
@@ -22,17 +22,17 @@ pub fn answer_check<K: Keeper>(keeper: &mut K, to_check: &ToCheck) -> Result<Che
     ensures unchanged { K.shut keeper.old ≡ true → keeper.new ≡ keeper.old }
 {
     match to_check {
-        ToCheck::Command(envelope) => match keeper.check(envelope) {
-            Ok(checked) => Ok(command_answer(&envelope.body, checked)),
-            Err(fault) => Err(fault),
-        },
+        ToCheck::Command(envelope) => {
+            let checked = keeper.check(envelope)?;
+            Ok(command_answer(&envelope.body, checked))
+        }
         ToCheck::BadForm(format_error) => Ok(CheckAnswer::BadForm(Reason::Shape(*format_error))),
     }
 }
 
 /// What a check of a command is answered is what the command would be answered: accepted exactly where the reply would be a number, and refused exactly
 /// where it would be a refusal, by the same one.
-#[tactic(auto, using(crate::proofs::AnswersForetell::answers_foretell))]
-pub fn foretelling_law()
-    ensures { AnswersForetell }
+#[tactic(auto, using(crate::proofs::CheckAnswersMatchReplies::check_answers_match_replies))]
+pub fn checks_match_replies_law()
+    ensures { CheckAnswersMatchReplies }
 {}

@@ -8,8 +8,8 @@ mod run;
 mod turns;
 mod writes;
 
-pub use checks::{answer_check, foretelling_law};
-pub use plant_json_in::{Fault, FormatError, LineFault, ToCheck};
+pub use checks::{answer_check, checks_match_replies_law};
+pub use plant_json_in::{FormatError, LineFault, ReadFault, ToCheck};
 pub use plant_orders::{CsvFault, CsvKind, read_orders};
 pub use plant_text_answers::{ReplyText, answer_text, fault_line, record, reply_line};
 pub use plant_text_checks::{CheckAnswer, check_text};

@@ -6,13 +6,13 @@ ghost use Rattle.serde_json.specs.Errors.{IsMemory};
 ghost use Rattle.serde_json.specs.View.{view};
 ghost use Rattle.plant_json_in.specs.{FormatError as Problem, IsReported, Reports};
 ghost use Rattle.plant_json_in.specs.declared.format_errors.FormatError.TheVariants as format_error;
-ghost use Rattle.plant_text.specs.Lines.{longest_line, kind_at, asked_of, object_says, value_says};
+ghost use Rattle.plant_text.specs.Lines.{longest_line, kind_at, question_line, object_says, value_says};
 ghost use Rattle.plant_text.specs.Lines.{IsProblemOf, checked_by, line_says, line_of};
 ghost use Rattle.plant_text.specs.Lines.{question_asked, question_kind, text_checked, value_in};
 
 use plant_base::Envelope;
 use plant_json_in::{
-    AskedKind, Fault, FormatError, LineFault, Member, QuestionKind, ShapeError, ToCheck,
+    AskedKind, FormatError, LineFault, Member, QuestionKind, ReadFault, ShapeError, ToCheck,
     asked_kind, check_of, command_of, fields_of, node_in, question_of, to_check_of,
 };
 use plant_questions::Question;
@@ -66,59 +66,53 @@ fn question_asked(value: &Value, asked: AskedKind) -> Result<Line, FormatError>
     Ok(Line::Question(question_of(value, kind)?))
 }
 
-fn read_asked(alloc: Global, value: &Value) -> Result<Line, Fault>
-    ensures { Reports result (asked_of (view value.now)) }
+fn read_question(alloc: Global, value: &Value) -> Result<Line, ReadFault>
+    ensures { Reports result (question_line (view value.now)) }
 {
     match kind_at(value) {
-        Some(AskedKind::Check) => match check_of(alloc, value) {
-            Ok(to_check) => Ok(Line::Check(to_check)),
-            Err(fault) => Err(fault),
-        },
+        Some(AskedKind::Check) => Ok(Line::Check(check_of(alloc, value)?)),
         Some(asked) => match question_asked(value, asked) {
             Ok(line) => Ok(line),
-            Err(format_error) => Err(Fault::Reported(format_error)),
+            Err(format_error) => Err(ReadFault::Reported(format_error)),
         },
         None => match fields_of(value, &[Member::Ask]) {
-            Ok(_) => Err(Fault::Reported(FormatError::Object(ShapeError::Malformed))),
-            Err(shape_error) => Err(Fault::Reported(FormatError::Object(shape_error))),
+            Ok(_) => Err(ReadFault::Reported(FormatError::Object(ShapeError::Malformed))),
+            Err(shape_error) => Err(ReadFault::Reported(FormatError::Object(shape_error))),
         },
     }
 }
 
 /// The question that an object is, or the check that it asks for, or its first problem.
-fn asked_of(alloc: Global, value: &Value) -> Result<Line, Fault>
-    ensures reads { Reports result (asked_of (view value.now)) }
+fn question_line(alloc: Global, value: &Value) -> Result<Line, ReadFault>
+    ensures reads { Reports result (question_line (view value.now)) }
     ensures reported { IsReported result }
 {
-    read_asked(alloc, value)
+    read_question(alloc, value)
 }
 
 /// The command that an object is, or what it asks for, or its first problem.
-fn object_says(alloc: Global, value: &Value) -> Result<Line, Fault>
+fn object_says(alloc: Global, value: &Value) -> Result<Line, ReadFault>
     ensures reads { Reports result (object_says (view value.now)) }
     ensures reported { IsReported result }
 {
     if value.get("do").is_some() {
-        match command_of(alloc, value) {
-            Ok(envelope) => Ok(Line::Command(envelope)),
-            Err(fault) => Err(fault),
-        }
+        Ok(Line::Command(command_of(alloc, value)?))
     } else if value.get("ask").is_some() {
-        asked_of(alloc, value)
+        question_line(alloc, value)
     } else {
-        Err(Fault::Reported(FormatError::Neither))
+        Err(ReadFault::Reported(FormatError::Neither))
     }
 }
 
 /// What a value says, or its first problem.
-fn value_says(alloc: Global, value: &Value) -> Result<Line, Fault>
+fn value_says(alloc: Global, value: &Value) -> Result<Line, ReadFault>
     ensures reads { Reports result (value_says (view value.now)) }
     ensures reported { IsReported result }
 {
     if value.as_object().is_some() {
         object_says(alloc, value)
     } else {
-        Err(Fault::Reported(FormatError::Object(ShapeError::NoObject)))
+        Err(ReadFault::Reported(FormatError::Object(ShapeError::NoObject)))
     }
 }
 
@@ -126,22 +120,22 @@ fn value_says(alloc: Global, value: &Value) -> Result<Line, Fault>
 const LONGEST_LINE: usize = 262_144;
 
 /// The JSON value of a text (RFC 8259) of 262,144 bytes at most, in UTF-8, as serde_json reads it; or why it has none.
-fn value_of(alloc: Global, bytes: &[u8]) -> Result<Value, Fault>
+fn value_of(alloc: Global, bytes: &[u8]) -> Result<Value, ReadFault>
     ensures value { IfOk result (λ value. value_in bytes.now ≡ Ok (view value)) }
     ensures problem { IfErr result (λ fault. IsProblemOf fault (value_in bytes.now)) }
     ensures reported { IsReported result }
-    ensures long { longest_line < length bytes.now → IsErrOf result (Fault.Reported format_error.TooLong) }
+    ensures long { longest_line < length bytes.now → IsErrOf result (ReadFault.Reported format_error.TooLong) }
 {
     if bytes.len() > LONGEST_LINE {
-        return Err(Fault::Reported(FormatError::TooLong));
+        return Err(ReadFault::Reported(FormatError::TooLong));
     }
     match Value::from_slice(alloc, bytes) {
         Ok(value) => Ok(value),
         Err(error) => {
             if is_refusal(&error) {
-                Err(Fault::Reported(FormatError::NoJson))
+                Err(ReadFault::Reported(FormatError::NoJson))
             } else {
-                Err(Fault::Memory)
+                Err(ReadFault::Memory)
             }
         }
     }
@@ -161,10 +155,10 @@ fn value_of(alloc: Global, bytes: &[u8]) -> Result<Value, Fault>
 /// - `Reported`: the line is longer or has none of these shapes, and this is the first thing that is wrong with it, in the order of the
 ///   formats, with a text of its own.
 /// - `Memory`: memory was refused. It may come for any line that isn't longer, since serde_json asks for memory first.
-pub fn read_line_or_error(alloc: Global, bytes: &[u8]) -> Result<Line, Fault>
+pub fn read_line_or_error(alloc: Global, bytes: &[u8]) -> Result<Line, ReadFault>
     ensures reads { Reports result (line_says bytes.now) }
     ensures reported { IsReported result }
-    ensures long { longest_line < length bytes.now → IsErrOf result (Fault.Reported format_error.TooLong) }
+    ensures long { longest_line < length bytes.now → IsErrOf result (ReadFault.Reported format_error.TooLong) }
 {
     match value_of(alloc, bytes) {
         Ok(value) => value_says(alloc, &value),
@@ -182,18 +176,18 @@ pub fn read_line(alloc: Global, bytes: &[u8]) -> Result<Line, LineFault>
 {
     match read_line_or_error(alloc, bytes) {
         Ok(line) => Ok(line),
-        Err(Fault::Reported(_)) => Err(LineFault::BadForm),
-        Err(Fault::Memory) => Err(LineFault::Memory),
+        Err(ReadFault::Reported(_)) => Err(LineFault::BadForm),
+        Err(ReadFault::Memory) => Err(LineFault::Memory),
     }
 }
 
 /// What is to be checked of a text that has this problem. The only error is `Memory`, of which nothing is said.
-fn without_value(fault: Fault) -> Result<ToCheck, Fault>
+fn without_value(fault: ReadFault) -> Result<ToCheck, ReadFault>
     ensures { (read : Result Data Problem) → IsProblemOf fault read → Reports result (Ok (checked_by read)) }
 {
     match fault {
-        Fault::Reported(format_error) => Ok(ToCheck::BadForm(format_error)),
-        Fault::Memory => Err(Fault::Memory),
+        ReadFault::Reported(format_error) => Ok(ToCheck::BadForm(format_error)),
+        ReadFault::Memory => Err(ReadFault::Memory),
     }
 }
 
@@ -201,7 +195,7 @@ fn without_value(fault: Fault) -> Result<ToCheck, Fault>
 /// a line; of an object with `ask` and without `do` that `do` is missing.
 ///
 /// The only error is `Memory`: memory was refused. It may come for any text of 262,144 bytes at most.
-pub fn read_to_check(alloc: Global, bytes: &[u8]) -> Result<ToCheck, Fault>
+pub fn read_to_check(alloc: Global, bytes: &[u8]) -> Result<ToCheck, ReadFault>
     ensures { Reports result (Ok (text_checked bytes.now)) }
 {
     match value_of(alloc, bytes) {

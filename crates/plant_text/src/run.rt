@@ -229,7 +229,7 @@ fn run_pieces<R: Read, W: Write, K: Keeper>(
 /// What is written depends on the bytes of the input and not on the pieces in which they come, but for `Endless`. A
 /// read or a write that is interrupted counts as failed.
 ///
-/// In the clause `ends`, `bytes` are those that the reader has lost and `s` is a state that the keeper represented;
+/// In the clause `ends`, `bytes` are those that were read and `s` is a state that the keeper represented;
 /// nothing is said of what the keeper represents, and of what a stop leaves, if it doesn't end honest.
 pub fn run_lines<R: Read, W: Write, K: Keeper>(
     alloc: Global,

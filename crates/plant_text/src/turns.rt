@@ -124,7 +124,7 @@ fn write_made<W: Write>(
     }
 }
 
-/// Writes what came of a question: the answer's text, which may be a refusal, or the line of the fault.
+/// Writes the outcome of a question: the answer's text, which may be a refusal, or the line of the fault.
 ///
 /// Where memory is refused for the text, that fault's line is written instead.
 fn write_answer<W: Write>(
@@ -161,7 +161,7 @@ fn take_question<W: Write, K: Keeper>(
     write_answer(alloc, writer, keeper.ask(question))
 }
 
-/// Writes what came of a check: the answer's text, or the line of the fault.
+/// Writes the outcome of a check: the answer's text, or the line of the fault.
 ///
 /// Where memory is refused for the text, that fault's line is written instead.
 fn write_check<W: Write>(

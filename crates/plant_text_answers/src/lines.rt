@@ -50,9 +50,9 @@ impl fmt::Display for RecipeWords {
 
 /// A line of the control recipe.
 #[derive(Clone, Copy)]
-pub(crate) struct ControlLine;
+pub(crate) struct ControlLineText;
 
-impl DisplayItem<MeasuredLine> for ControlLine {
+impl DisplayItem<MeasuredLine> for ControlLineText {
     ghost text = { λ _ m. with_lf (control_text m) };
 
     fn show<W: fmt::Write>(

@@ -3,7 +3,7 @@ ghost use Rattle.std.specs.Prelude.{◌≡◌, IfOk, Some, string_bytes};
 ghost use Rattle.plant_text_answers.specs.Record.{record_text};
 
 use crate::head::Head;
-use crate::lines::{ConsumedLine, ControlLine, EventLine, ProducedLine};
+use crate::lines::{ConsumedLine, ControlLineText, EventLine, ProducedLine};
 use crate::totals::Totals;
 use plant_base::Joined;
 use plant_questions::BatchView;
@@ -21,7 +21,7 @@ impl fmt::Display for WholeRecord<'_> {
     fn fmt<W: fmt::Write>(&self, f: &mut fmt::Formatter<W>) -> fmt::Result {
         let view = self.0;
         let head = Head(view);
-        let lines = Joined(view.lines.as_slice(), ControlLine);
+        let lines = Joined(view.lines.as_slice(), ControlLineText);
         let events = Joined(view.events.as_slice(), EventLine);
         let consumed = Joined(view.consumed.as_slice(), ConsumedLine);
         let produced = Joined(view.produced.as_slice(), ProducedLine);

@@ -1,2 +1,2 @@
 pub mod IndexesInLists
-pub mod NoErrorIfWhole
+pub mod NoErrorIffWellFormed

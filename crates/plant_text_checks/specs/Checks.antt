@@ -13,7 +13,7 @@ use Rattle.plant_text_checks.specs.declared.answers.CheckAnswer.TheVariants as a
 
 -- of a command that is wrong whatever the state, that is reported, else what the state says
 abbrev pub answer_by : Option CommandError → Checked → CheckAnswer
-answer_by (Some m) c = answer.BadForm (reason.Whole m)
+answer_by (Some m) c = answer.BadForm (reason.Command m)
 answer_by None Accepted = answer.Accepted
 answer_by None (Refused refusal item) = answer.Refused refusal item
 

@@ -8,4 +8,4 @@ use Rattle.plant_text_checks.specs.declared.reason.Reason.TheVariants as reason
 -- why a line, or a command, is of bad form
 abbrev pub reason_text : Reason → List ℕ
 reason_text (reason.Shape p) = format_error_text p
-reason_text (reason.Whole m) = command_error_text m
+reason_text (reason.Command m) = command_error_text m

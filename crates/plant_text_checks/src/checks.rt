@@ -14,7 +14,7 @@ pub fn command_answer(body: &Command, checked: Checked) -> CheckAnswer
     ensures { result ≡ answer_by (command_error_of body.now) checked }
 {
     match command_error_of(body) {
-        Some(command_error) => CheckAnswer::BadForm(Reason::Whole(command_error)),
+        Some(command_error) => CheckAnswer::BadForm(Reason::Command(command_error)),
         None => match checked {
             Checked::Accepted => CheckAnswer::Accepted,
             Checked::Refused { refusal, item } => CheckAnswer::Refused { refusal, item },

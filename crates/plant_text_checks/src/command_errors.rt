@@ -2,7 +2,7 @@
 ghost use Rattle.std.specs.Prelude.{◌≡◌, ◌<◌, ◌↔◌, length, true, not, Some, None, IfSome};
 ghost use Rattle.plant_recipe.specs.{repeats, fits};
 ghost use Rattle.plant_base.specs.{is_same_sublot};
-ghost use Rattle.plant_rules.specs.{is_whole};
+ghost use Rattle.plant_rules.specs.{is_well_formed_body};
 ghost use Rattle.plant_text_checks.specs.CommandErrors.{index_of, pair_of, parts_error};
 ghost use Rattle.plant_text_checks.specs.CommandErrors.{orders_error, lines_error};
 ghost use Rattle.plant_text_checks.specs.CommandErrors.{amounts_error, recipe_error, list_error};
@@ -242,10 +242,10 @@ fn first_command_error(body: &Command) -> Option<CommandError>
 
 /// The first thing that is wrong with a command whatever the desk's state: with its list, then with a number. It is none exactly where the
 /// desk doesn't refuse it as BadForm.
-#[tactic(auto, using(crate::proofs::NoErrorIfWhole::reported_unless_whole))]
+#[tactic(auto, using(crate::proofs::NoErrorIffWellFormed::reported_unless_well_formed))]
 pub fn command_error_of(body: &Command) -> Option<CommandError>
     ensures first { result ≡ command_error_of body.now }
-    ensures whole { (result ≡ None) ↔ (is_whole body.now ≡ true) }
+    ensures well_formed { (result ≡ None) ↔ (is_well_formed_body body.now ≡ true) }
 {
     first_command_error(body)
 }

@@ -12,7 +12,7 @@ pub enum Reason {
     /// It has the shape of no command and of no question.
     Shape(FormatError),
     /// It is a command that the desk refuses as BadForm, whatever its state.
-    Whole(CommandError),
+    Command(CommandError),
 }
 
 impl fmt::Display for Reason {
@@ -21,7 +21,7 @@ impl fmt::Display for Reason {
     fn fmt<W: fmt::Write>(&self, f: &mut fmt::Formatter<W>) -> fmt::Result {
         match self {
             Reason::Shape(format_error) => write!(f, "{format_error}"),
-            Reason::Whole(command_error) => write!(f, "{command_error}"),
+            Reason::Command(command_error) => write!(f, "{command_error}"),
         }
     }
 }

@@ -49,7 +49,7 @@ module _ (old mid new : BTreeMap Node (BTreeSet Node)) (near far : Node) (empty 
   pub linked : Links old new near far
   linked x y = linked_at x y (is_eq (node_cmp near x)) refl ∙ ap (λ (c : Bool). index_has old x y || (c && node_eq far y)) (sym (node_ties near x))
 
--- ---- a look-up
+-- ---- a lookup
 module _ (index : BTreeMap Node (BTreeSet Node)) (x : Node) where
   pub listed_some : (s : BTreeSet Node) → get node_cmp index x ≡ Some s → IsStrictlySortedBy node_cmp s.keys → Lists (λ y. IsTrue (index_has index x y)) s.keys
   listed_some s e ascending = record {

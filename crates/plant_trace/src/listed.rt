@@ -15,7 +15,7 @@ use std::collections::BTreeSet;
 /// A list of pairs as a source of edges, which is always honest. The list may have doubles.
 /// Each call goes over the whole list, and its only fault is that memory was refused.
 #[derive(Drop)]
-pub struct Listed<'a> {
+pub struct PairList<'a> {
     /// Where the answers take their memory.
     pub alloc: Global,
     /// The pairs.
@@ -53,7 +53,7 @@ pub fn neighbours(
     Ok(list_of(alloc, &found)?)
 }
 
-impl<'a> Edges for Listed<'a> {
+impl<'a> Edges for PairList<'a> {
     type Fault = AllocError;
 
     ghost honest = { λ _. Unit {0} };

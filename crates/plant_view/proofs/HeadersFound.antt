@@ -4,7 +4,7 @@ use Rattle.plant_base.specs.{same, Header, Recipe}
 use Rattle.plant_view.specs.{headers_of, header_among, is_size_of_some, is_size_of_recipe}
 use Rattle.plant_view.proofs.RowsInTurn.{find_mapped}
 
--- a look-up among headers is one among recipes
+-- a lookup among headers is one among recipes
 pub header_found : (recipes : List Recipe) (id : List ℕ) (version : ℕ) → header_among (headers_of recipes) id version ≡ option_map (λ r. r.header) (find (λ r. same r.header.recipe id && r.header.version == version) recipes)
 header_found recipes id version = find_mapped (λ (h : Header). same h.recipe id && h.version == version) (λ (r : Recipe). r.header) recipes
 

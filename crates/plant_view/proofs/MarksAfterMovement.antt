@@ -9,7 +9,7 @@ use Rattle.plant_trace.specs.declared.node.Node.TheVariants as node
 use Rattle.plant_trace.proofs.RecallReaches.{recalled_where_reached}
 use Rattle.plant_view.specs.{edge_of, edges_among, edges_of, mark_on, marks, recalls_on, is_blocked, put_all, changed_all}
 use Rattle.plant_view.specs.DecisionInvariant.{DecisionInvariant}
-use Rattle.plant_view.specs.Tables.{Tables}
+use Rattle.plant_view.specs.TableRows.{Tables}
 use Rattle.plant_view.specs.declared.change.RowChange.TheVariants as row
 use Rattle.plant_view.proofs.GenealogyAfterMovement.{EdgeHas, edges_have, new_is_end}
 use Rattle.plant_view.proofs.MarkChanges.{stay_where_unreached, grow_by_product}

@@ -43,7 +43,7 @@ filtered_passes test (x ∷ xs) = elim (test x) as (λ b. test x ≡ b → AllBy
   | false ↦ λ e. filtered_passes test xs
 ] refl
 
--- where a look-up finds none no row passes
+-- where a lookup finds none no row passes
 pub none_passes : {X : Type 0} (test : X → Bool) (xs : List X) → is_some (find test xs) ≡ false → AllByRecursion (λ x. test x ≡ false) xs
 none_passes test [] e = tt
 none_passes {X} test (x ∷ xs) e = elim (test x) as (λ b. is_some (cond b (Some x) (find test xs)) ≡ false → (b ≡ false) × AllByRecursion (λ y. test y ≡ false) xs) [
@@ -123,7 +123,7 @@ module _ {R : Type 0} (order : R → R → Ordering) (total : IsTotalOrder order
   all_put_apart P (x ∷ xs) sorted h a = apart_by_order P x xs h sorted.0 a (all_put_apart P xs sorted.1 h a.1) (order r x) refl
 
   module _ (test : R → Bool) where
-    -- a look-up that neither the row nor one of its key passes
+    -- a lookup that neither the row nor one of its key passes
     pub found_past : (rows : List R) → test r ≡ false → AllByRecursion (λ q. order r q ≡ Equal → test q ≡ false) rows → find test (put order r rows) ≡ find test rows
     found_past [] t keeps = ap (λ b. cond b (Some r) None) t
     found_past (x ∷ xs) t keeps = by_order (order r x) refl (found_past xs t keeps.1)
@@ -133,7 +133,7 @@ module _ {R : Type 0} (order : R → R → Ordering) (total : IsTotalOrder order
         by_order Equal l more = ap (λ b. cond b (Some r) (find test xs)) t ∙ sym (ap (λ b. cond b (Some x) (find test xs)) (keeps.0 l))
         by_order Greater l more = ap (λ ys. cond (test x) (Some x) ys) more
 
-    -- a look-up of the row's own key finds the row
+    -- a lookup of the row's own key finds the row
     pub found_own : (rows : List R) → test r ≡ true → ((q : R) → test q ≡ is_eq (order r q)) → find test (put order r rows) ≡ Some r
     found_own [] t agrees = ap (λ b. cond b (Some r) None) t
     found_own (x ∷ xs) t agrees = by_order (order r x) refl (found_own xs t agrees)
@@ -200,7 +200,7 @@ module _ {R : Type 0} (order : R → R → Ordering) (total : IsTotalOrder order
     filter_past_all [] rows a = refl
     filter_past_all (r ∷ rs) rows a = filter_past_all rs (put order r rows) a.1 ∙ filter_past order total r test (tied r) rows a.0
 
-    -- and a look-up finds what it found
+    -- and a lookup finds what it found
     pub found_past_all : (rs rows : List R) → AllByRecursion (λ r. test r ≡ false) rs → find test (put_all order rs rows) ≡ find test rows
     found_past_all [] rows a = refl
     found_past_all (r ∷ rs) rows a = found_past_all rs (put order r rows) a.1 ∙ found_same order r test rows a.0 (λ q e. sym (tied r q e) ∙ a.0)

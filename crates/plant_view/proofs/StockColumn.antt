@@ -56,7 +56,7 @@ no_place s sound lot number none = elim (place_at s lot number) as (λ o. place_
       absurd (false≢true (sym none ∙ ap (λ l. is_some (lot_at s l)) (sym keys.0) ∙ housed))
 ] refl
 
--- what a look-up of the row finds
+-- what a lookup of the row finds
 pub found_sublot : (s : State) (lot : List ℕ) (number : ℕ) (o : Option Place) → place_at s lot number ≡ o → IsSublotOf s lot number (option_map (sublot_row s.movements) o)
 found_sublot s lot number None e = (ap is_some (sym e), tt)
 found_sublot s lot number (Some p) e =

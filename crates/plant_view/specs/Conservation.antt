@@ -4,7 +4,7 @@ use Rattle.plant_base.specs.{State, same, lot_at, Lot, MovementKind}
 use Rattle.plant_base.specs.declared.rows.MovementKind.TheVariants.{Received, Consumed, Produced, Scrapped, Divided, Split, Merged}
 use Rattle.plant_stock.specs.{born_of, left_of}
 use Rattle.plant_view.specs.Refusals.{sublot_standing}
-use Rattle.plant_view.specs.Tables.{sublots_of}
+use Rattle.plant_view.specs.KeptColumns.{sublots_of}
 
 -- material that comes from outside the lots
 abbrev pub is_birth : MovementKind → Bool

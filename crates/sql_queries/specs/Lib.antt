@@ -1,4 +1,4 @@
-pub mod Calls
+pub mod ReadContracts
 pub mod Found
 pub mod Given
 pub mod Keys
@@ -10,7 +10,7 @@ pub mod Reading
 pub mod Rises
 pub mod Selects
 pub mod Written
-pub use Calls.{AnswersUnchanged, BeginsNone, FindsUnchanged, KeepsVisible}
+pub use ReadContracts.{AnswersUnchanged, BeginsNone, FindsUnchanged, KeepsVisible}
 pub use Found.{AreGiven, has_values}
 pub use Given.{HasGivenRow}
 pub use Keys.{comes_before, is_before, key_order, number_of, text_of, value_order}
@@ -21,4 +21,4 @@ pub use Plain.{OnlyReads}
 pub use Reading.{Finds, Lists}
 pub use Selects.{all_column_indexes, column_at, first_of, is_at, is_binary, is_named, is_plain, is_readable, names_at}
 pub use Written.{core_of, filter_after, from_table, greater, parsed_as, select_of, select_where, shown_column, sort_by, up_to}
-pub use declared.page.Page.{Page}
+pub use declared.page.RowPage.{RowPage}

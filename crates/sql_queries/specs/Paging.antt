@@ -15,7 +15,7 @@ use Rattle.sqlite.specs.State.{State, HasCleanDisk}
 use Rattle.sql_tables.specs.{TableDef, columns_of, IsDeclared, Name}
 use Rattle.sql_queries.specs.Selects.{column_at, names_at, all_column_indexes, is_named, is_plain, is_readable}
 use Rattle.sql_queries.specs.Written.{select_where, filter_after, up_to, parsed_as}
-use Rattle.sql_queries.specs.declared.page.Page.{Page}
+use Rattle.sql_queries.specs.declared.page.RowPage.{RowPage}
 
 -- the row has a value above this one in the column with this index
 abbrev pub is_after : ℕ → Value → Row → Bool
@@ -70,6 +70,6 @@ pub record IsPage (db : Database) (table_def : TableDef) (by column_indexes : Li
   pub reported : has_more ≡ nat_lt most (length whole)
 
 -- What a call answers, where the text selects pages and the values bound them, is the page of what the store showed.
-abbrev pub GivesPage : {E : Type 0} → TableDef → List ℕ → List ℕ → Row → ℕ → State → State → Result Page E → Type 0
+abbrev pub GivesPage : {E : Type 0} → TableDef → List ℕ → List ℕ → Row → ℕ → State → State → Result RowPage E → Type 0
 GivesPage table_def by sql values most old new r = (column_indexes : List ℕ) (next : ℕ) → SelectsPage table_def by column_indexes next sql → AreBounds column_indexes most values → HasCleanDisk new
     → IfOk r (λ page. IsPage old.now table_def by column_indexes next values most page.rows.items page.has_more)

@@ -9,6 +9,6 @@ mod table;
 
 pub use keys::first_key;
 pub use opening::{open_file, open_in_memory, open_over, reopen};
-pub use page::{Page, find_page};
+pub use page::{RowPage, find_page};
 pub use reading::read_rows;
 pub use table::{all_free, are_all_declared, find_rows, read_table};

@@ -5,21 +5,21 @@ ghost use Rattle.sqlite.specs.State.{HasCleanDisk, Survives};
 ghost use Rattle.sqlite.specs.Held.{state};
 ghost use Rattle.sqlite.specs.Values.{bound};
 ghost use Rattle.sql_tables.specs.{HasTable};
-ghost use Rattle.sql_queries.specs.Calls.{AnswersUnchanged, BeginsNone, KeepsVisible};
+ghost use Rattle.sql_queries.specs.ReadContracts.{AnswersUnchanged, BeginsNone, KeepsVisible};
 ghost use Rattle.sql_queries.specs.Given.{HasGivenRow};
 ghost use Rattle.sql_queries.specs.Keys.{is_before};
 ghost use Rattle.sql_queries.specs.Paging.{GivesPage, SelectsPage};
 ghost use Rattle.sql_queries.specs.Rises.{Rises};
 
 use crate::reading::read_rows;
-use sql_tables::{Fault, TableDef, is_declared};
+use sql_tables::{StoreFault, TableDef, is_declared};
 use sqlite::types::ValueRef;
 use sqlite::{Alter, Connection, Row};
 use std::alloc::Global;
 
 /// Rows of a table, and whether more of those that were asked for come after them.
 #[derive(Drop)]
-pub struct Page {
+pub struct RowPage {
     /// The rows, in the order that was asked for.
     pub rows: Vec<Row>,
     /// Whether the store has more of the rows that were asked for, after these.
@@ -38,7 +38,7 @@ pub fn find_page<S: Alter>(
     sql: &str,
     values: &[ValueRef<'_>],
     most: usize,
-) -> Result<Page, Fault>
+) -> Result<RowPage, StoreFault>
     requires { (column_indexes : List ℕ) × (next : ℕ) × SelectsPage table_def.now by.now column_indexes next sql.now }
     ensures page { GivesPage table_def.now by.now sql.now (bound values.now) most (state S.Store conn.old)
         (state S.Store conn.new) result }
@@ -50,15 +50,15 @@ pub fn find_page<S: Alter>(
     ensures crash { Survives (state S.Store conn.old) (state S.Store conn.new) (λ _. ⊥) }
     // Memory is wanted for a row that was given, of a table that exists.
     ensures memory { HasCleanDisk (state S.Store conn.new)
-        → IfErr result (λ fault. fault ≡ Fault.Memory
+        → IfErr result (λ fault. fault ≡ StoreFault.Memory
         → HasTable conn.old.schema table_def.now
         × HasGivenRow S.Store sql.now (bound values.now) conn.new) }
 {
     if !conn.is_autocommit() || !is_declared(conn.schema(), table_def) {
-        return Err(Fault::Store);
+        return Err(StoreFault::Store);
     }
     let mut rows = read_rows(alloc, conn, by, sql, values)?;
     let has_more = rows.len() > most;
     rows.truncate(most);
-    Ok(Page { rows, has_more })
+    Ok(RowPage { rows, has_more })
 }

@@ -6,14 +6,14 @@ ghost use Rattle.sqlite.specs.Held.{state};
 ghost use Rattle.sqlite.specs.Given.{Advances};
 ghost use Rattle.sqlite.specs.Values.{bound};
 ghost use Rattle.sql_tables.specs.{IsAtRest, Keeps};
-ghost use Rattle.sql_queries.specs.Calls.{AnswersUnchanged, KeepsVisible};
+ghost use Rattle.sql_queries.specs.ReadContracts.{AnswersUnchanged, KeepsVisible};
 ghost use Rattle.sql_queries.specs.Plain.{OnlyReads};
 ghost use Rattle.sql_queries.specs.Given.{HasGivenRow};
 ghost use Rattle.sql_queries.specs.Keys as key;
 ghost use Rattle.sql_queries.specs.Rises.{Rises};
 
 use crate::keys::is_before;
-use sql_tables::{Fault, fault_of};
+use sql_tables::{StoreFault, fault_of};
 use sqlite::types::ValueRef;
 use sqlite::{Alter, Connection, Row, Rows};
 use std::alloc::{AllocError, Global};
@@ -35,18 +35,18 @@ fn may_follow(by: &[usize], list: &[Row], row: &Row) -> bool
 }
 
 /// A copy of a row. Memory where there is none for it.
-fn copied(row: &Row) -> Result<Row, Fault>
-    ensures fault { IsOkUnless result Fault.Memory }
+fn copied(row: &Row) -> Result<Row, StoreFault>
+    ensures fault { IsOkUnless result StoreFault.Memory }
     ensures copy { IfOk result (λ copy. copy ≡ row.now) }
 {
     match row.copy() {
         Ok(copy) => Ok(copy),
-        Err(AllocError) => Err(Fault::Memory),
+        Err(AllocError) => Err(StoreFault::Memory),
     }
 }
 
 /// The next row. Store where the store fails, Memory where there is none for a copy of the row.
-fn next_row<S: Alter>(rows: &mut Rows<'_, S>) -> Result<Option<Row>, Fault>
+fn next_row<S: Alter>(rows: &mut Rows<'_, S>) -> Result<Option<Row>, StoreFault>
     ensures same_reference { rows.new.conn.ghost_name ≡ rows.old.conn.ghost_name }
     ensures ok { HasCleanDisk (state S.Store rows.new.conn.now)
         → IfOk result (λ row. Advances S.Store rows.old.conn.now rows.new.conn.now row) }
@@ -59,7 +59,7 @@ fn next_row<S: Alter>(rows: &mut Rows<'_, S>) -> Result<Option<Row>, Fault>
         (λ _. ⊥) }
     // Memory is wanted for a row that was given.
     ensures memory { HasCleanDisk (state S.Store rows.new.conn.now)
-        → IfErr result (λ fault. fault ≡ Fault.Memory
+        → IfErr result (λ fault. fault ≡ StoreFault.Memory
         → (row : _) × Advances S.Store rows.old.conn.now rows.new.conn.now (Some row)) }
 {
     match rows.advance() {
@@ -73,13 +73,13 @@ fn next_row<S: Alter>(rows: &mut Rows<'_, S>) -> Result<Option<Row>, Fault>
 }
 
 /// Puts a row at the end of the list. Memory where there is none for the list to grow.
-fn keep(list: &mut Vec<Row>, row: Row) -> Result<(), Fault>
-    ensures fault { IsOkUnless result Fault.Memory }
+fn keep(list: &mut Vec<Row>, row: Row) -> Result<(), StoreFault>
+    ensures fault { IsOkUnless result StoreFault.Memory }
     ensures kept { OnOk result (list.new.items ≡ list.old.items ++ row ∷ []) }
 {
     match list.push(row) {
         Ok(()) => Ok(()),
-        Err(_) => Err(Fault::Memory),
+        Err(_) => Err(StoreFault::Memory),
     }
 }
 
@@ -92,7 +92,7 @@ pub fn read_rows<S: Alter>(
     by: &[usize],
     sql: &str,
     params: &[ValueRef<'_>],
-) -> Result<Vec<Row>, Fault>
+) -> Result<Vec<Row>, StoreFault>
     requires only_reads { OnlyReads conn.old.schema sql.now }
     requires rest { IsAtRest (state S.Store conn.old) }
     ensures rows { HasCleanDisk (state S.Store conn.new)
@@ -105,7 +105,7 @@ pub fn read_rows<S: Alter>(
     ensures crash { Survives (state S.Store conn.old) (state S.Store conn.new) (λ _. ⊥) }
     // Memory is wanted for a row that was given.
     ensures memory { HasCleanDisk (state S.Store conn.new)
-        → IfErr result (λ fault. fault ≡ Fault.Memory
+        → IfErr result (λ fault. fault ≡ StoreFault.Memory
         → HasGivenRow S.Store sql.now (bound params.now) conn.new) }
 {
     let mut list = Vec::new(alloc);
@@ -118,9 +118,9 @@ pub fn read_rows<S: Alter>(
             return Ok(list);
         };
         if !may_follow(by, list.as_slice(), &row) {
-            return Err(Fault::Store);
+            return Err(StoreFault::Store);
         }
         keep(&mut list, row)?;
     }
-    Err(Fault::Store)
+    Err(StoreFault::Store)
 }

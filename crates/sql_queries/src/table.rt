@@ -3,7 +3,7 @@ ghost use Rattle.sqlite.specs.State.{HasCleanDisk, Survives};
 ghost use Rattle.sqlite.specs.Held.{state};
 ghost use Rattle.sqlite.specs.Values.{bound};
 ghost use Rattle.sql_tables.specs.{HasTable, IsFree};
-ghost use Rattle.sql_queries.specs.Calls.{AnswersUnchanged, BeginsNone, KeepsVisible};
+ghost use Rattle.sql_queries.specs.ReadContracts.{AnswersUnchanged, BeginsNone, KeepsVisible};
 ghost use Rattle.sql_queries.specs.Found.{AreGiven};
 ghost use Rattle.sql_queries.specs.Reading.{Lists, Finds};
 ghost use Rattle.sql_queries.specs.Given.{HasGivenRow};
@@ -13,7 +13,7 @@ ghost use Rattle.sql_queries.specs.Selects.{Selects};
 
 use crate::keys::first_key;
 use crate::reading::read_rows;
-use sql_tables::{Fault, TableDef, is_declared, is_free};
+use sql_tables::{StoreFault, TableDef, is_declared, is_free};
 use sqlite::types::ValueRef;
 use sqlite::{Alter, Connection, Row};
 use sqlite_schema::schema::Schema;
@@ -53,7 +53,7 @@ pub fn find_rows<S: Alter>(
     table_def: &TableDef<'_>,
     sql: &str,
     values: &[ValueRef<'_>],
-) -> Result<Vec<Row>, Fault>
+) -> Result<Vec<Row>, StoreFault>
     requires { (column_indexes : List ℕ) × Selects table_def.now column_indexes sql.now }
     ensures rows { (column_indexes : List ℕ) → Selects table_def.now column_indexes sql.now
         → AreGiven column_indexes (bound values.now) → HasCleanDisk (state S.Store conn.new)
@@ -66,12 +66,12 @@ pub fn find_rows<S: Alter>(
     ensures crash { Survives (state S.Store conn.old) (state S.Store conn.new) (λ _. ⊥) }
     // Memory is wanted for a row that was given, of a table that exists.
     ensures memory { HasCleanDisk (state S.Store conn.new)
-        → IfErr result (λ fault. fault ≡ Fault.Memory
+        → IfErr result (λ fault. fault ≡ StoreFault.Memory
         → HasTable conn.old.schema table_def.now
         × HasGivenRow S.Store sql.now (bound values.now) conn.new) }
 {
     if !conn.is_autocommit() || !is_declared(conn.schema(), table_def) {
-        return Err(Fault::Store);
+        return Err(StoreFault::Store);
     }
     read_rows(alloc, conn, first_key(table_def), sql, values)
 }
@@ -84,7 +84,7 @@ pub fn read_table<S: Alter>(
     conn: &mut Connection<S>,
     table_def: &TableDef<'_>,
     sql: &str,
-) -> Result<Vec<Row>, Fault>
+) -> Result<Vec<Row>, StoreFault>
     requires { Selects table_def.now [] sql.now }
     ensures rows { HasCleanDisk (state S.Store conn.new)
         → IfOk result (λ list. Lists (state S.Store conn.old).now table_def.now list.items) }
@@ -95,7 +95,7 @@ pub fn read_table<S: Alter>(
     ensures crash { Survives (state S.Store conn.old) (state S.Store conn.new) (λ _. ⊥) }
     // Memory is wanted for a row of a table that exists.
     ensures memory { HasCleanDisk (state S.Store conn.new)
-        → IfErr result (λ fault. fault ≡ Fault.Memory → HasTable conn.old.schema table_def.now) }
+        → IfErr result (λ fault. fault ≡ StoreFault.Memory → HasTable conn.old.schema table_def.now) }
 {
     find_rows(alloc, conn, table_def, sql, &[])
 }

@@ -32,8 +32,8 @@ use Rattle.sqlite_catalog.proofs.LayoutLemmas.{zipped_left, index_owner}
 use Rattle.sqlite_trees.specs.View.{IsShaped}
 use Rattle.sqlite_trees.specs.declared.store.Shape.TheVariants as shape
 use Rattle.sql_tables.specs.{TableDef, table_of, columns_of, IsDeclared, HasStoredRows, IsFree, IsCreateStatement}
-use Rattle.sql_tables.proofs.DefsApart.{Differ}
-use Rattle.sql_tables.proofs.StatementTurns.{ran_whole, represents_still}
+use Rattle.sql_tables.proofs.DistinctTableNames.{Differ}
+use Rattle.sql_tables.proofs.StatementEffect.{ran_whole, represents_still}
 use Rattle.sql_tables.proofs.PutUpserts.{went, same_value}
 use Rattle.sql_tables.proofs.RowConflicts.{plains_are}
 use Rattle.sql_tables.proofs.TextsCompile.{plain_command, compiles_to}

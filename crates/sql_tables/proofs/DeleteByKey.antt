@@ -37,7 +37,7 @@ use Rattle.sql_tables.proofs.RowLists.{same_bool, filter_on, without_is}
 use Rattle.sql_tables.proofs.RowConflicts.{same_row, own_rowid, column_shift}
 use Rattle.sql_tables.proofs.TextsCompile.{plain_command, program_of, compiles_to}
 use Rattle.sql_tables.proofs.PutUpserts.{went, same_value, Trees_turn, task_of, step_crash_states}
-use Rattle.sql_tables.proofs.StatementTurns.{not_run, Turns, turned_by, ran_as}
+use Rattle.sql_tables.proofs.StatementEffect.{not_run, Turns, turned_by, ran_as}
 use Rattle.sqlite.specs.Command.TheVariants.{Delete}
 use Rattle.sqlite_schema.specs.Program.{lets_of}
 use Rattle.sqlite_schema.specs.Names.{table_named}

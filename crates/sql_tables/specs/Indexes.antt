@@ -1,4 +1,4 @@
--- Indexes that serve look-ups, and bar no row: how one is declared, the text that makes it, and what such texts leave.
+-- Indexes that serve lookups, and bar no row: how one is declared, the text that makes it, and what such texts leave.
 use Rattle.std.specs.Prelude.{◌≡◌, ℕ, Bool, true, false, not, List, [], slice_range, slice_get, Some, Ok, IsTrue}
 use Rattle.std.specs.List.{AllByRecursion, AllZip, list_all}
 use Rattle.sqlite.specs.Order.{Row}

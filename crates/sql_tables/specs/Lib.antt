@@ -18,5 +18,5 @@ pub use Texts.{IsCreateStatement, IsDeleteStatement, IsInsertStatement, IsPutSta
 pub use Moves.{AreApart, AreCreateStatements, CreatesTables, DeletesRows, Founds, KeepsFurtherNamesFree, KeepsNamesFree, RunsInside, Upserts, all_differ, changed_at, differs_from, taken_at}
 pub use Indexes.{AddsIndexes, AreCreateIndexStatements, AreOf, HasIndex, IndexDef, IsCreateIndexStatement, MakesIndexes, are_named_apart, index_in, index_of}
 pub use CrashStates.{IsSettled, IsUndone}
-pub use declared.fault.Fault.{Fault}
+pub use declared.fault.StoreFault.{StoreFault}
 pub use declared.table_def.CreateIndexStatement.{CreateIndexStatement}

@@ -4,7 +4,7 @@ use sqlite::Error;
 
 /// Why a call on the store gave no answer.
 #[derive(Clone, Copy, Debug, PartialEq, Eq, thiserror::Error)]
-pub enum Fault {
+pub enum StoreFault {
     /// The store failed, be it for want of memory of its own, or what it contains isn't what was asked for.
     #[error("the store failed")]
     Store,
@@ -15,8 +15,8 @@ pub enum Fault {
 
 /// The fault by which an error of the store is reported, whatever it was: want of memory that SQLite reports is the
 /// store's.
-pub fn fault_of(_: Error) -> Fault
-    ensures { result ≡ Fault.Store }
+pub fn fault_of(_: Error) -> StoreFault
+    ensures { result ≡ StoreFault.Store }
 {
-    Fault::Store
+    StoreFault::Store
 }

@@ -4,17 +4,17 @@ ghost use Rattle.sqlite.specs.State.{HasCleanDisk, Survives, KeepsCommit};
 ghost use Rattle.sqlite.specs.Held.{state};
 ghost use Rattle.sql_tables.specs.CrashStates.{IsSettled, IsUndone};
 
-use crate::fault::{Fault, fault_of};
+use crate::fault::{StoreFault, fault_of};
 use sqlite::{Alter, Connection, Transaction};
 
 /// What is done in one transaction.
-pub trait Work {
+pub trait TransactionWork {
     // What it makes of a database, where it succeeds.
     ghost makes: { Self → Database → Database → Type 0 };
 
-    /// Does it. Nothing is committed. The one fault is [`Fault::Store`].
-    fn run<S: Alter>(&self, tx: &mut Transaction<'_, S>) -> Result<(), Fault>
-        ensures fault { IsOkUnless result Fault.Store }
+    /// Does it. Nothing is committed. The one fault is [`StoreFault::Store`].
+    fn run<S: Alter>(&self, tx: &mut Transaction<'_, S>) -> Result<(), StoreFault>
+        ensures fault { IsOkUnless result StoreFault.Store }
         ensures same_reference { tx.new.conn.ghost_name ≡ tx.old.conn.ghost_name }
         ensures made { HasCleanDisk (state S.Store tx.new.conn.now)
             → OnOk result (makes self.now (state S.Store tx.old.conn.now).now
@@ -30,10 +30,13 @@ pub trait Work {
 }
 
 /// Does the work in one transaction, whose commit is the last call of the store: after `Ok` all of it is done and
-/// committed, and after a fault, which is [`Fault::Store`], as far as is known, nothing. A stop leaves what was there before or all of it.
-pub fn in_one<S: Alter, W: Work>(conn: &mut Connection<S>, work: &W) -> Result<(), Fault>
+/// committed, and after a fault, which is [`StoreFault::Store`], as far as is known, nothing. A stop leaves what was there before or all of it.
+pub fn in_one<S: Alter, W: TransactionWork>(
+    conn: &mut Connection<S>,
+    work: &W,
+) -> Result<(), StoreFault>
     requires { conn.old.in_transaction ≡ false }
-    ensures fault { IsOkUnless result Fault.Store }
+    ensures fault { IsOkUnless result StoreFault.Store }
     ensures mode { conn.new.in_transaction ≡ false }
     ensures done { HasCleanDisk (state S.Store conn.new) → IsSettled (state S.Store conn.old)
         → OnOk result (IsSettled (state S.Store conn.new)

@@ -7,8 +7,8 @@ mod statements;
 mod stored_rows;
 mod table_def;
 
-pub use fault::{Fault, fault_of};
-pub use frame::{Work, in_one};
+pub use fault::{StoreFault, fault_of};
+pub use frame::{TransactionWork, in_one};
 pub use statements::{create_tables, delete_rows, put_row, run_create_indexes};
 pub use stored_rows::{is_declared, is_free, is_taken};
 pub use table_def::{ColumnDef, CreateIndexStatement, TableDef};

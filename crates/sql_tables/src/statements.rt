@@ -6,7 +6,7 @@ ghost use Rattle.sql_tables.specs.Moves.{RunsInside, Upserts, DeletesRows, Creat
 ghost use Rattle.sql_tables.specs.Moves.{KeepsNamesFree};
 ghost use Rattle.sql_tables.specs.Indexes.{MakesIndexes};
 
-use crate::fault::{Fault, fault_of};
+use crate::fault::{StoreFault, fault_of};
 use crate::table_def::CreateIndexStatement;
 use sqlite::{Alter, Error, Transaction};
 use sqlite_value::value::ValueRef;
@@ -30,14 +30,14 @@ fn run<S: Alter>(
 }
 
 /// Puts a row instead of those that are equal to it in some key, by a text that adds it, or that updates the row with
-/// its key. The one fault is [`Fault::Store`], where the store refuses the text, as it does where a row would have to go
+/// its key. The one fault is [`StoreFault::Store`], where the store refuses the text, as it does where a row would have to go
 /// that the text doesn't update, and may where it isn't one of a table that exists.
 pub fn put_row<S: Alter>(
     tx: &mut Transaction<'_, S>,
     sql: &str,
     values: &[ValueRef<'_>],
-) -> Result<(), Fault>
-    ensures fault { IsOkUnless result Fault.Store }
+) -> Result<(), StoreFault>
+    ensures fault { IsOkUnless result StoreFault.Store }
     ensures same_reference { tx.new.conn.ghost_name ≡ tx.old.conn.ghost_name }
     ensures put { HasCleanDisk (state S.Store tx.new.conn.now)
         → OnOk result (Upserts sql.now (bound values.now) (state S.Store tx.old.conn.now)
@@ -58,8 +58,8 @@ pub fn delete_rows<S: Alter>(
     tx: &mut Transaction<'_, S>,
     sql: &str,
     values: &[ValueRef<'_>],
-) -> Result<(), Fault>
-    ensures fault { IsOkUnless result Fault.Store }
+) -> Result<(), StoreFault>
+    ensures fault { IsOkUnless result StoreFault.Store }
     ensures same_reference { tx.new.conn.ghost_name ≡ tx.old.conn.ghost_name }
     ensures taken { HasCleanDisk (state S.Store tx.new.conn.now)
         → OnOk result (DeletesRows sql.now (bound values.now) (state S.Store tx.old.conn.now)
@@ -75,8 +75,8 @@ pub fn delete_rows<S: Alter>(
 }
 
 /// Runs a statement without parameters inside the transaction.
-fn run_plain<S: Alter>(tx: &mut Transaction<'_, S>, sql: &str) -> Result<(), Fault>
-    ensures fault { IsOkUnless result Fault.Store }
+fn run_plain<S: Alter>(tx: &mut Transaction<'_, S>, sql: &str) -> Result<(), StoreFault>
+    ensures fault { IsOkUnless result StoreFault.Store }
     ensures same_reference { tx.new.conn.ghost_name ≡ tx.old.conn.ghost_name }
     ensures runs { HasCleanDisk (state S.Store tx.new.conn.now)
         → OnOk result ((count : _) × RunsInside sql.now [] (state S.Store tx.old.conn.now)
@@ -91,10 +91,13 @@ fn run_plain<S: Alter>(tx: &mut Transaction<'_, S>, sql: &str) -> Result<(), Fau
     }
 }
 
-/// Makes tables, one by each text, up to the first that the store refuses: [`Fault::Store`], the one fault. Further tables
+/// Makes tables, one by each text, up to the first that the store refuses: [`StoreFault::Store`], the one fault. Further tables
 /// that could be made still can.
-pub fn create_tables<S: Alter>(tx: &mut Transaction<'_, S>, texts: &[&str]) -> Result<(), Fault>
-    ensures fault { IsOkUnless result Fault.Store }
+pub fn create_tables<S: Alter>(
+    tx: &mut Transaction<'_, S>,
+    texts: &[&str],
+) -> Result<(), StoreFault>
+    ensures fault { IsOkUnless result StoreFault.Store }
     ensures same_reference { tx.new.conn.ghost_name ≡ tx.old.conn.ghost_name }
     ensures made { HasCleanDisk (state S.Store tx.new.conn.now)
         → OnOk result (CreatesTables (map (λ text. text.now) texts.now)
@@ -112,13 +115,13 @@ pub fn create_tables<S: Alter>(tx: &mut Transaction<'_, S>, texts: &[&str]) -> R
     Ok(())
 }
 
-/// Makes indexes of tables, one by each text, up to the first that the store refuses: [`Fault::Store`], the one
+/// Makes indexes of tables, one by each text, up to the first that the store refuses: [`StoreFault::Store`], the one
 /// fault. The tables keep their rows.
 pub fn run_create_indexes<S: Alter>(
     tx: &mut Transaction<'_, S>,
     texts: &[CreateIndexStatement<'_>],
-) -> Result<(), Fault>
-    ensures fault { IsOkUnless result Fault.Store }
+) -> Result<(), StoreFault>
+    ensures fault { IsOkUnless result StoreFault.Store }
     ensures same_reference { tx.new.conn.ghost_name ≡ tx.old.conn.ghost_name }
     ensures made { HasCleanDisk (state S.Store tx.new.conn.now)
         → OnOk result (MakesIndexes (map (λ text. text.sql.now) texts.now)

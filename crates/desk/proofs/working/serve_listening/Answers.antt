@@ -12,7 +12,7 @@ pub returns-in-Err-clause-serves : goal.returns-in-Err-clause-serves
 returns-in-Err-clause-serves g c = λ clean s represented.
     let shown = state g.S.Store c.args.desk.now.connection in
     let shut = c.args.desk.now.is_shut in
-    open_served c.args.profile c.args.count s (Represents shown shut) shut (λ states. HasCrashStates shown states) [] c.requires (omega arith)
+    open_served c.args.terms c.args.count s (Represents shown shut) shut (λ states. HasCrashStates shown states) [] c.requires (omega arith)
     (represented, represented.1 c.requires)
 
 pub returns-in-Err-clause-same : goal.returns-in-Err-clause-same

@@ -1,6 +1,6 @@
 use Rattle.std.proofs.Common.{◌∙◌, ap, take_all}
 use Rattle.desk_check.specs.{each_data}
-use Rattle.desk_check.proofs.EachDataReported.{each_data_reported}
+use Rattle.desk_check.proofs.JsonListReported.{each_data_reported}
 use Rattle.desk_check.proofs.json.each_value.Goals as goal
 
 pub loop-rule-preserved : goal.loop-rule-preserved

@@ -1,4 +1,4 @@
-use Rattle.desk_check.proofs.SentencesInSequence.{opens_alone}
+use Rattle.desk_check.proofs.SentencesConcatenate.{opens_alone}
 use Rattle.desk_check.proofs.outcome.write_opens.Goals as goal
 
 pub returns : goal.returns

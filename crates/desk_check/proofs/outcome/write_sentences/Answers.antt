@@ -1,5 +1,5 @@
 use Rattle.desk_check.specs.{held_text}
-use Rattle.desk_check.proofs.SentencesInSequence.{held_behind}
+use Rattle.desk_check.proofs.SentencesConcatenate.{held_behind}
 use Rattle.desk_check.proofs.outcome.write_sentences.Goals as goal
 
 pub returns : goal.returns

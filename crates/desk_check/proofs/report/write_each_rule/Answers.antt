@@ -1,4 +1,4 @@
-use Rattle.desk_check.proofs.SentencesInSequence.{each_row}
+use Rattle.desk_check.proofs.SentencesConcatenate.{each_row}
 use Rattle.desk_check.proofs.report.write_each_rule.Goals as goal
 
 pub loop-rule-preserved : goal.loop-rule-preserved

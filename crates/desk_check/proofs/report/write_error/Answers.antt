@@ -1,6 +1,6 @@
 use Rattle.std.proofs.Common.{subst, sym, string_bytes}
 use Rattle.desk_check.specs.{IsErrorText, error_of}
-use Rattle.desk_check.proofs.SentencesInSequence.{some_text}
+use Rattle.desk_check.proofs.SentencesConcatenate.{some_text}
 use Rattle.desk_check.proofs.report.write_error.Goals as goal
 
 pub returns-in-Ok : goal.returns-in-Ok

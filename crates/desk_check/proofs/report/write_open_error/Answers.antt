@@ -1,4 +1,4 @@
-use Rattle.desk_check.proofs.SentencesInSequence.{cause_behind}
+use Rattle.desk_check.proofs.SentencesConcatenate.{cause_behind}
 use Rattle.desk_check.proofs.report.write_open_error.Goals as goal
 
 pub returns : goal.returns

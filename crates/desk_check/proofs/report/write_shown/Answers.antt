@@ -1,4 +1,4 @@
-use Rattle.desk_check.proofs.SentencesInSequence.{shown_reported}
+use Rattle.desk_check.proofs.SentencesConcatenate.{shown_reported}
 use Rattle.desk_check.proofs.report.write_shown.Goals as goal
 
 pub returns-in-Ok : goal.returns-in-Ok

@@ -1,4 +1,4 @@
-use Rattle.desk_program.proofs.AskedKeeper.{asked_stays, asked_answer}
+use Rattle.desk_program.proofs.ReadKeepsState.{asked_stays, asked_answer}
 use Rattle.desk_program.proofs.answered.write_answer.Goals as goal
 
 pub returns-clause-stays : goal.returns-clause-stays

@@ -1,5 +1,5 @@
 use Rattle.std.proofs.Common.{◌∙◌, sym}
-use Rattle.genealogy_picture.proofs.LineSays.{at_value, at_refusal}
+use Rattle.genealogy_picture.proofs.LineMeaning.{at_value, at_refusal}
 use Rattle.genealogy_picture.proofs.answers.line_into.Goals as goal
 
 pub returns-in-Ok : goal.returns-in-Ok

@@ -2,7 +2,7 @@ use Rattle.std.proofs.Common.{◌≡◌, ◌∙◌, List, [], true, map, subst, 
 use Rattle.clap.specs.Kinds.{HasKind}
 use Rattle.clap.specs.Words.{App, HasMatchesOf, Text, fault_of, first_of, found_of, is_simple, is_simple_and_free, matches_of, rows_of}
 use Rattle.genealogy_picture.proofs.RefusalKinds.{refusal_by}
-use Rattle.genealogy_picture.specs.{asked_of, picture_app, format_of}
+use Rattle.genealogy_picture.specs.{node_asked, picture_app, format_of}
 use Rattle.genealogy_picture.proofs.words.read_words.Goals as goal
 
 simple_and_free : is_simple_and_free picture_app ≡ true
@@ -42,7 +42,7 @@ returns-in-Ok-try_get_matches_from-clause-asked c =
     let Has : App → Type 0 = λ a. HasMatchesOf a words m in
     let same : rows_of (found_of m) ≡ matches_of picture_app words
     = (subst Has c.in-Ok.ensures c.in-Ok-try_get_matches_from.ensures.matches simple).0 in
-    c.asked_of.ensures ∙ ap asked_of same
+    c.node_asked.ensures ∙ ap node_asked same
 
 pub returns-in-Ok-try_get_matches_from-clause-taken : goal.returns-in-Ok-try_get_matches_from-clause-taken
 returns-in-Ok-try_get_matches_from-clause-taken c =

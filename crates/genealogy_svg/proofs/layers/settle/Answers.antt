@@ -2,7 +2,7 @@ use Rattle.std.proofs.Common.{◌∙◌, ap}
 use Rattle.std.proofs.lemmas.Bool.{both_ways}
 use Rattle.plant_trace.specs.{rank_of}
 use Rattle.genealogy_svg.specs.{height}
-use Rattle.genealogy_svg.proofs.LayersInTurn.{settled_more}
+use Rattle.genealogy_svg.proofs.LayersLoop.{settled_more}
 use Rattle.genealogy_svg.proofs.layers.settle.Goals as goal
 
 pub returns-in_ok-note-in-Some-clause-settled : goal.returns-in_ok-note-in-Some-clause-settled

@@ -1,10 +1,10 @@
 use Rattle.std.proofs.Common.{◌∙◌, All}
-use Rattle.genealogy_svg.proofs.LaidOut.{laid_out, outside}
+use Rattle.genealogy_svg.proofs.LayoutParts.{laid_out, outside}
 use Rattle.genealogy_svg.proofs.EdgesLeadRight.{leads_right}
-use Rattle.genealogy_svg.proofs.LostEnds.{lost_end}
+use Rattle.genealogy_svg.proofs.DanglingEnds.{lost_end}
 use Rattle.genealogy_svg.specs.{nodes_of, IsLaidOut, LeadsRight, HasAmounts}
 use Rattle.genealogy_svg.specs.declared.drawing.Drawing.{Drawing}
-use Rattle.genealogy_svg.proofs.RowsInTurn.{on_ok}
+use Rattle.genealogy_svg.proofs.RowsLoop.{on_ok}
 use Rattle.genealogy_svg.proofs.layouts.layout.Goals as goal
 
 pub returns-in-Ok-clause-laid : goal.returns-in-Ok-clause-laid

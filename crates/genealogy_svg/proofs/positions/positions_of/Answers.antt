@@ -1,7 +1,7 @@
 use Rattle.std.proofs.Common.{◌≡◌, ◌∙◌, ◌+◌, List, [], ◌∷◌, ◌++◌, take, sym, ap, subst}
 use Rattle.std.proofs.lemmas.List.{take_more}
 use Rattle.plant_trace.specs.{Node}
-use Rattle.genealogy_svg.proofs.PositionsInTurn.{Placing, placed_more}
+use Rattle.genealogy_svg.proofs.PositionsLoop.{Placing, placed_more}
 use Rattle.genealogy_svg.proofs.positions.positions_of.Goals as goal
 
 pub loop-node-preserved : goal.loop-node-preserved

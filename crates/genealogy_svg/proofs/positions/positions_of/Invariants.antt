@@ -1,5 +1,5 @@
 use Rattle.std.proofs.Common.{take}
-use Rattle.genealogy_svg.proofs.PositionsInTurn.{Placing}
+use Rattle.genealogy_svg.proofs.PositionsLoop.{Placing}
 use Rattle.genealogy_svg.proofs.positions.positions_of.Given as goal
 
 abbrev pub invariant-loop-node : goal.invariant-loop-node

@@ -2,7 +2,7 @@ use Rattle.std.proofs.Common.{◌≡◌, ◌∙◌, ◌+◌, List, [], ◌∷◌
 use Rattle.std.proofs.lemmas.List.{take_more}
 use Rattle.genealogy_svg.specs.declared.drawing.DrawnEdge.{DrawnEdge}
 use Rattle.genealogy_svg.specs.{HaveRows, in_row}
-use Rattle.genealogy_svg.proofs.RowsInTurn.{Rowing, have_rows, rowing_more}
+use Rattle.genealogy_svg.proofs.RowsLoop.{Rowing, have_rows, rowing_more}
 use Rattle.genealogy_svg.proofs.rows.with_rows.Goals as goal
 
 pub loop-edge-preserved : goal.loop-edge-preserved

@@ -1,5 +1,5 @@
 use Rattle.std.proofs.Common.{take}
-use Rattle.genealogy_svg.proofs.RowsInTurn.{Rowing}
+use Rattle.genealogy_svg.proofs.RowsLoop.{Rowing}
 use Rattle.genealogy_svg.proofs.rows.with_rows.Given as goal
 
 abbrev pub invariant-loop-edge : goal.invariant-loop-edge

@@ -1,7 +1,7 @@
 use Rattle.std.proofs.Common.{◌≡◌, ◌<◌, [], ◌++◌, length, refl, sym, ◌∙◌, arith}
 use Rattle.std.proofs.lemmas.Bool.Decides.{nat_tests}
 use Rattle.plant_text.proofs.KnownBytes.{Consumes-nil, Consumes-append, Consumes-none}
-use Rattle.plant_text.proofs.HeldLine.{held_more, held_after_none, each_none}
+use Rattle.plant_text.proofs.BufferSuffices.{held_more, held_after_none, each_none}
 use Rattle.line_check.specs.{verdict_of}
 use Rattle.line_check.proofs.ReportedLines.{reported_same, piece_reported, input_ends}
 use Rattle.line_check.proofs.ReportEndsEarly.{early_at_end, early_at_read, early_in_piece}

@@ -1,7 +1,7 @@
 use Rattle.std.proofs.Common.{◌≡◌, true, false, nat_eq, refl, sym, ◌∙◌, arith}
 use Rattle.std.proofs.lemmas.Bool.Decides.{nat_tests}
 use Rattle.std.proofs.lemmas.Result.{on_ok_weaker}
-use Rattle.plant_text.proofs.HeldLine.{held_after_lf, held_after_byte, each_lf, each_byte}
+use Rattle.plant_text.proofs.BufferSuffices.{held_after_lf, held_after_byte, each_lf, each_byte}
 use Rattle.line_check.specs.{verdict_of}
 use Rattle.line_check.proofs.ReportedLines.{reported_same}
 use Rattle.line_check.proofs.lines.take_byte.Goals as goal

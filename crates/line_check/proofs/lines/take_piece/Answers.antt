@@ -1,6 +1,6 @@
 use Rattle.std.proofs.Common.{◌≡◌, ◌+◌, ◌<◌, [], ◌∷◌, ◌++◌, get_or, take, drop, length, refl, sym, ap, ◌∙◌, arith, take-append-drop}
 use Rattle.std.proofs.lemmas.List.{take_more}
-use Rattle.plant_text.proofs.HeldLine.{held_more, held_after_none, each_none}
+use Rattle.plant_text.proofs.BufferSuffices.{held_more, held_after_none, each_none}
 use Rattle.line_check.specs.{verdict_of}
 use Rattle.line_check.proofs.ReportedLines.{reported_same, piece_reported}
 use Rattle.line_check.proofs.ReportEndsEarly.{early_at_byte}

@@ -1,6 +1,6 @@
 use Rattle.std.proofs.Common.{◌∙◌, ◌++◌, ap, take_all}
 use Rattle.order_check.specs.{conflict_in, conflicts_among}
-use Rattle.order_check.proofs.ConflictsInSequence.{conflicts_added}
+use Rattle.order_check.proofs.ConflictsConcatenate.{conflicts_added}
 use Rattle.order_check.proofs.conflicts.conflicts_among.Goals as goal
 
 pub loop-order-preserved : goal.loop-order-preserved

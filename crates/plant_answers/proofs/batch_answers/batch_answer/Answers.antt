@@ -1,7 +1,7 @@
 use Rattle.std.proofs.Common.{◌∙◌, sym}
 use Rattle.plant_base.specs.{batch_at}
 use Rattle.plant_trace.proofs.HoldsIfHonest.{HoldsIfHonest-then}
-use Rattle.plant_answers.proofs.FoundBatchRow.{row_found}
+use Rattle.plant_answers.proofs.BatchRowLookup.{row_found}
 use Rattle.plant_answers.proofs.batch_answers.batch_answer.Goals as goal
 
 pub returns : goal.returns

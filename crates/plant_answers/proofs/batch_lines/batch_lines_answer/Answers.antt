@@ -2,7 +2,7 @@ use Rattle.std.proofs.Common.{◌∙◌, ap, sym}
 use Rattle.plant_base.specs.{batch_at}
 use Rattle.plant_trace.proofs.HoldsIfHonest.{HoldsIfHonest-then}
 use Rattle.plant_questions.specs.declared.question.Answer.TheVariants as A
-use Rattle.plant_answers.proofs.FoundBatchRow.{row_found}
+use Rattle.plant_answers.proofs.BatchRowLookup.{row_found}
 use Rattle.plant_answers.proofs.batch_lines.batch_lines_answer.Goals as goal
 
 pub returns : goal.returns

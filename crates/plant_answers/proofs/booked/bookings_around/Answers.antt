@@ -3,7 +3,7 @@ use Rattle.std.proofs.lemmas.Result.{IfOk-from_err}
 use Rattle.plant_trace.proofs.HoldsIfHonest.{HoldsIfHonest-then}
 use Rattle.plant_answers.specs.{booked_at}
 use Rattle.plant_answers.proofs.BookingsBetweenNodes.{all_booked}
-use Rattle.plant_answers.proofs.GatheredBookings.{joined_more}
+use Rattle.plant_answers.proofs.BookingLoops.{joined_more}
 use Rattle.plant_answers.proofs.booked.bookings_around.Goals as goal
 
 pub loop-node-preserved : goal.loop-node-preserved

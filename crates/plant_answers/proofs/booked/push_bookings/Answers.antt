@@ -1,6 +1,6 @@
 use Rattle.std.proofs.Common.{rules, ◌≡◌, ◌++◌, ◌∙◌, option_to_list}
 use Rattle.plant_answers.specs.{booked_at}
-use Rattle.plant_answers.proofs.GatheredBookings.{pushed_more}
+use Rattle.plant_answers.proofs.BookingLoops.{pushed_more}
 use Rattle.plant_answers.proofs.booked.push_bookings.Goals as goal
 
 pub loop-movement-preserved : goal.loop-movement-preserved

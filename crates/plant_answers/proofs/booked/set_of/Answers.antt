@@ -1,4 +1,4 @@
-use Rattle.plant_answers.proofs.GatheredBookings.{set_more}
+use Rattle.plant_answers.proofs.BookingLoops.{set_more}
 use Rattle.plant_answers.proofs.booked.set_of.Goals as goal
 
 pub loop-node-preserved : goal.loop-node-preserved

@@ -2,7 +2,7 @@ use Rattle.std.proofs.Common.{rules, ◌≡◌, ◌++◌, option_to_list}
 use Rattle.std.proofs.lemmas.Result.{IfOk-from_err}
 use Rattle.plant_trace.proofs.HoldsIfHonest.{HoldsIfHonest-then}
 use Rattle.plant_answers.specs.{booked_on}
-use Rattle.plant_answers.proofs.NarrowedMovements.{reported_more}
+use Rattle.plant_answers.proofs.BatchMovementsSuffice.{reported_more}
 use Rattle.plant_answers.proofs.bookings.booked_by.Goals as goal
 
 pub loop-movement-preserved : goal.loop-movement-preserved

@@ -2,7 +2,7 @@ use Rattle.std.proofs.Common.{◌≡◌, ◌∙◌, filter_map}
 use Rattle.plant_trace.proofs.HoldsIfHonest.{HoldsIfHonest-then}
 use Rattle.plant_view.specs.{movements_of}
 use Rattle.plant_answers.specs.{consumption}
-use Rattle.plant_answers.proofs.NarrowedMovements.{consumed_all, produced_all}
+use Rattle.plant_answers.proofs.BatchMovementsSuffice.{consumed_all, produced_all}
 use Rattle.plant_answers.proofs.bookings.bookings_of.Goals as goal
 
 pub returns : goal.returns

@@ -1,7 +1,7 @@
 use Rattle.std.proofs.Common.{◌≡◌, ◌∙◌}
 use Rattle.plant_trace.proofs.HoldsIfHonest.{HoldsIfHonest-weaker}
 use Rattle.plant_view.specs.{scraps_of}
-use Rattle.plant_answers.proofs.NarrowedMovements.{scrapped_all}
+use Rattle.plant_answers.proofs.BatchMovementsSuffice.{scrapped_all}
 use Rattle.plant_answers.proofs.bookings.scrapped_of.Goals as goal
 
 pub returns : goal.returns

@@ -2,7 +2,7 @@ use Rattle.std.proofs.Common.{rules, ◌≡◌, ◌∙◌, ◌++◌, option_to_l
 use Rattle.std.proofs.lemmas.List.Sums.{fold_more}
 use Rattle.std.proofs.lemmas.Result.{IfOk-from_err}
 use Rattle.plant_trace.proofs.HoldsIfHonest.{HoldsIfHonest-then}
-use Rattle.plant_answers.proofs.NarrowedMovements.{reported_more}
+use Rattle.plant_answers.proofs.BatchMovementsSuffice.{reported_more}
 use Rattle.plant_answers.proofs.each_told.rows_of_each.Goals as goal
 
 pub loop-item-init : goal.loop-item-init

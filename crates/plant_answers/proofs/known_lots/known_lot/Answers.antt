@@ -1,6 +1,6 @@
 use Rattle.std.proofs.lemmas.Result.{IfOk-from_err}
 use Rattle.plant_trace.proofs.HoldsIfHonest.{HoldsIfHonest-then, HoldsIfHonest-weaker}
-use Rattle.plant_answers.proofs.BothHold.{both_hold}
+use Rattle.plant_answers.proofs.PairOfHonestFacts.{both_hold}
 use Rattle.plant_answers.proofs.known_lots.known_lot.Goals as goal
 
 pub returns : goal.returns

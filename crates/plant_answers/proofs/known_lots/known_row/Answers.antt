@@ -4,7 +4,7 @@ use Rattle.plant_trace.proofs.HoldsIfHonest.{HoldsIfHonest-weaker}
 use Rattle.plant_questions.specs.{prefetched_lots}
 use Rattle.plant_answers.specs.{after_row}
 use Rattle.plant_answers.specs.declared.known_lots.KnownLots.{KnownLots}
-use Rattle.plant_answers.proofs.BothHold.{both_hold}
+use Rattle.plant_answers.proofs.PairOfHonestFacts.{both_hold}
 use Rattle.plant_answers.proofs.known_lots.known_row.Goals as goal
 
 pub returns : goal.returns

@@ -2,7 +2,7 @@ use Rattle.std.proofs.Common.{◌∙◌}
 use Rattle.std.proofs.lemmas.List.Filters.{dedup_is}
 use Rattle.plant_base.proofs.EdgeIsItsKey.{one_edge}
 use Rattle.plant_base.specs.{edge_order, edge_eq, edge_ties, edge_total}
-use Rattle.plant_check_rules.proofs.SortedOnceIsPutAll.{sorted_once}
+use Rattle.plant_check_rules.proofs.SortedDistinctIsPutAll.{sorted_once}
 use Rattle.plant_check_rules.proofs.edges.put_in_order.Goals as goal
 
 pub returns : goal.returns

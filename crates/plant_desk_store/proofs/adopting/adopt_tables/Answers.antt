@@ -8,7 +8,7 @@ use Rattle.plant_view.specs.{tables_of}
 use Rattle.plant_tables.specs.{HoldsTablesOf}
 use Rattle.plant_desk_store.specs.{HasTaken}
 use Rattle.plant_desk_store.proofs.CheckedStore.{still_new, opens_new, others_unchanged}
-use Rattle.plant_desk_store.proofs.TablesTested.{raised_or_not, unread}
+use Rattle.plant_desk_store.proofs.TablesTested.{migrated_or_not, unread}
 use Rattle.plant_desk_store.proofs.adopting.adopt_tables.Goals as goal
 
 -- the rows weren't read, or break a rule
@@ -21,15 +21,15 @@ returns-in_err-rows g c =
     let is : c.from_residual.result ≡ Err c.in_err-rows.field-0.0 = search rules in
     subst (HasTaken c.args.schema old new) (sym is) (unread c.args.schema old new c.in_err-rows.field-0.0 laws c.requires c.in_err-rows.ensures)
 
--- they are valid, and the tables are raised
+-- they are valid, and the tables are migrated
 pub returns-then-schema-lt-NEWEST_SCHEMA : goal.returns-then-schema-lt-NEWEST_SCHEMA
 returns-then-schema-lt-NEWEST_SCHEMA g c =
     let held = c.check_tables.new.connection in
     let mid = state g.S.Store held in
     let first : IsStore mid = record { settled = g.met.S.Store.settled held.store; stays = g.met.S.Store.stays held.store; something = g.met.S.Store.survives held.store } in
     let older : c.args.schema < newest_schema = search rules in
-    raised_or_not c.args.schema older c.in_ok-rows.rows (state g.S.Store c.args.connection.now) mid (state g.S.Store c.raise_tables.new.connection) first c.in_ok-rows.ensures
-    c.raise_tables.result c.raise_tables.ensures
+    migrated_or_not c.args.schema older c.in_ok-rows.rows (state g.S.Store c.args.connection.now) mid (state g.S.Store c.migrate_tables.new.connection) first c.in_ok-rows.ensures
+    c.migrate_tables.result c.migrate_tables.ensures
 
 -- they are valid, and of the newest schema
 pub returns : goal.returns

@@ -2,7 +2,7 @@ use Rattle.std.proofs.Common.{refl, rules, subst}
 use Rattle.sqlite.specs.Held.{state}
 use Rattle.plant_base.specs.{newest_schema}
 use Rattle.plant_view.specs.{tables_of, changed_all}
-use Rattle.plant_view.specs.Tables.{Tables}
+use Rattle.plant_view.specs.TableRows.{Tables}
 use Rattle.sql_tables.proofs.TransactionEnds.{IsStore}
 use Rattle.plant_tables.specs.{IsAt, FailureLeaves}
 use Rattle.plant_invariant_tables.proofs.RowsInKeyOrder.{keyed}

@@ -4,7 +4,7 @@ use Rattle.sqlite.specs.Held.{state}
 use Rattle.sqlite.specs.State.{HasCleanDisk, Survives}
 use Rattle.plant_base.specs.{State}
 use Rattle.sql_tables.proofs.TransactionEnds.{IsStore}
-use Rattle.sql_tables.specs.declared.fault.Fault.TheVariants as fault
+use Rattle.sql_tables.specs.declared.fault.StoreFault.TheVariants as fault
 use Rattle.plant_questions.specs.declared.reply.DeskFault.TheVariants.{Shut}
 use Rattle.plant_desk_store.specs.{HasStepped, IsDurablyAt}
 use Rattle.plant_desk_store.proofs.ForeignTablesKept.{others_kept}

@@ -1,4 +1,4 @@
-use Rattle.plant_desk_store.proofs.ValidIsAdoptedAgain.{unrefused}
+use Rattle.plant_desk_store.proofs.ValidTablesAreAdopted.{unrefused}
 use Rattle.plant_desk_store.proofs.MarksAreReached.{marks_reached}
 use Rattle.plant_desk_store.proofs.CrashStatesReopen.{reopened, adopted_again, opening_adopted, foreign_tables_kept}
 use Rattle.plant_desk_store.proofs.laws.desk_laws.Goals as goal

@@ -3,7 +3,7 @@ use Rattle.std.proofs.lemmas.Result.{IfOk-weaker, IfErr-weaker}
 use Rattle.sqlite.specs.Held.{state}
 use Rattle.sqlite.specs.State.{HasCleanDisk, IsUnchanged}
 use Rattle.plant_base.specs.{newest_schema}
-use Rattle.sql_tables.specs.declared.fault.Fault.TheVariants as fault
+use Rattle.sql_tables.specs.declared.fault.StoreFault.TheVariants as fault
 use Rattle.plant_tables.specs.{AreLoaded}
 use Rattle.plant_questions.specs.declared.reply.DeskFault.TheVariants.{Shut}
 use Rattle.plant_check_laws.proofs.InvariantImpliesChecksPass.{read_valid}

@@ -1,5 +1,5 @@
 use Rattle.std.proofs.Common.{◌∙◌}
-use Rattle.plant_http.proofs.JobPerforms.{question_performs}
+use Rattle.plant_http.proofs.TaskPerforms.{question_performs}
 use Rattle.plant_http.proofs.perform.ask.Goals as goal
 
 pub returns-clause-performs : goal.returns-clause-performs

@@ -1,5 +1,5 @@
 use Rattle.std.proofs.Common.{◌∙◌}
-use Rattle.plant_http.proofs.JobPerforms.{check_performs, check_shut}
+use Rattle.plant_http.proofs.TaskPerforms.{check_performs, check_shut}
 use Rattle.plant_http.proofs.perform.check.Goals as goal
 
 pub returns-clause-performs : goal.returns-clause-performs

@@ -1,4 +1,4 @@
-use Rattle.plant_http.proofs.JobPerforms.{command_performs}
+use Rattle.plant_http.proofs.TaskPerforms.{command_performs}
 use Rattle.plant_http.proofs.perform.execute.Goals as goal
 
 pub returns-clause-performs : goal.returns-clause-performs

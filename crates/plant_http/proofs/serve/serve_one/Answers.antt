@@ -1,5 +1,5 @@
 use Rattle.std.proofs.Common.{Some, Err, ap, ◌∙◌}
-use Rattle.plant_http.proofs.RequestOfInput.{serves_by_job, shut_by_job, serves_nothing, shut_nothing, fault_whole, fault_serves, fault_shut}
+use Rattle.plant_http.proofs.RequestOfInput.{serves_by_task, shut_by_task, serves_nothing, shut_nothing, fault_whole, fault_serves, fault_shut}
 use Rattle.plant_http.proofs.serve.serve_one.Goals as goal
 
 pub returns-in-Ok-None-clause-serves : goal.returns-in-Ok-None-clause-serves
@@ -16,14 +16,14 @@ returns-in-Ok-None-clause-serves g c =
 
 pub returns-in-Ok-Some-clause-serves : goal.returns-in-Ok-Some-clause-serves
 returns-in-Ok-Some-clause-serves g c =
-    let (whole, agrees, asks) = rw (c.in-Ok-Some.field-0-is ∙ ap Some c.in-Ok-Some.job-is) at c.in-Ok-Some.ensures.asks in
+    let (whole, agrees, asks) = rw (c.in-Ok-Some.field-0-is ∙ ap Some c.in-Ok-Some.task-is) at c.in-Ok-Some.ensures.asks in
     let keeper = g.K.Keeper in
-    let now = c.answer_job.new.keeper in (
+    let now = c.answer_task.new.keeper in (
       whole,
       agrees,
-      λ honest is_live s represented. serves_by_job _ (keeper.schema c.args.keeper.now) s whole c.in-Ok-Some.job _ _ (keeper.represents now) (keeper.shut now) (keeper.crash_states now) c.answer_job.result
-          asks (c.answer_job.ensures.answers honest is_live s represented),
-      λ closed. shut_by_job _ whole c.in-Ok-Some.job _ _ c.answer_job.result asks (c.answer_job.ensures.shut closed),
+      λ honest is_live s represented. serves_by_task _ (keeper.schema c.args.keeper.now) s whole c.in-Ok-Some.task _ _ (keeper.represents now) (keeper.shut now) (keeper.crash_states now) c.answer_task.result
+          asks (rw c.dated.ensures at (c.answer_task.ensures.answers honest is_live s represented)),
+      λ closed. shut_by_task _ whole c.in-Ok-Some.task _ _ c.answer_task.result asks (rw c.dated.ensures at (c.answer_task.ensures.shut closed)),
     )
 
 pub returns-in-Err-clause-serves : goal.returns-in-Err-clause-serves

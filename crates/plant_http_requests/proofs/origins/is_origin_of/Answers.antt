@@ -1,5 +1,5 @@
 use Rattle.std.proofs.Common.{◌∙◌}
-use Rattle.plant_http_requests.proofs.Schemes.{is_joined}
+use Rattle.plant_http_requests.proofs.OriginScheme.{is_joined}
 use Rattle.plant_http_requests.proofs.origins.is_origin_of.Goals as goal
 
 pub returns-in-Some : goal.returns-in-Some

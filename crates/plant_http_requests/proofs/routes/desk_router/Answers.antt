@@ -2,7 +2,7 @@ use Rattle.std.proofs.Common.{◌≡◌, ◌<◌, length, drop, map, subst, arit
 use Rattle.std.specs.Prelude.{fold}
 use Rattle.std.proofs.lemmas.List.{drop_more}
 use Rattle.plant_http_requests.specs.Routes.{the_routes, with_route}
-use Rattle.plant_http_requests.proofs.RoutesInTurn.{one_more}
+use Rattle.plant_http_requests.proofs.RouteTableIsInserted.{one_more}
 use Rattle.plant_http_requests.proofs.routes.desk_router.Goals as goal
 
 pub loop-path-preserved : goal.loop-path-preserved

@@ -1,7 +1,7 @@
 use Rattle.std.proofs.Common.{◌≡◌, drop, length}
 use Rattle.serde_json.specs.View.{view}
 use Rattle.plant_json_in.specs.{fields_of}
-use Rattle.plant_json_in.proofs.EachMember.{so_far}
+use Rattle.plant_json_in.proofs.MembersByInduction.{so_far}
 use Rattle.plant_json_in.proofs.fields.each_field.Given as goal
 
 abbrev pub invariant-loop-member : goal.invariant-loop-member

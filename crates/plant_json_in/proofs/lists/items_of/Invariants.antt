@@ -1,6 +1,6 @@
 use Rattle.std.proofs.Common.{◌≡◌, ◌+◌, drop}
 use Rattle.serde_json.specs.View.{items_view}
-use Rattle.plant_json_in.proofs.EachMember.{so_far}
+use Rattle.plant_json_in.proofs.MembersByInduction.{so_far}
 use Rattle.plant_json_in.specs.{items_from}
 use Rattle.plant_json_in.proofs.lists.items_of.Given as goal
 

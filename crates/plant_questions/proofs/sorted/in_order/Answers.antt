@@ -1,5 +1,5 @@
 use Rattle.std.proofs.Common.{rules, ◌≡◌, ◌∙◌, ◌+◌, ◌∷◌, [], length, length-append, sym, ap, arith}
-use Rattle.plant_questions.proofs.PutFromEnd.{put_each, put_last, put_all}
+use Rattle.plant_questions.proofs.InsertionFromEnd.{put_each, put_last, put_all}
 use Rattle.plant_questions.proofs.sorted.in_order.Goals as goal
 
 pub loop-row-init : goal.loop-row-init

@@ -1,6 +1,6 @@
 use Rattle.std.proofs.Common.{◌≡◌, ◌+◌, ◌≤◌, length, vec_len, vec_capacity}
 use Rattle.plant_questions.specs.Sorting.{in_order}
-use Rattle.plant_questions.proofs.PutFromEnd.{put_each}
+use Rattle.plant_questions.proofs.InsertionFromEnd.{put_each}
 use Rattle.plant_questions.proofs.sorted.in_order.Given as goal
 
 -- what is left, put into what is sorted, is all in order; and there is room for it

@@ -1,5 +1,5 @@
 use Rattle.std.proofs.Common.{sym}
-use Rattle.plant_questions.proofs.Split.{goes_in}
+use Rattle.plant_questions.proofs.PutSplitsList.{goes_in}
 use Rattle.plant_questions.proofs.sorted.place_of.Goals as goal
 
 pub returns-in-Equal-clause-there : goal.returns-in-Equal-clause-there

@@ -1,4 +1,4 @@
-use Rattle.plant_questions.proofs.Split.{SplitsAt}
+use Rattle.plant_questions.proofs.PutSplitsList.{SplitsAt}
 use Rattle.plant_questions.proofs.sorted.place_of.Given as goal
 
 abbrev pub invariant-loop-i : goal.invariant-loop-i

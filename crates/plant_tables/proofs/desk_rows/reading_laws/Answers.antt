@@ -1,7 +1,7 @@
 use Rattle.plant_tables_columns.proofs.MovementColumns.{movement_again}
 use Rattle.plant_tables_columns.proofs.RecallColumns.{recall_again}
 use Rattle.plant_tables.proofs.RowsRepresentTables.{represents_for}
-use Rattle.plant_tables.proofs.RowsReadBack.{read_again}
+use Rattle.plant_tables.proofs.RowsReadAgain.{read_again}
 use Rattle.plant_tables.proofs.TablesOfRows.{same_tables, whole_rows}
 use Rattle.plant_tables.proofs.desk_rows.reading_laws.Goals as goal
 

@@ -1,7 +1,7 @@
 use Rattle.std.proofs.Common.{subst, sym}
 use Rattle.sqlite.specs.Held.{state}
 use Rattle.sqlite.proofs.StateLemmas.{survives_weaker}
-use Rattle.sql_tables.proofs.WritesInTurn.{survives_none}
+use Rattle.sql_tables.proofs.StatementSequence.{survives_none}
 use Rattle.plant_tables.specs.{CreateLacking}
 use Rattle.plant_tables.proofs.MissingIndexes.{cut_at_rest}
 use Rattle.plant_tables.proofs.indexing.commit_missing.Goals as goal

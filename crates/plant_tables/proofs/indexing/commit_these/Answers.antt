@@ -2,7 +2,7 @@ use Rattle.std.proofs.Common.{◌≡◌, [], rules, arith}
 use Rattle.std.proofs.lemmas.List.{nil_from_length}
 use Rattle.sqlite.specs.Held.{state}
 use Rattle.sqlite.proofs.StateLemmas.{survives_weaker}
-use Rattle.sql_tables.proofs.WritesInTurn.{survives_none}
+use Rattle.sql_tables.proofs.StatementSequence.{survives_none}
 use Rattle.plant_tables.proofs.MissingIndexes.{creates_missing_indexes, nothing_missing, created_at, none_lacking}
 use Rattle.plant_tables.proofs.indexing.commit_these.Goals as goal
 

@@ -3,8 +3,8 @@ use Rattle.std.proofs.lemmas.Result.{on_ok_weaker}
 use Rattle.sqlite.specs.Held.{state}
 use Rattle.sqlite.specs.State.{HasCleanDisk}
 use Rattle.sql_tables.specs.{Founds}
-use Rattle.sql_tables.proofs.IndexesInTurn.{founds_then}
-use Rattle.sql_tables.proofs.WritesInTurn.{kept_then}
+use Rattle.sql_tables.proofs.CreateIndexes.{founds_then}
+use Rattle.sql_tables.proofs.StatementSequence.{kept_then}
 use Rattle.plant_tables.specs.{table_defs_of, indexes_of}
 use Rattle.plant_tables.proofs.StatementsOnDesk.{founded_so}
 use Rattle.plant_tables.proofs.write.create.Given.{Over}

@@ -1,4 +1,4 @@
-use Rattle.plant_tables.proofs.DeskStatements.{inserts_sublot, upserts_sublot}
+use Rattle.plant_tables.proofs.TableTexts.{inserts_sublot, upserts_sublot}
 use Rattle.plant_tables.proofs.write.sublot_text.Goals as goal
 
 pub returns-then-add_lot_of-clause-added : goal.returns-then-add_lot_of-clause-added

@@ -4,7 +4,7 @@ use Rattle.sqlite.specs.Held.{state}
 use Rattle.sqlite.specs.State.{HasCleanDisk}
 use Rattle.sql_tables.specs.Moves.{Moves}
 use Rattle.sql_tables.specs.{Contents}
-use Rattle.sql_tables.proofs.WritesInTurn.{survives_on, kept_then, moves_then, moves_as}
+use Rattle.sql_tables.proofs.StatementSequence.{survives_on, kept_then, moves_then, moves_as}
 use Rattle.std.proofs.lemmas.List.Elements.{All-from_recursion}
 use Rattle.plant_tables.specs.{table_defs_of, rows_changed, all_rows_changed, IsOfSchema, MovesTablesOf}
 use Rattle.plant_tables.proofs.WritingEnds.{tables_moved}

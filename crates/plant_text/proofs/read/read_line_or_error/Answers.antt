@@ -1,4 +1,4 @@
-use Rattle.plant_text.proofs.LineSays.{problem_reported, says_value}
+use Rattle.plant_text.proofs.LineMeaning.{problem_reported, says_value}
 use Rattle.plant_text.proofs.read.read_line_or_error.Goals as goal
 
 pub returns-in-Ok-clause-reads : goal.returns-in-Ok-clause-reads

@@ -1,5 +1,5 @@
 use Rattle.plant_text.specs.{value_in}
-use Rattle.plant_text.proofs.LineSays.{checks_reading, checks_value}
+use Rattle.plant_text.proofs.LineMeaning.{checks_reading, checks_value}
 use Rattle.plant_text.proofs.read.read_to_check.Goals as goal
 
 pub returns-in-Ok : goal.returns-in-Ok

@@ -1,6 +1,6 @@
 use Rattle.std.proofs.Common.{◌≤◌, length, arith}
 use Rattle.plant_text.specs.{longest_line}
-use Rattle.plant_text.proofs.LineSays.{at_value, at_refusal, too_long}
+use Rattle.plant_text.proofs.LineMeaning.{at_value, at_refusal, too_long}
 use Rattle.plant_text.proofs.read.value_of.Goals as goal
 
 pub returns-then-bytes-gt-LONGEST_LINE-clause-problem : goal.returns-then-bytes-gt-LONGEST_LINE-clause-problem

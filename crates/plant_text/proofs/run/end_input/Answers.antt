@@ -1,6 +1,6 @@
 use Rattle.std.proofs.Common.{[]}
 use Rattle.plant_text.specs.{entry_of}
-use Rattle.plant_text.proofs.TurnsInSequence.{turn_stops}
+use Rattle.plant_text.proofs.RepliesConcatenate.{turn_stops}
 use Rattle.plant_text.proofs.RunEnds.{last_stopped}
 use Rattle.plant_text.proofs.run.end_input.Goals as goal
 

@@ -1,5 +1,5 @@
 use Rattle.std.proofs.Common.{[], ◌∷◌}
-use Rattle.plant_text.proofs.TurnsInSequence.{turn_stops}
+use Rattle.plant_text.proofs.RepliesConcatenate.{turn_stops}
 use Rattle.plant_text.proofs.run.end_line.Goals as goal
 
 pub returns-in-Err-clause-ends : goal.returns-in-Err-clause-ends

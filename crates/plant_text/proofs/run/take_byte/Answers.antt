@@ -2,8 +2,8 @@ use Rattle.std.proofs.Common.{◌≡◌, true, false, nat_eq, sym, ◌∙◌, ar
 use Rattle.std.proofs.lemmas.Bool.Decides.{nat_tests}
 use Rattle.std.proofs.lemmas.Result.{on_ok_weaker}
 use Rattle.plant_text.specs.{entry_of}
-use Rattle.plant_text.proofs.HeldLine.{held_after_lf, held_after_byte, each_lf, each_byte}
-use Rattle.plant_text.proofs.TurnsInSequence.{reported_same, memory_stops_at}
+use Rattle.plant_text.proofs.BufferSuffices.{held_after_lf, held_after_byte, each_lf, each_byte}
+use Rattle.plant_text.proofs.RepliesConcatenate.{reported_same, memory_stops_at}
 use Rattle.plant_text.proofs.run.take_byte.Goals as goal
 
 pub returns-then-b-eq10-clause-held : goal.returns-then-b-eq10-clause-held

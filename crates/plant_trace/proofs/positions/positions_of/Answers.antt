@@ -5,7 +5,7 @@ use Rattle.plant_trace.specs.declared.node.Node.{Node}
 use Rattle.plant_trace.proofs.DistinctNodes.{not_before}
 use Rattle.plant_trace.proofs.IndexesNoted.{Grows-longer, places_none, placed_more}
 use Rattle.plant_trace.proofs.NodesWaiting.{counted_all}
-use Rattle.plant_trace.proofs.TakenInOrder.{first_taken, numbered, order_more, order_none, rises_if_acyclic, taken_more, unplaced}
+use Rattle.plant_trace.proofs.TopologicalOrder.{first_taken, numbered, order_more, order_none, rises_if_acyclic, taken_more, unplaced}
 use Rattle.plant_trace.proofs.positions.positions_of.Goals as goal
 
 pub taken-init : goal.taken-init

@@ -1,6 +1,6 @@
 use Rattle.std.proofs.Common.{◌≡◌, ◌-◌, ◌^◌, ◌≤◌, length, take, btree_map_len}
 use Rattle.plant_trace.specs.{AreIndexes, AreWaiting, Awaits, IsMentioned}
-use Rattle.plant_trace.proofs.TakenInOrder.{IsInOrder}
+use Rattle.plant_trace.proofs.TopologicalOrder.{IsInOrder}
 use Rattle.plant_trace.proofs.positions.positions_of.Given as goal
 
 abbrev pub invariant-taken : goal.invariant-taken

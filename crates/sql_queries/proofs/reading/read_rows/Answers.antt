@@ -1,7 +1,7 @@
 use Rattle.std.proofs.Common.{IsTrue, ◌≡◌, ◌∙◌, ◌++◌, ◌∷◌, ◌<◌, [], List, ℕ, Err, refl, ap, subst, length, length-append, rules, arith}
 use Rattle.std.proofs.lemmas.Result.{IfErr-at_err}
 use Rattle.sqlite_value.specs.Order.{Row}
-use Rattle.sql_tables.specs.declared.fault.Fault.TheVariants.{Memory}
+use Rattle.sql_tables.specs.declared.fault.StoreFault.TheVariants.{Memory}
 use Rattle.sqlite.specs.State.{HasCleanDisk}
 use Rattle.sqlite.specs.Values.{bound}
 use Rattle.sqlite.specs.Held.{Held, state}

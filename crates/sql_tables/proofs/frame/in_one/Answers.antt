@@ -7,7 +7,7 @@ use Rattle.sql_tables.proofs.frame.in_one.Goals as goal
 
 pub returns-in_err-run-clause-undone : goal.returns-in_err-run-clause-undone
 returns-in_err-run-clause-undone g c clean at =
-    let makes = g.W.Work.makes c.args.work.now in
+    let makes = g.W.TransactionWork.makes c.args.work.now in
     let old = state g.S.Store c.args.conn.now in
     let mid = state g.S.Store c.run.new.tx.conn.now in
     let end = c.drop-tx.new.self.0 in
@@ -22,7 +22,7 @@ returns-in_err-run-clause-undone g c clean at =
 
 pub returns-in-Ok-clause-done : goal.returns-in-Ok-clause-done
 returns-in-Ok-clause-done g c clean at =
-    let makes = g.W.Work.makes c.args.work.now in
+    let makes = g.W.TransactionWork.makes c.args.work.now in
     let old = state g.S.Store c.args.conn.now in
     let mid = state g.S.Store c.run.new.tx.conn.now in
     let end = c.commit.new.self.0 in
@@ -36,7 +36,7 @@ returns-in-Ok-clause-done g c clean at =
 
 pub returns-in-Err-clause-undone : goal.returns-in-Err-clause-undone
 returns-in-Err-clause-undone g c clean at =
-    let makes = g.W.Work.makes c.args.work.now in
+    let makes = g.W.TransactionWork.makes c.args.work.now in
     let old = state g.S.Store c.args.conn.now in
     let mid = state g.S.Store c.run.new.tx.conn.now in
     let end = c.commit.new.self.0 in

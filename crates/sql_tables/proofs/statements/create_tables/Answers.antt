@@ -1,7 +1,7 @@
 use Rattle.std.proofs.Common.{rules, ◌≤◌, length, arith, ◌∙◌, refl}
 use Rattle.sqlite.specs.Held.{state}
-use Rattle.sql_tables.proofs.TablesInTurn.{none_made, next_made, all_made, all_names_kept_free}
-use Rattle.sql_tables.proofs.WritesInTurn.{survives_none, survives_on, kept_none, kept_then, shown_then}
+use Rattle.sql_tables.proofs.CreateTables.{none_made, next_made, all_made, all_names_kept_free}
+use Rattle.sql_tables.proofs.StatementSequence.{survives_none, survives_on, kept_none, kept_then, shown_then}
 use Rattle.sql_tables.proofs.statements.create_tables.Goals as goal
 
 pub loop-text-init : goal.loop-text-init

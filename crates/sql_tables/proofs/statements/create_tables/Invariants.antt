@@ -2,7 +2,7 @@ use Rattle.std.proofs.Common.{◌≡◌, List, map, IsTrue, true}
 use Rattle.sqlite.specs.State.{HasCleanDisk, Survives, KeepsCommit, Shows}
 use Rattle.sqlite.specs.Held.{state}
 use Rattle.sql_tables.specs.{TableDef, AreApart, AreCreateStatements}
-use Rattle.sql_tables.proofs.TablesInTurn.{Founding}
+use Rattle.sql_tables.proofs.CreateTables.{Founding}
 use Rattle.sql_tables.proofs.statements.create_tables.Given as goal
 
 abbrev pub invariant-loop-text : goal.invariant-loop-text

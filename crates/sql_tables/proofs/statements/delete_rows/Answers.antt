@@ -1,6 +1,6 @@
 use Rattle.sqlite.specs.Held.{state}
 use Rattle.sqlite.specs.Values.{bound}
-use Rattle.sql_tables.proofs.WritesInTurn.{takes_from}
+use Rattle.sql_tables.proofs.StatementSequence.{takes_from}
 use Rattle.sql_tables.proofs.statements.delete_rows.Goals as goal
 
 pub returns-in-Ok-clause-taken : goal.returns-in-Ok-clause-taken

@@ -1,6 +1,6 @@
 use Rattle.sqlite.specs.Held.{state}
 use Rattle.sqlite.specs.Values.{bound}
-use Rattle.sql_tables.proofs.WritesInTurn.{puts_from}
+use Rattle.sql_tables.proofs.StatementSequence.{puts_from}
 use Rattle.sql_tables.proofs.statements.put_row.Goals as goal
 
 pub returns-in-Ok-clause-put : goal.returns-in-Ok-clause-put

@@ -1,7 +1,7 @@
 use Rattle.std.proofs.Common.{ap}
 use Rattle.sqlite.specs.Held.{state}
 use Rattle.sqlite.specs.Values.{bound}
-use Rattle.sql_tables.proofs.WritesInTurn.{runs_from, kept_from}
+use Rattle.sql_tables.proofs.StatementSequence.{runs_from, kept_from}
 use Rattle.sql_tables.proofs.statements.run.Goals as goal
 
 pub returns-clause-runs : goal.returns-clause-runs

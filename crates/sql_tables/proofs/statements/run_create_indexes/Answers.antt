@@ -1,8 +1,8 @@
 use Rattle.std.proofs.Common.{rules, refl, ◌≤◌, ℕ, List, length, arith, ◌∙◌}
 use Rattle.sqlite.specs.Held.{state}
 use Rattle.sql_tables.specs.declared.table_def.CreateIndexStatement.{CreateIndexStatement}
-use Rattle.sql_tables.proofs.IndexesInTurn.{none_indexed, next_indexed, all_indexed}
-use Rattle.sql_tables.proofs.WritesInTurn.{survives_none, survives_on, kept_none, kept_then, shown_then}
+use Rattle.sql_tables.proofs.CreateIndexes.{none_indexed, next_indexed, all_indexed}
+use Rattle.sql_tables.proofs.StatementSequence.{survives_none, survives_on, kept_none, kept_then, shown_then}
 use Rattle.sql_tables.proofs.statements.run_create_indexes.Goals as goal
 
 abbrev sql_of : CreateIndexStatement → List ℕ

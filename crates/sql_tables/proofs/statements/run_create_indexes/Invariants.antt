@@ -2,7 +2,7 @@ use Rattle.std.proofs.Common.{◌≡◌, List, map, IsTrue, true}
 use Rattle.sqlite.specs.State.{HasCleanDisk, Survives, KeepsCommit, Shows}
 use Rattle.sqlite.specs.Held.{state}
 use Rattle.sql_tables.specs.{TableDef, IndexDef, AreOf, AreCreateIndexStatements}
-use Rattle.sql_tables.proofs.IndexesInTurn.{Indexing}
+use Rattle.sql_tables.proofs.CreateIndexes.{Indexing}
 use Rattle.sql_tables.proofs.statements.run_create_indexes.Given as goal
 
 abbrev pub invariant-loop-text : goal.invariant-loop-text

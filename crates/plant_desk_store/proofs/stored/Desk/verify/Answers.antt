@@ -1,7 +1,7 @@
 use Rattle.std.proofs.Common.{false, arith}
 use Rattle.sqlite.specs.Held.{state}
 use Rattle.sql_tables.proofs.TransactionEnds.{IsStore}
-use Rattle.plant_desk_store.proofs.AskedDesk.{read_represents}
+use Rattle.plant_desk_store.proofs.ReadKeepsState.{read_represents}
 use Rattle.plant_desk_store.proofs.stored.Desk.verify.Goals as goal
 
 pub returns-clause-verified : goal.returns-clause-verified

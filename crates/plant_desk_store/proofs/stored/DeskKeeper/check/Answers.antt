@@ -1,7 +1,7 @@
 use Rattle.std.proofs.Common.{refl, arith}
 use Rattle.sqlite.specs.Held.{state}
 use Rattle.sql_tables.proofs.TransactionEnds.{IsStore}
-use Rattle.plant_desk_store.proofs.AskedDesk.{checked_stands, asked_foreign_tables}
+use Rattle.plant_desk_store.proofs.ReadKeepsState.{checked_stands, asked_foreign_tables}
 use Rattle.plant_desk_store.proofs.stored.DeskKeeper.check.Goals as goal
 
 pub returns-clause-same : goal.returns-clause-same

@@ -2,7 +2,7 @@ use Rattle.std.proofs.Common.{◌∙◌, refl, [], true}
 use Rattle.plant_keyed.proofs.LookupFinds.{edges_are}
 use Rattle.plant_keyed.proofs.CachedEdges.{all_pass}
 use Rattle.plant_keyed.proofs.LookupsKeep.{reported_found}
-use Rattle.plant_keyed.proofs.TextsSelect as text
+use Rattle.plant_keyed.proofs.LookupTexts as text
 use Rattle.plant_keyed.proofs.keyed.Keyed.all_edges.Goals as goal
 
 pub found-requires : goal.found-requires

@@ -2,7 +2,7 @@ use Rattle.std.proofs.Common.{refl, [], ◌∷◌}
 use Rattle.plant_base.specs.{edge_kind_number}
 use Rattle.plant_keyed.proofs.LookupFinds.{edges_are}
 use Rattle.plant_keyed.proofs.LookupsKeep.{reported_found}
-use Rattle.plant_keyed.proofs.TextsSelect as text
+use Rattle.plant_keyed.proofs.LookupTexts as text
 use Rattle.plant_keyed.proofs.ComparisonTests.{number_text}
 use Rattle.plant_keyed.proofs.keyed.Keyed.edges_of_kind.Goals as goal
 

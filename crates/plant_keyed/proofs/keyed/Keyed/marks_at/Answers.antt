@@ -5,7 +5,7 @@ use Rattle.plant_view.specs.{marks_on}
 use Rattle.plant_keyed.specs.{id_of, abstraction}
 use Rattle.plant_keyed.proofs.LookupFinds.{marks_are}
 use Rattle.plant_keyed.proofs.LookupsKeep.{reported_found}
-use Rattle.plant_keyed.proofs.TextsSelect.{marks_on_node}
+use Rattle.plant_keyed.proofs.LookupTexts.{marks_on_node}
 use Rattle.plant_keyed.proofs.keyed.Keyed.marks_at.Goals as goal
 
 pub found-requires : goal.found-requires

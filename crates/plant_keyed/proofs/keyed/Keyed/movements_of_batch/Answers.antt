@@ -2,7 +2,7 @@ use Rattle.std.proofs.Common.{refl, [], ◌∷◌}
 use Rattle.plant_keyed.proofs.LookupFinds.{movements_are}
 use Rattle.plant_keyed.proofs.LookupsKeep.{reported_found}
 use Rattle.plant_keyed.proofs.ComparisonTests.{batch_is}
-use Rattle.plant_keyed.proofs.TextsSelect as text
+use Rattle.plant_keyed.proofs.LookupTexts as text
 use Rattle.plant_keyed.proofs.keyed.Keyed.movements_of_batch.Goals as goal
 
 pub found-requires : goal.found-requires

@@ -7,7 +7,7 @@ use Rattle.plant_tables_columns.proofs.RowLaws.{meta_reads}
 use Rattle.plant_keyed.proofs.LookupFinds.{meta_is}
 use Rattle.plant_keyed.specs.declared.lookup_cache.LookupCache.{LookupCache}
 use Rattle.plant_keyed.proofs.LookupsKeep.{reported_by, position_stays}
-use Rattle.plant_keyed.proofs.TextsSelect.{meta}
+use Rattle.plant_keyed.proofs.LookupTexts.{meta}
 use Rattle.plant_keyed.proofs.keyed.Keyed.read_position.Goals as goal
 
 pub first_found-requires : goal.first_found-requires

@@ -1,8 +1,8 @@
 use Rattle.std.proofs.Common.{refl, [], ◌∷◌}
 use Rattle.sqlite.specs.Held.{state}
-use Rattle.plant_keyed.proofs.LookupFinds.{receipt_is}
+use Rattle.plant_keyed.proofs.IdLookups.{receipt_is}
 use Rattle.plant_keyed.proofs.LookupsKeep.{reported_by}
-use Rattle.plant_keyed.proofs.TextsSelect.{receipt_by_id}
+use Rattle.plant_keyed.proofs.LookupTexts.{receipt_by_id}
 use Rattle.plant_keyed.proofs.keyed.Keyed.receipt_of.Goals as goal
 
 pub receipts_found-requires : goal.receipts_found-requires

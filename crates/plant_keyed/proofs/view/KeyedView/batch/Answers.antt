@@ -2,9 +2,9 @@ use Rattle.std.proofs.Common.{◌∙◌, refl, [], ◌∷◌, ap, option_map}
 use Rattle.sqlite.specs.Held.{state}
 use Rattle.plant_base.specs.{batch_at}
 use Rattle.plant_keyed.specs.{abstraction}
-use Rattle.plant_keyed.proofs.AbstractionIsState.{batch_unread}
+use Rattle.plant_keyed.proofs.RowsShown.{batch_unread}
 use Rattle.plant_keyed.proofs.LookupFinds.{batch_is}
-use Rattle.plant_keyed.proofs.TextsSelect.{batch_by_id}
+use Rattle.plant_keyed.proofs.LookupTexts.{batch_by_id}
 use Rattle.plant_trace.proofs.HoldsIfHonest.{HoldsIfHonest-weaker}
 use Rattle.plant_keyed.proofs.LookupsReport.{found_reported}
 use Rattle.plant_keyed.proofs.view.KeyedView.batch.Goals as goal

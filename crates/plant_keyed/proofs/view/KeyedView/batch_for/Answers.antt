@@ -1,7 +1,7 @@
 use Rattle.std.proofs.Common.{◌∙◌, refl, [], ◌∷◌, ap, sym, rules, option_map}
 use Rattle.plant_base.specs.{BatchRow}
 use Rattle.plant_keyed.proofs.LookupFinds.{batch_of_is}
-use Rattle.plant_keyed.proofs.TextsSelect.{batch_by_job}
+use Rattle.plant_keyed.proofs.LookupTexts.{batch_by_job}
 use Rattle.plant_keyed.proofs.LookupsReport.{valid_reported}
 use Rattle.plant_keyed.proofs.view.KeyedView.batch_for.Goals as goal
 

@@ -1,6 +1,6 @@
 use Rattle.std.proofs.Common.{refl, [], ◌∷◌}
 use Rattle.plant_keyed.proofs.LookupFinds.{events_are}
-use Rattle.plant_keyed.proofs.TextsSelect.{events_of_batch}
+use Rattle.plant_keyed.proofs.LookupTexts.{events_of_batch}
 use Rattle.plant_keyed.proofs.LookupsReport.{found_reported}
 use Rattle.plant_keyed.proofs.view.KeyedView.events.Goals as goal
 

@@ -1,6 +1,6 @@
 use Rattle.std.proofs.Common.{refl, [], ◌∷◌}
 use Rattle.plant_keyed.proofs.LookupFinds.{hold_is}
-use Rattle.plant_keyed.proofs.TextsSelect.{hold_by_key}
+use Rattle.plant_keyed.proofs.LookupTexts.{hold_by_key}
 use Rattle.plant_keyed.proofs.LookupsReport.{found_reported}
 use Rattle.plant_keyed.proofs.view.KeyedView.hold.Goals as goal
 

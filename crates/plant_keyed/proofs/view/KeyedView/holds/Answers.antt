@@ -1,6 +1,6 @@
 use Rattle.std.proofs.Common.{refl, [], ◌∷◌}
 use Rattle.plant_keyed.proofs.LookupFinds.{holds_are}
-use Rattle.plant_keyed.proofs.TextsSelect.{holds_of_lot}
+use Rattle.plant_keyed.proofs.LookupTexts.{holds_of_lot}
 use Rattle.plant_keyed.proofs.LookupsReport.{found_reported}
 use Rattle.plant_keyed.proofs.view.KeyedView.holds.Goals as goal
 

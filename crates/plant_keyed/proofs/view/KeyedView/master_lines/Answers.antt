@@ -1,6 +1,6 @@
 use Rattle.std.proofs.Common.{refl, [], ◌∷◌}
 use Rattle.plant_keyed.proofs.LookupFinds.{master_lines_are}
-use Rattle.plant_keyed.proofs.TextsSelect.{lines_of_recipe}
+use Rattle.plant_keyed.proofs.LookupTexts.{lines_of_recipe}
 use Rattle.plant_keyed.proofs.LookupsReport.{found_reported}
 use Rattle.plant_keyed.proofs.view.KeyedView.master_lines.Goals as goal
 

@@ -1,6 +1,6 @@
 use Rattle.std.proofs.Common.{refl, [], ◌∷◌}
 use Rattle.plant_keyed.proofs.LookupFinds.{recipe_is}
-use Rattle.plant_keyed.proofs.TextsSelect.{recipe_by_key}
+use Rattle.plant_keyed.proofs.LookupTexts.{recipe_by_key}
 use Rattle.plant_keyed.proofs.LookupsReport.{found_reported}
 use Rattle.plant_keyed.proofs.view.KeyedView.recipe.Goals as goal
 

@@ -1,6 +1,6 @@
 use Rattle.std.proofs.Common.{refl, [], ◌∷◌}
 use Rattle.plant_keyed.proofs.LookupFinds.{movements_are}
-use Rattle.plant_keyed.proofs.TextsSelect.{movements_of_lot_and_kind}
+use Rattle.plant_keyed.proofs.LookupTexts.{movements_of_lot_and_kind}
 use Rattle.plant_keyed.proofs.ComparisonTests.{scrap_is}
 use Rattle.plant_keyed.proofs.LookupsReport.{found_reported}
 use Rattle.plant_keyed.proofs.view.KeyedView.scraps.Goals as goal

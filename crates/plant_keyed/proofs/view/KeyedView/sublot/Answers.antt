@@ -3,9 +3,9 @@ use Rattle.sqlite.specs.Held.{state}
 use Rattle.plant_base.specs.{place_at}
 use Rattle.plant_view.specs.{place_of_row}
 use Rattle.plant_keyed.specs.{abstraction}
-use Rattle.plant_keyed.proofs.AbstractionIsState.{place_unread}
+use Rattle.plant_keyed.proofs.RowsShown.{place_unread}
 use Rattle.plant_keyed.proofs.LookupFinds.{sublot_is}
-use Rattle.plant_keyed.proofs.TextsSelect.{sublot_by_key}
+use Rattle.plant_keyed.proofs.LookupTexts.{sublot_by_key}
 use Rattle.plant_trace.proofs.HoldsIfHonest.{HoldsIfHonest-weaker}
 use Rattle.plant_keyed.proofs.LookupsReport.{found_reported}
 use Rattle.plant_keyed.proofs.view.KeyedView.sublot.Goals as goal

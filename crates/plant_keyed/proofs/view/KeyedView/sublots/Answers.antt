@@ -2,9 +2,9 @@ use Rattle.std.proofs.Common.{◌∙◌, refl, [], ◌∷◌, ap, map}
 use Rattle.sqlite.specs.Held.{state}
 use Rattle.plant_view.specs.{place_of_row, places_of}
 use Rattle.plant_keyed.specs.{abstraction}
-use Rattle.plant_keyed.proofs.AbstractionIsState.{places_unread}
+use Rattle.plant_keyed.proofs.RowsShown.{places_unread}
 use Rattle.plant_keyed.proofs.LookupFinds.{sublots_are}
-use Rattle.plant_keyed.proofs.TextsSelect.{sublots_of_lot}
+use Rattle.plant_keyed.proofs.LookupTexts.{sublots_of_lot}
 use Rattle.plant_trace.proofs.HoldsIfHonest.{HoldsIfHonest-weaker}
 use Rattle.plant_keyed.proofs.LookupsReport.{found_reported}
 use Rattle.plant_keyed.proofs.view.KeyedView.sublots.Goals as goal

@@ -1,6 +1,6 @@
 use Rattle.std.proofs.Common.{refl, [], ◌∷◌}
 use Rattle.plant_keyed.proofs.LookupFinds.{movements_are}
-use Rattle.plant_keyed.proofs.TextsSelect.{movements_into_lot}
+use Rattle.plant_keyed.proofs.LookupTexts.{movements_into_lot}
 use Rattle.plant_keyed.proofs.ComparisonTests.{into_is}
 use Rattle.plant_keyed.proofs.LookupsReport.{found_reported}
 use Rattle.plant_keyed.proofs.worklists.KeyedWorklists.movements_into.Goals as goal

@@ -4,7 +4,7 @@ use Rattle.std.proofs.lemmas.Option.{slice_get_read, slice_get-map}
 use Rattle.sqlite.proofs.Callers.{unchanged_then}
 use Rattle.sqlite.specs.Held.{state}
 use Rattle.sqlite.specs.State.{HasCleanDisk}
-use Rattle.sql_tables.proofs.WritesInTurn.{survives_on}
+use Rattle.sql_tables.proofs.StatementSequence.{survives_on}
 use Rattle.sql_tables.specs.{TableDef}
 use Rattle.sql_queries.specs.{comes_before, Lists}
 use Rattle.sql_queries.specs.Rises.{Rises}

@@ -1,0 +1,1091 @@
+//! What the views of the page share, as it is sent. make/page.py writes this file of what is in page/.
+
+/// Its bytes: JavaScript in ASCII.
+pub const SCRIPT: &[u8] = br##""use strict";
+const grouped = (n) => String(n).replace(/\B(?=(\d{3})+$)/g, "\u202f");
+const counted = (n, one, many) => `${grouped(n)} ${n === 1 ? one : many}`;
+const capital = (word) => word[0].toUpperCase() + word.slice(1);
+const excess = ({ asked, booked }, amount = 0) => Math.max(0, booked + amount - asked);
+function doubtOf(line, amount, before) {
+  if (!excess(line, amount)) return null;
+  const { asked, booked, unit } = line, told = (n) => `${grouped(n)} ${unit}`, all = booked + amount, times = Math.floor(all / asked);
+  const meanwhile = booked > before ? `Since the form was opened, ${told(booked - before)} was booked. ` : "";
+  return `${meanwhile}Asked ${told(asked)}, booked ${told(booked)}: this makes ${told(all)}${times > 1 ? `, ${grouped(times)} times what was asked` : ""}.`;
+}
+const two = (n) => String(n).padStart(2, "0");
+const clock = () => Math.floor(Date.now() / 1000);
+const day = (date) => `${date.getFullYear()}-${two(date.getMonth() + 1)}-${two(date.getDate())}`;
+function moment(seconds, isExact) {
+  const date = new Date(seconds * 1000);
+  return `${day(date)} ${two(date.getHours())}:${two(date.getMinutes())}${isExact ? ":" + two(date.getSeconds()) : ""}`;
+}
+const clockOffset = (told, first, last) => (told < first ? told - first : told > last ? told - last : 0);
+function lengthOfTime(seconds) {
+  const [unit, size] = [["day", 86400], ["hour", 3600]].find(([, it]) => seconds >= 2 * it) || ["minute", 60];
+  const count = Math.max(1, Math.round(seconds / size));
+  return `${count} ${unit}${count === 1 ? "" : "s"}`;
+}
+const stampWord = () => clock().toString(36).toUpperCase();
+const isId = (text) => /^[A-Z][A-Z0-9-]{0,23}$/.test(text);
+const idOf = (...parts) => parts.join("-").slice(0, 24);
+const LETTERS = { "\u00e4": "ae", "\u00f6": "oe", "\u00fc": "ue", "\u00c4": "Ae", "\u00d6": "Oe", "\u00dc": "Ue", "\u00df": "ss", "\u00e6": "ae",
+  "\u00c6": "Ae", "\u00f8": "oe", "\u00d8": "Oe", "\u00e5": "aa", "\u00c5": "Aa", "\u0142": "l", "\u0141": "L", "\u0131": "i", "\u20ac": "EUR",
+  "\u2013": "-", "\u2019": "'", "\u201e": "\"", "\u201c": "\"", "\u201d": "\"", "\u00b0": " deg" };
+function plainText(text) {
+  const plain = [...text.normalize("NFC")].map((it) => LETTERS[it] || it.normalize("NFD").replace(/[\u0300-\u036f]/g, "")).join("");
+  return /^[ -~]*$/.test(plain) ? plain : null;
+}
+const ID_RULE = "letters, digits and -, a letter first, at most 24";
+function readAddress(hash) {
+  const [path, query = ""] = hash.replace(/^#/, "").split("?"), [name, ...words] = path.split("/");
+  const filters = query.split("&").map((it) => it.split("=")).filter(([key, value]) => /^[a-z]+$/.test(key) && /^[a-z]+$/.test(value || ""));
+  return { name, words, filters: new Map(filters) };
+}
+const withQuery = (path, filters) => path + (filters.size ? "?" : "") + [...filters].map(([key, value]) => `${key}=${value}`).join("&");
+function withFilter(hash, key, value) {
+  const { name, words, filters } = readAddress(hash);
+  filters.delete(key);
+  if (value !== null) filters.set(key, value);
+  return withQuery([name, ...words].join("/"), filters);
+}
+function placeFrom(hash, path) {
+  const { name, filters } = readAddress(hash);
+  return path.split("/")[0] === name ? withQuery(path, filters) : path;
+}
+const wordsOf = (hash) => { const { name, words } = readAddress(hash); return [name, ...words]; };
+const isSamePlace = (one, other) => wordsOf(one).join("/") === wordsOf(other).join("/");
+function isAbove(one, other) {
+  const words = wordsOf(one), others = wordsOf(other);
+  return words.length < others.length && words.every((it, k) => it === others[k]);
+}
+const separatorOf = (locale) => (new Intl.NumberFormat(locale).formatToParts(1.5).some((it) => it.type === "decimal" && it.value === ",") ? ";" : ",");
+function written(value, separator) {
+  if (typeof value === "number") return String(value);
+  const text = value == null ? "" : value === true ? "yes" : value === false ? "no" : String(value);
+  const harmless = /^[=+\-@\t\r]/.test(text) ? `'${text}` : text;
+  return /["\r\n]/.test(harmless) || harmless.includes(separator) ? `"${harmless.replaceAll("\"", "\"\"")}"` : harmless;
+}
+const csvOf = (rows, separator) => rows.map((row) => `${row.map((it) => written(it, separator)).join(separator)}\r\n`).join("");
+const column = (it) => (typeof it === "string" ? [capital(it), (item) => item[it]] : it);
+function rowsOf(items, columns) {
+  const all = columns.map(column);
+  return [all.map(([name]) => name), ...items.map((item) => all.map(([, value]) => value(item)))];
+}
+const MATERIAL = ["Material", (it) => it.def], WHEN = ["When", (it) => moment(it.at, true)], AMOUNT = ["Amount", (it) => it.amount];
+const COLUMNS = {
+  orders: ["order", "state", "due", "priority", "recipe", "version", "size"],
+  batches: ["batch", "order", "state", "attempt", ["Phases done", (it) => it.next - 1], "phases", ["Next phase", (it) => it.phase], "closed"],
+  materials: ["class", MATERIAL, "name", "unit"],
+  stands: ["place", "lot", ["Part", (it) => it.no], MATERIAL, ["Amount", (it) => it.stock], "unit", ["On hold", (it) => it.held], "recalled", "seen"],
+  lots: ["lot", MATERIAL, ["Part", (it) => it.no], "place", "stock", "unit", ["On hold", (it) => it.held], "recalled"],
+  ledger: [["Number", (it) => it.seq], "line", WHEN, "by", ["What", (it) => it.kind], AMOUNT, "unit", "lot", ["Part", (it) => it.sub], ["To lot", (it) => it.to],
+    ["To part", (it) => it.to_sub], "batch", "note"],
+  holds: ["lot", "hold", WHEN, "by", "note"],
+  recalls: ["recall", "lot", WHEN, "by", "note", ["Lifted", (it) => it.lift && moment(it.lift.at, true)], ["Lifted by", (it) => it.lift?.by],
+    ["Lifted for", (it) => it.lift?.note]],
+  recipes: ["recipe", "version", "state", "title", "product", ["Base size", (it) => it.base], ["Least size", (it) => it.min], ["Greatest size", (it) => it.max]],
+  record: ["table", "number", "what", "lot", MATERIAL, AMOUNT, "unit", "asked", "scrapped", "value", ["When", (it) => it.at && moment(it.at, true)], "by", "note"],
+};
+const partsOfLots = (lots) => lots.flatMap((lot) => lot.sublots.filter((it) => it.stock).map((it) => ({ ...lot, ...it })));
+function rowsOfRecord(record, lines) {
+  const booked = (table) => ({ seq, words: [lot, def, amount, unit, , scrapped], ...it }) => ({ ...it, table, number: seq, lot, def, amount: Number(amount), unit,
+    scrapped: table === "Produced" ? Number(scrapped) : null });
+  return [
+    ...record.lines.map((it, k) => ({ table: "Control recipe", number: k + 1, what: it.kind, def: it.def || it.name || it.path, amount: it.amount, unit: it.unit,
+      value: it.value })),
+    ...record.events.map(({ seq, words, ...it }) => ({ ...it, table: "Events", number: seq })),
+    ...record.consumed.map(booked("Consumed")).map((it) => ({ ...it, what: "consumed" })),
+    ...record.produced.map(booked("Produced")).map((it) => ({ ...it, what: "produced" })),
+    ...lines.map((it) => ({ table: "Totals", what: it.kind, def: it.def, amount: it.booked, asked: it.asked, unit: it.unit })),
+  ];
+}
+const LISTS = {
+  orders_by_due: ["orders", (it) => `${it.due}.${it.order}`],
+  batches: ["batches", (it) => it.batch],
+  closed_batches: ["batches", (it) => it.batch],
+  lots: ["lots"],
+  holds: ["holds", (it) => it.hold],
+  all_holds: ["holds", (it) => `${it.lot}.${it.hold}`],
+  recalls: ["recalls", (it) => it.recall],
+  lifted_recalls: ["recalls", (it) => it.recall],
+  classes: ["classes", (it) => it.class],
+  definitions: ["definitions", (it) => it.def],
+  recipes: ["recipes", (it) => `${it.recipe}.${it.version}`],
+  movements: ["movements", (it) => `${it.seq}.${it.line}`],
+};
+const PAGE = 100;
+function readPage(path, page) {
+  const [member, cursor] = LISTS[path.split("/")[0]], items = page[member];
+  const last = cursor ? (items.length ? cursor(items.at(-1)) : null) : page.last;
+  return { items, last: page.more ? last : null };
+}
+const LINES_HINT = "One to a line: in MATERIAL AMOUNT, out MATERIAL AMOUNT, par NAME VALUE, phase UNIT OPERATION PHASE.";
+const LINES_EXAMPLE = "in FLOUR 200\nout DOUGH 300\npar TEMP 20 C\nphase MIX BLEND STIR";
+function recipeLines(text) {
+  const lines = [];
+  for (const [k, line] of text.split("\n").entries()) {
+    if (!line.trim()) continue;
+    const read = recipeLine(line.trim().split(/\s+/));
+    if (!read) return [null, `Line ${k + 1} can't be read. ${LINES_HINT}`];
+    lines.push(read);
+  }
+  return [lines, null];
+}
+function recipeLine([kind, ...words]) {
+  const ids = words.map((it) => it.toUpperCase()), isAmount = /^[0-9]{1,16}$/.test(words[1]);
+  if ((kind === "in" || kind === "out") && words.length === 2 && isId(ids[0]) && isAmount) return { kind, def: ids[0], qty: Number(words[1]) };
+  if (kind === "par" && words.length >= 1 && isId(ids[0])) return { kind, name: ids[0], value: words.slice(1).join(" ") };
+  if (kind === "phase" && words.length === 3 && ids.every(isId)) return { kind, unit: ids[0], oper: ids[1], phase: ids[2] };
+  return null;
+}
+const withPath = (line) => (line.kind === "phase" ? { kind: "phase", phase: line.phase, path: `${line.unit} ${line.oper} ${line.phase}` } : line);
+const isMaterial = (line) => line.kind === "in" || line.kind === "out";
+const SECTIONS = { "CONTROL RECIPE": "lines", EVENTS: "events", CONSUMED: "consumed", PRODUCED: "produced", TOTALS: "totals", END: "end" };
+function readRecord(text) {
+  const record = { text, head: [], lines: [], events: [], consumed: [], produced: [], totals: [], end: [] };
+  const read = { head: (line) => line, lines: readRecipeLine, events: readStamped, consumed: readStamped, produced: readStamped,
+    totals: readTotal, end: (line) => line };
+  let section = "head";
+  for (const line of text.split("\n")) {
+    if (SECTIONS[line]) section = SECTIONS[line];
+    else record[section].push(read[section](line));
+  }
+  record.released = readStamped("0 " + record.head[3]);
+  namePhases(record);
+  return record;
+}
+function namePhases({ lines, events }) {
+  const phases = lines.filter((it) => it.kind === "phase");
+  for (const it of events) {
+    const [, number] = /^phase (\d+)$/.exec(it.what) || [], phase = phases[number - 1];
+    if (phase) it.what += `: ${phase.path}`;
+  }
+}
+function readRecipeLine(line) {
+  const [, kind, ...words] = line.trim().split(" ");
+  if (kind === "in" || kind === "out") return { kind, def: words[0], amount: Number(words[1]), unit: words[2] };
+  if (kind === "par") return { kind, name: words[0], value: words.slice(1).join(" ") };
+  return { kind, phase: words[2], path: words.join(" ") };
+}
+function readStamped(line) {
+  const [, seq, what, seconds, by, note] = /^ *(\d+) (.*?) at (\d+) by (.*?)(?: note (.*))?$/.exec(line) || [null, "", line, "0", "", ""];
+  return { seq: Number(seq), what, words: what.split(" "), at: Number(seconds), by, note: note || "" };
+}
+function readTotal(line) {
+  const [kind, def, , , , booked] = line.split(" ");
+  return { kind, def, booked: Number(booked) };
+}
+const REFUSALS = {
+  BadForm: "The desk can't read that. Look for a value that breaks its rule.",
+  MomentBack: "The desk's last booking is later than its machine's clock. Look at that clock.",
+  Exists: "That id is taken already. Take another one.",
+  UnknownClass: "There is no such class.",
+  UnknownDefinition: "There is no such material.",
+  UnknownRecipe: "There is no such version of a recipe.",
+  UnknownOrder: "There is no such order.",
+  UnknownBatch: "There is no such batch.",
+  UnknownLot: "There is no such lot.",
+  UnknownSublot: "The lot has no such part.",
+  NotDraft: "Only a draft can be approved.",
+  NotApproved: "That version of the recipe isn't approved.",
+  TooLittle: "There is less than that in this part of the lot.",
+  TooMuch: "The merged lot would have more than a lot may have.",
+  Held: "The lot is on hold. Quality can take the hold off.",
+  OrderConflict: "An order of that id is there already, with other values.",
+  OrderNotOpen: "The order is released, finished or cancelled already.",
+  SizeOutOfRange: "The size isn't within the least and the greatest of the recipe.",
+  ScaledToNothing: "At this size a line of the recipe comes to nothing. A larger order is wanted.",
+  BadMove: "The batch can't do that in its state. It may have moved on: look again.",
+  PhasesLeft: "A phase is still to be done.",
+  NotNextPhase: "It isn't the turn of that phase. It may be done already: look again.",
+  BatchClosed: "The batch is closed.",
+  WrongState: "The batch has to be started first, and phases are done while it runs.",
+  NotInRecipe: "The recipe of the batch doesn't have this material.",
+  OwnProduct: "The lot came of this very batch.",
+  MixedMaterials: "The parts are of two materials.",
+  TooMany: "A limit is reached: parts of a lot, attempts of a batch, or bookings of the desk.",
+  HoldUnknown: "There is no such hold on the lot. It may have been taken off already.",
+  NotFinished: "A batch is closed once it is complete, stopped or aborted.",
+  RefReused: "Another booking has this reference already.",
+  Recalled: "The lot is recalled, or came of one that is. Take other goods.",
+  UnknownRecall: "There is no such recall.",
+  RecallLifted: "That recall was lifted before.",
+};
+const FILE_FAULTS = {
+  TooLong: "The file is longer than 262,144 bytes.",
+  Header: "The first line isn't order,recipe,version,size,due,priority.",
+  Shape: "The line hasn't six fields.",
+  Order: "The order isn't an id.",
+  Recipe: "The recipe isn't an id.",
+  Version: "The version isn't a number from 1 to 999.",
+  Size: "The size isn't a whole number from 1.",
+  Due: "The due date isn't a day like 2027-03-01.",
+  Priority: "The priority isn't a number from 1 to 9.",
+  TooManyRows: "It has more than 1,000 orders.",
+  Memory: "The desk is out of memory.",
+};
+const STATES = {
+  idle: { start: "running" },
+  running: { done: "complete", pause: "pausing", hold: "holding", stop: "stopping", abort: "aborting" },
+  pausing: { done: "paused", hold: "holding", stop: "stopping", abort: "aborting" },
+  paused: { resume: "running", hold: "holding", stop: "stopping", abort: "aborting" },
+  holding: { done: "held", stop: "stopping", abort: "aborting" },
+  held: { restart: "restarting", stop: "stopping", abort: "aborting" },
+  restarting: { done: "running", hold: "holding", stop: "stopping", abort: "aborting" },
+  stopping: { done: "stopped", abort: "aborting" },
+  stopped: { reset: "idle", abort: "aborting" },
+  aborting: { done: "aborted" },
+  aborted: { reset: "idle" },
+  complete: { reset: "idle" },
+};
+const MAY_CLOSE = ["complete", "stopped", "aborted"];
+const TONES = { running: "good", restarting: "good", complete: "good", pausing: "warn", paused: "warn", holding: "warn", held: "warn",
+  stopping: "bad", stopped: "bad", aborting: "bad", aborted: "bad" };
+function plainly({ status, body }) {
+  if (body.csv) return `${body.row ? `Row ${body.row} of the file, the header being row 0: `
+    : ""}${FILE_FAULTS[body.csv] || ""} (${body.csv}) Nothing was taken in.`;
+  if (body.ahead) return `The moment is more than ${body.ahead} seconds ahead of the clock of the desk's machine. Look at that clock. Nothing was booked.`;
+  if (body.name) return `${REFUSALS[body.name] || "The desk refuses that."} (${body.name})`;
+  if (body.fault === 2) return "The desk is out of memory for now. Nothing has changed: try again.";
+  if (body.fault) return "The desk's store failed. Somebody has to look at the machine of the desk.";
+  if (status === 403) return "The desk doesn't serve this page under this name. (403)";
+  if (status === 413) return "That is longer than 262,144 bytes. (413)";
+  return `The desk doesn't know that. (${status})`;
+}
+const LOST = "No answer came. The booking may have been taken or not: send it again, and it counts once.";
+const GAP = 30;
+const TWICE = 2000;
+const LEAST = 2;
+const NO_KEYS = { text: "", last: -Infinity };
+function pressed(keys, key, time) {
+  const isQuick = time - keys.last < GAP;
+  if (key === "Enter") return { ...NO_KEYS, code: isQuick && keys.text.length >= LEAST ? keys.text : null };
+  if (key === "Shift" || key === "CapsLock") return isQuick ? { ...keys, last: time, isFirst: false } : NO_KEYS;
+  if (key.length !== 1) return NO_KEYS;
+  return isQuick ? { text: keys.text + key, last: time, isFirst: false } : { text: key, last: time, isFirst: true };
+}
+const isAgain = (before, code, time) => before.code === code && time - before.time < TWICE;
+function lotOfSupplier(code) {
+  const word = code.toUpperCase().replace(/[^A-Z0-9]+/g, "-").replace(/^-|-$/g, "");
+  return word ? idOf("L", word) : null;
+}
+function lotOf(code) {
+  const [, word, no] = /^\/?(.*?)(?:\/([0-9]{1,3}))?$/.exec(code.trim().toUpperCase());
+  return { lot: isId(word) ? word : lotOfSupplier(word), sub: no === undefined ? null : Number(no) };
+}
+function withCode(note, code) {
+  const word = `supplier's code ${code.replace(/[^ -~]/g, "?")}`;
+  return (note.includes(word) ? note : note ? `${word}; ${note}` : word).slice(0, 60);
+}
+function filled(element, attributes, children) {
+  for (const [name, value] of Object.entries(attributes || {})) {
+    if (value === false || value == null) continue;
+    if (name.startsWith("on")) element.addEventListener(name.slice(2), value);
+    else element.setAttribute(name, value === true ? "" : value);
+  }
+  element.append(...children.flat(9).filter((it) => it != null && it !== false).map((it) => (it instanceof Node ? it : String(it))));
+  return element;
+}
+const h = (tag, attributes, ...children) => filled(document.createElement(tag), attributes, children);
+const svg = (tag, attributes, ...children) => filled(document.createElementNS("http://www.w3.org/2000/svg", tag), attributes, children);
+const at = (id) => document.getElementById(id);
+const view = at("view");
+const dialog = at("dialog");
+const operator = at("operator");
+const memory = new Map();
+function kept(name, otherwise) {
+  if (memory.has(name)) return memory.get(name);
+  try {
+    const text = localStorage.getItem("desk." + name);
+    return text === null ? otherwise : JSON.parse(text);
+  } catch { return otherwise; }
+}
+function keep(name, value) {
+  try {
+    localStorage.setItem("desk." + name, JSON.stringify(value));
+    memory.delete(name);
+  } catch { memory.set(name, value); }
+}
+const operatorName = () => operator.value.trim();
+const hasOperator = () => operatorName() !== "" && operator.checkValidity();
+const IDLE = 30 * 60;
+const isIdle = () => clock() - kept("active", clock()) > IDLE;
+const isInDoubt = () => hasOperator() && isIdle();
+const OFTEN = 10;
+function seen() {
+  if (!isIdle() && Math.abs(clock() - kept("active", 0)) >= OFTEN) keep("active", clock());
+}
+for (const it of ["keydown", "pointerdown"]) addEventListener(it, seen, true);
+seen();
+function nameOperator(name) {
+  operator.value = name.trim();
+  keep("operator", operator.value);
+  keep("active", clock());
+}
+const MOST_NAMES = 6;
+const lastNames = () => kept("names", []);
+const keepName = (name) => keep("names", [name, ...lastNames().filter((it) => it !== name)].slice(0, MOST_NAMES));
+const CONSIDERED = 600;
+function whoQuestion(named, other) {
+  const notBefore = performance.now() + CONSIDERED, self = operatorName();
+  const big = (label, press) => h("button", { type: "button", onclick: () => performance.now() > notBefore && press() }, label);
+  const others = lastNames().filter((it) => it !== self).slice(0, MOST_NAMES - 1);
+  return h("div", { class: "still", role: "group", "aria-label": "Who is there" }, h("b", {}, `Still ${self}?`), " Nobody was at this page for half an hour.",
+    h("div", {}, big(`Yes, ${self}`, () => named(self)), others.map((it) => big(it, () => named(it))), big("Another name", other)));
+}
+const keyOf = (it) => (it
+  ? `${it.id}|${(it.closest("[data-row]") || { dataset: {} }).dataset.row || ""}|${it.getAttribute("aria-label") || it.textContent}` : "");
+function focusAgain(key) {
+  const seen = (places) => [...document.querySelectorAll(places)].filter((it) => it.offsetParent);
+  const same = seen("a, button, input, select, [tabindex]").find((it) => keyOf(it) === key);
+  const next = same || seen("#view .stack:last-child h2")[0] || seen("#view h2")[0] || view;
+  next.focus({ preventScroll: Boolean(same) });
+}
+function focusRow(name) {
+  const link = [...view.querySelectorAll("[data-row]")].find((it) => it.dataset.row === name)?.querySelector("a");
+  (link || view).focus({ preventScroll: true });
+}
+let isPressed = false;
+addEventListener("pointerdown", () => { isPressed = true; }, true);
+for (const end of ["pointerup", "pointercancel"]) addEventListener(end, () => setTimeout(() => { isPressed = false; }), true);
+async function released() { while (isPressed) await new Promise((then) => setTimeout(then, 30)); }
+const isIn = (event, places) => event.target instanceof Element && event.target.closest(places);
+addEventListener("click", (event) => {
+  if (event.detail < 2 || !isIn(event, "button")) return;
+  event.preventDefault();
+  event.stopImmediatePropagation();
+}, true);
+addEventListener("keydown", (event) => {
+  if (event.repeat && ["Enter", " "].includes(event.key) && isIn(event, "button, form") && !isIn(event, "textarea")) event.preventDefault();
+}, true);
+const isField = (it) => /^(INPUT|SELECT|TEXTAREA)$/.test(it.tagName);
+const isWriting = () => isField(document.activeElement) && !dialog.contains(document.activeElement);
+const ALONE = 2 * GAP;
+let keys = NO_KEYS;
+let cursor = null;
+let lastScan = { code: null, time: 0 };
+let shortcut = null;
+let taking = Promise.resolve();
+const stateOf = (it) => (it && it.matches("input:not([type=file]), select, textarea")
+  ? { it, value: it.value, from: it.selectionStart, to: it.selectionEnd } : { it });
+function restore({ it, value, from, to }) {
+  if (value === undefined || it.value === value) return;
+  it.value = value;
+  if (from !== null && it.setSelectionRange) it.setSelectionRange(from, to);
+  it.dispatchEvent(new Event("input", { bubbles: true }));
+}
+function endShortcut(isPerson) {
+  if (!shortcut) return;
+  clearTimeout(shortcut.timer);
+  const { act } = shortcut;
+  shortcut = null;
+  if (isPerson) act();
+}
+function onceAlone(act) {
+  if (keys.isFirst) shortcut = { act, timer: setTimeout(() => endShortcut(true), ALONE) };
+}
+function listenToScans(take) {
+  addEventListener("keydown", (event) => {
+    if (event.repeat || event.isComposing || event.ctrlKey || event.altKey || event.metaKey) { keys = NO_KEYS; return; }
+    keys = pressed(keys, event.key, event.timeStamp);
+    if (event.key !== "Shift") endShortcut(keys.isFirst || (event.key === "Enter" && !keys.code));
+    if (keys.isFirst) cursor = stateOf(document.activeElement);
+    if (event.key === " " && !keys.isFirst && keys.text && event.target instanceof Element && event.target.closest("button, a, input[type=checkbox]")) {
+      event.preventDefault();
+    }
+    if (!keys.code) return;
+    const { code } = keys, from = cursor, again = isAgain(lastScan, code, event.timeStamp);
+    event.preventDefault();
+    event.stopImmediatePropagation();
+    restore(from);
+    lastScan = { code, time: event.timeStamp };
+    taking = taking.then(() => take(code, again, from.it)).catch(() => {});
+  }, true);
+}
+let sound = null;
+function tone() {
+  try {
+    sound ||= new AudioContext();
+    const beep = sound.createOscillator(), loudness = sound.createGain();
+    Object.assign(beep, { type: "square" });
+    beep.frequency.value = 220;
+    loudness.gain.value = 0.1;
+    beep.connect(loudness).connect(sound.destination);
+    sound.resume();
+    beep.start();
+    beep.stop(sound.currentTime + 0.25);
+  } catch { /* There is no sound. */ }
+}
+let fading;
+function notice(tone, text, ...buttons) {
+  clearTimeout(fading);
+  const told = text && h("div", { class: tone, role: tone === "bad" ? "alert" : null }, h("span", {}, text), buttons);
+  at("notice").replaceChildren(...(told ? [told] : []));
+  if (text && !buttons.length) fading = setTimeout(() => notice(), tone === "bad" ? 15000 : 6000);
+}
+const card = (title, tools, ...body) => h("section", { class: "card" }, h("div", { class: "top" }, h("h2", { tabindex: -1 }, title), tools),
+  ...body);
+const listed = (it) => { it.classList.add("listed"); return it; };
+const none = (...text) => h("p", { class: "none" }, ...text);
+const pill = (text, tone) => h("span", { class: "pill " + (tone || "") }, text);
+const button = (label, press, style, more) => h("button", { type: "button", class: style, onclick: press, ...more }, label);
+const fact = (name, ...value) => h("div", {}, name, h("b", {}, ...value));
+const facts = (...all) => h("div", { class: "body" }, h("div", { class: "facts" }, all));
+const choice = (name, options, on, pick) => h("div", { class: "choice", role: "group", "aria-label": name },
+  options.map((it) => button(it, () => pick(it), null, { "aria-pressed": String(it === on) })));
+const hashOf = (place) => `#${placeFrom(location.hash, place)}`;
+const link = (place, text) => h("a", { href: hashOf(place) }, text);
+const lotLink = (id, sub) => [link("quality/lot/" + id, id), sub ? "/" + sub : ""];
+const batchLink = (id) => link("shift/" + id, id);
+function go(...parts) { location.hash = hashOf(parts.filter(Boolean).join("/")); }
+function table(heads, rows, without, isShort) {
+  if (!rows.length) return none(without);
+  for (const it of rows) [...it.children].forEach((cell, k) => { cell.dataset.label = heads[k].replace("#", ""); });
+  const head = heads.map((text) => h("th", { class: text.startsWith("#") ? "num" : null, scope: "col" }, text.replace("#", "")));
+  return h("div", { class: "wide" }, h("table", { class: isShort ? null : "block" }, h("thead", {}, h("tr", {}, head)),
+    h("tbody", {}, rows)));
+}
+const whole = (content) => (content.flat(9).some((it) => it || it === 0) ? h("span", {}, content) : null);
+function row(name, cells, place, isOn) {
+  const follow = place && ((event) => { if (!event.target.closest("a, button, input")) go(place); });
+  const it = h("tr", { "data-row": name, class: [place ? "pick" : "", isOn ? "on" : ""].join(" ").trim() || null, onclick: follow }, cells);
+  const of = String(name).replace(/^(in|out) /, "").replace(".", " ");
+  for (const one of it.querySelectorAll("button:not([aria-label])")) one.setAttribute("aria-label", `${one.textContent} ${of}`);
+  return it;
+}
+const cell = (...content) => h("td", {}, whole(content));
+const idCell = (...content) => h("td", { class: "id" }, whole(content));
+const numberCell = (n, unit) => h("td", { class: "num" }, h("span", {}, grouped(n), unit ? " " + unit : ""));
+const overCell = (line, booked) => h("td", { class: "num" }, h("span", { class: "over" }, booked, `over ${grouped(excess(line))} ${line.unit}`));
+const momentCell = (seconds) => h("td", { class: "when" }, moment(seconds));
+const buttonsCell = (...buttons) => h("td", { class: "do" }, h("div", {}, buttons));
+function firstSteps() {
+  const step = (place, name, ...text) => h("li", {}, link(place, name), ": ", ...text);
+  return card("This desk is new", null, h("div", { class: "body" }, h("ol", {},
+    step("warehouse", "Warehouse", "make a class, such as RAW, and in it the materials, each with the unit in which it is counted."),
+    step("planner", "Planner", "write a recipe and approve it. Then take orders in."),
+    step("warehouse", "Warehouse", "receive lots of what goes in."),
+    step("planner", "Planner", "release an order, which makes its batch."),
+    step("shift", "Shift", "start the batch, book what goes in and comes out, do its phases, and close it."),
+    step("quality", "Quality", "see where goods came from and went; hold and recall them."))));
+}
+class Refusal extends Error {
+  constructor(answer) { super(plainly(answer)); this.answer = answer; }
+}
+const SECONDS = 40;
+let tail = Promise.resolve();
+function request(path, options) {
+  const next = tail.then(async () => {
+    const first = clock();
+    const reply = await fetch(path, { cache: "no-store", redirect: "error", signal: AbortSignal.timeout(SECONDS * 1000), ...options });
+    const told = Date.parse(reply.headers.get("Date") || "") / 1000;
+    if (!Number.isNaN(told)) desk.offset = clockOffset(told, first, clock());
+    const text = await reply.text();
+    const isJson = (reply.headers.get("Content-Type") || "").startsWith("application/json");
+    return { status: reply.status, isJson, body: isJson ? JSON.parse(text) : text };
+  });
+  tail = next.catch(() => {});
+  return next;
+}
+async function askedAnew(path, isText) {
+  const answer = await request(path);
+  if (answer.status === 200 && answer.isJson !== Boolean(isText)) return answer.body;
+  if (!answer.isJson) throw new Error(`an answer of status ${answer.status} that isn't the desk's`);
+  throw new Refusal(answer);
+}
+const answers = new Map();
+async function asked(path, isText) {
+  if (!answers.has(path)) answers.set(path, await askedAnew(path, isText));
+  return answers.get(path);
+}
+async function found(path) {
+  try { return await asked(path); } catch (error) { if (error instanceof Refusal && error.answer.status === 404) return null; throw error; }
+}
+async function list(path, wanted) {
+  const all = [];
+  let behind = "", pages = 0;
+  do {
+    const { items, last } = readPage(path, await asked(`/v1/lists/${path}${behind}`));
+    all.push(...items);
+    all.more = last !== null;
+    behind = "/" + last;
+    pages += 1;
+  } while (all.more && all.length < wanted && pages < wanted / 10);
+  return all;
+}
+const wantedItems = new Map();
+const want = (name) => wantedItems.get(name) || PAGE;
+const desk = {
+  seq: null,
+  moment: 0,
+  name: undefined,
+  async look() {
+    const { seq } = await askedAnew("/v1/desk");
+    if (seq === this.seq) return false;
+    answers.clear();
+    await this.lookAtMoment();
+    if (!this.name || seq < this.seq) await this.lookAtName();
+    this.seq = seq;
+    return true;
+  },
+  async lookAtName() {
+    const [first] = (await askedAnew("/v1/lists/commands")).commands;
+    this.name = first ? first.ref : null;
+    dispatchEvent(new Event("desk-named"));
+  },
+  async lookAtMoment() { this.moment = (await askedAnew("/v1/moment")).at; },
+  offset: 0,
+  time() { return clock() + this.offset; },
+  today() { return day(new Date(this.time() * 1000)); },
+  now() { return Math.max(this.time(), this.moment); },
+  order: (id) => asked("/v1/orders/" + id),
+  lot: (id) => asked("/v1/lots/" + id),
+  foundLot: (id) => found("/v1/lots/" + id),
+  foundBatch: (id) => found("/v1/batches/" + id),
+  foundOrder: (id) => found("/v1/orders/" + id),
+  definition: (id) => found("/v1/definitions/" + id),
+  recipe: (id, version) => asked(`/v1/recipes/${id}/${version}`),
+  recall: (id) => found("/v1/recalls/" + id),
+  async batch(id) {
+    const batch = await asked("/v1/batches/" + id), { lines } = await asked(`/v1/batches/${id}/lines`);
+    return { ...batch, lines: lines.map(withPath) };
+  },
+  async linesNow(id) { return (await askedAnew(`/v1/batches/${id}/lines`)).lines; },
+  async record(id) { return readRecord(await asked(`/v1/batches/${id}/record`, true)); },
+  async stands(kind, id) { return (await asked(`/v1/${kind}/${id}/stands`)).lots; },
+  forward: (kind, id) => asked(`/v1/${kind}/${id}/forward_edges`),
+  back: (kind, id) => asked(`/v1/${kind}/${id}/back_edges`),
+  async lotNode(lot) { return (await this.back("lots", lot)).nodes.find((it) => it.lot === lot); },
+  orders: (state, wanted) => list("orders_by_due/" + state, wanted),
+  batches: (wanted) => list("batches", wanted),
+  closedBatches: (wanted) => list("closed_batches", wanted),
+  lots: (def, wanted) => list("lots/" + def, wanted),
+  holds: (lot, wanted) => list("holds/" + lot, wanted),
+  async lastCommands(count) {
+    const behind = this.seq > count ? "/" + (this.seq - count) : "";
+    return [...(await asked("/v1/lists/commands" + behind)).commands].reverse();
+  },
+  allHolds: (wanted) => list("all_holds", wanted),
+  recalls: (wanted) => list("recalls", wanted),
+  liftedRecalls: (wanted) => list("lifted_recalls", wanted),
+  definitions: (group, wanted) => list("definitions/" + group, wanted),
+  recipes: (state, wanted) => list("recipes/" + state, wanted),
+  movements: (lot, wanted) => list("movements/" + lot, wanted),
+  async materials() {
+    const all = [];
+    for (const { class: id } of await list("classes", Infinity)) all.push(...(await this.definitions(id, Infinity)).map((it) => ({ class: id, ...it })));
+    return all;
+  },
+  async classes() {
+    const classes = await list("classes", want("classes"));
+    const known = [];
+    for (const it of classes) {
+      known.push({ id: it.class, name: it.name, definitions: await this.definitions(it.class, want("definitions " + it.class)) });
+    }
+    known.more = classes.more;
+    return known;
+  },
+};
+function more(items, name, what) {
+  if (!items.more) return null;
+  const ask = (count) => button(`${grouped(count)} more`, () => { wantedItems.set(name, want(name) + count); show(); });
+  return h("div", { class: "more" }, `The first ${grouped(items.length)}${what || ""} are shown, and there are more.`, ask(PAGE),
+    ask(10 * PAGE));
+}
+const VIEWS = {};
+function place() {
+  const { name, words } = readAddress(location.hash);
+  const kinds = ["lot", "batch", "recall"];
+  const rest = words.map((it) => (kinds.includes(it) ? it : it.toUpperCase())).filter((it) => kinds.includes(it) || isId(it));
+  return Object.hasOwn(VIEWS, name) ? [name, rest] : ["planner", []];
+}
+function filterOf(name, options) {
+  const it = readAddress(location.hash).filters.get(name);
+  return options.includes(it) ? it : options[0];
+}
+const filtered = (name, options, value) => `#${withFilter(location.hash || `#${place()[0]}`, name, value === options[0] ? null : value)}`;
+function setFilter(name, options, value) { location.hash = filtered(name, options, value); }
+const filterChoice = (label, name, options) => choice(label, options, filterOf(name, options), (it) => setFilter(name, options, it));
+function dropFilter(name) { history.replaceState(history.state, "", filtered(name, [null], null)); }
+const isNarrow = () => innerWidth < 980;
+let wasNarrow = isNarrow();
+addEventListener("resize", () => { if (wasNarrow !== isNarrow()) show(); wasNarrow = isNarrow(); });
+function tellStatus(tone, ...told) {
+  at("stand").className = tone;
+  at("stand").replaceChildren(...told);
+}
+const SLOW = 700;
+let showing = 0;
+async function show() {
+  const mine = ++showing, [name, rest] = place();
+  markRole(name);
+  const slow = setTimeout(() => tellStatus("", "reading\u2026"), SLOW);
+  try {
+    await desk.look();
+    const [layout, ...parts] = await VIEWS[name](rest);
+    await released();
+    if (mine !== showing) return;
+    draw(layout, parts);
+    view.dataset.ready = `${name} ${desk.seq}`;
+  } catch (error) {
+    if (mine === showing) drawFailure(name, error);
+  } finally { clearTimeout(slow); }
+}
+let drawn = "", drawnOn = "";
+const isDayOver = () => drawnOn !== desk.today();
+const tops = new Map();
+history.scrollRestoration = "manual";
+function draw(layout, parts) {
+  const now = document.activeElement, key = view.contains(now) && now !== view ? keyOf(now) : null, before = readAddress(drawn).words.at(-1);
+  const isAnother = !isSamePlace(drawn, location.hash), isBack = isAnother && (history.state !== null || isAbove(location.hash, drawn));
+  if (isAnother) tops.set(drawn, scrollY);
+  view.className = layout;
+  view.replaceChildren(...parts.filter(Boolean));
+  drawBack();
+  if (isAnother) scrollTo(0, (isBack && tops.get(location.hash)) || 0);
+  if (isBack && (key || now === at("back"))) focusRow(before);
+  else if (key) focusAgain(key);
+  drawn = location.hash;
+  drawnOn = desk.today();
+  if (history.state === null) history.replaceState({ isDrawn: true }, "");
+  drawStatus();
+}
+const LISTS_OF = { planner: "the orders", shift: "the batches", warehouse: "the materials", quality: "recalls and holds" };
+function drawBack() {
+  const [name, rest] = place(), isOfLot = name === "warehouse" && rest.length > 1;
+  view.classList.toggle("thing", rest.length > 0);
+  at("back").hidden = !rest.length;
+  at("back").href = `#${placeFrom(location.hash, isOfLot ? `warehouse/${rest[0]}` : name)}`;
+  at("back").textContent = `\u2039 Back to ${isOfLot ? `the lots of ${rest[0]}` : LISTS_OF[name]}`;
+}
+function drawFailure(name, error) {
+  if (error instanceof Refusal) return draw("", [card("Not here", null, none(error.message, " ", link(name, "Back")))]);
+  const why = "The desk doesn't answer. It may be stopped, or the way to it is broken.", again = button("Try again", () => { notice(); show(); });
+  if (drawn !== location.hash) draw("", [card("No answer", null, none(why), h("div", { class: "body" }, again))]);
+  else notice("bad", why, again);
+  tellStatus("bad", "no answer");
+}
+function drawStatus() {
+  const isAhead = desk.moment > desk.time() + 60, isOff = Math.abs(desk.offset) > 60;
+  at("clock").hidden = !isOff;
+  at("clock").textContent = isOff ? `This device's clock is ${lengthOfTime(Math.abs(desk.offset))} ${desk.offset < 0 ? "ahead of" : "behind"} that of the desk's `
+    + "machine. Bookings take the machine's time." : "";
+  tellStatus(isAhead ? "warn" : "", desk.seq === 0 ? "no booking yet"
+    : `${counted(desk.seq, "booking", "bookings")}, ${isAhead ? "ahead:" : "last"} ${moment(desk.moment)}`);
+  at("stand").title = isAhead ? "The desk's last booking is later than its machine's clock. Bookings take the desk's moment." : "";
+}
+function markRole(name) {
+  for (const it of document.querySelectorAll("header nav a")) {
+    if (it.hash === "#" + name) it.setAttribute("aria-current", "page");
+    else it.removeAttribute("aria-current");
+  }
+  document.title = "Desk: " + name;
+}
+const LINK_LASTS = 60_000;
+function save(name, text) {
+  const url = URL.createObjectURL(new Blob([text], { type: "text/csv" }));
+  h("a", { href: url, download: name }).click();
+  setTimeout(() => URL.revokeObjectURL(url), LINK_LASTS);
+}
+async function saveList(list, name, read) {
+  const isNew = await desk.look(), rows = rowsOf(await read(), COLUMNS[list]), file = `${name}-${desk.today()}.csv`;
+  save(file, csvOf(rows, separatorOf(navigator.language)));
+  if (isNew) await show();
+  notice("good", `${counted(rows.length - 1, "row", "rows")} saved as ${file}.`);
+}
+const csvButton = (list, name, read) => button("CSV", async () => {
+  notice("", "Reading the list\u2026");
+  try { await saveList(list, name, read); } catch (error) {
+    notice("bad", error instanceof Refusal ? error.message : "The desk doesn't answer. Nothing was saved.");
+  }
+}, null, { "aria-label": `CSV of ${name}`, title: "Save the list for a spreadsheet" });
+const partsOfLot = (lot) => lot.sublots.filter((it) => it.stock > 0).map((it) => ({ lot: lot.lot, sub: it.no, stock: it.stock, place: it.place,
+  barred: lot.held ? "on hold" : lot.recalled ? "recalled" : "" }));
+const keyOfPart = (it) => `${it.lot}/${it.sub}`;
+const words = (it, unit) => `${keyOfPart(it)} at ${it.place || "no place"}: ${grouped(it.stock)} ${unit}${it.barred ? `, ${it.barred}` : ""}`;
+async function lotNow(id) {
+  await desk.look();
+  const lot = id && await desk.foundLot(id);
+  return lot && { ...lot, recalled: (await desk.lotNode(id)).recalled };
+}
+async function partsNamed(code, { def, mayBeBarred }) {
+  const { lot: id, sub } = lotOf(code), lot = await lotNow(id);
+  if (!lot) return `There is no lot ${id || code}.`;
+  if (lot.def !== def) return `Lot ${id} is ${lot.def}, and not ${def}.`;
+  const parts = partsOfLot(lot), meant = sub === null ? parts[0] : parts.find((it) => it.sub === sub);
+  if (!meant) return `There is nothing in ${sub === null ? "lot" : `part ${sub} of lot`} ${id}.`;
+  if (meant.barred && !mayBeBarred) return `Lot ${id} is ${meant.barred}.`;
+  return [meant, ...parts.filter((it) => it !== meant)];
+}
+const ATTRIBUTES = { "data-id": true, maxlength: 28, autocapitalize: "characters", autocomplete: "off", spellcheck: "false",
+  placeholder: "such as F-1, or F-1/2 for its part 2" };
+class LotChoice {
+  constructor(field, told) {
+    Object.assign(this, { field, told, part: field.part || null, seen: "", looking: null, known: new Map() });
+    this.input = h("input", { name: field.name, ...ATTRIBUTES, required: !field.part && !field.isOptional, oninput: () => this.typed(), onchange: () => this.look() });
+    this.list = h("select", { name: `${field.name}-list`, onchange: () => this.choose(this.known.get(this.list.value) || null, true) },
+      h("option", { value: "" }, "none of these"));
+    this.said = h("p", { class: "said", role: "status" });
+    this.wrong = h("p", { class: "wrong", role: "alert" });
+    this.offer(field.parts || []);
+    this.element = h("div", { class: "lot" }, h("label", {}, field.label, this.input),
+      h("label", {}, "Or one of those in stock", this.list), this.said, this.wrong);
+    this.draw();
+  }
+  isSettled() {
+    const text = this.input.value.trim();
+    return !this.looking && text.toUpperCase() === this.seen && (this.part !== null || (text === "" && Boolean(this.field.isOptional)));
+  }
+  offer(parts) {
+    for (const it of parts.filter((part) => !this.known.has(keyOfPart(part)))) {
+      this.known.set(keyOfPart(it), it);
+      this.list.append(h("option", { value: keyOfPart(it), disabled: Boolean(it.barred) && !this.field.mayBeBarred }, words(it, this.field.unit)));
+    }
+  }
+  draw() {
+    this.list.parentNode.hidden = this.known.size < (this.field.part ? 2 : 1);
+    this.said.textContent = this.part ? words(this.part, this.field.unit) : "";
+    this.list.value = this.part ? keyOfPart(this.part) : "";
+    this.input.required = !this.part && !this.field.isOptional;
+  }
+  choose(part, isOfList) {
+    this.part = part;
+    this.wrong.textContent = "";
+    if (isOfList) this.input.value = this.seen = part ? keyOfPart(part) : "";
+    this.draw();
+    this.next = part && this.told(part);
+  }
+  typed() {
+    this.wrong.textContent = "";
+    if (this.input.value.trim().toUpperCase() !== this.seen) { this.part = null; this.draw(); }
+  }
+  async look(code = this.input.value) {
+    const text = code.trim().toUpperCase();
+    if (text === this.seen && (this.looking || this.part)) return this.looking || true;
+    Object.assign(this, { seen: text, part: null });
+    this.input.value = text;
+    this.wrong.textContent = "";
+    this.draw();
+    const mine = this.looking = text ? this.found(text) : Promise.resolve(false);
+    try { return await mine; } finally { if (this.looking === mine) this.looking = null; }
+  }
+  async found(text) {
+    let parts;
+    try { parts = await partsNamed(text, this.field); } catch (error) { parts = error instanceof Refusal ? error.message : "The desk doesn't answer."; }
+    if (text !== this.seen) return false;
+    if (typeof parts === "string") return this.refuse(parts);
+    this.offer(parts);
+    this.looking = null;
+    this.choose(parts[0]);
+    return true;
+  }
+  refuse(why) {
+    this.wrong.textContent = why;
+    this.input.select();
+    tone();
+    return false;
+  }
+}
+const FIELDS = {
+  id: { "data-id": true, maxlength: 24, pattern: "[A-Za-z][A-Za-z0-9\\-]*", title: ID_RULE, autocapitalize: "characters",
+    autocomplete: "off", spellcheck: "false", required: true },
+  text: { maxlength: 60, pattern: "[ -~]*", title: "at most 60 letters of plain ASCII", autocomplete: "off" },
+  amount: { maxlength: 16, pattern: "0*[1-9][0-9]{0,14}|10{15}", title: "a whole number from 1", inputmode: "numeric", autocomplete: "off",
+    required: true },
+  date: { type: "date", min: "2000-01-01", max: "2099-12-31", required: true },
+  lines: { rows: 8, required: true, spellcheck: "false" },
+};
+const say = (text) => ({ kind: "say", label: text });
+const idField = (name, label, value) => ({ name, kind: "id", label, value });
+const newLotField = (name, label, value) => ({ name, kind: "id", label, value, isNewLot: true });
+const lotField = (more) => ({ name: "from", kind: "lot", label: "Scan or type the lot", ...more });
+const textField = (name, label, more) => ({ name, kind: "text", label, more });
+const amountField = (unit, value) => ({ name: "amount", kind: "amount", label: unit ? `Amount, ${unit}` : "Amount", value });
+const placeField = (label) => textField("place", label || "Place");
+const noteField = (label) => textField("note", label || "Note, if any");
+const whyField = () => textField("note", "Why", { required: true, pattern: "[ -~]*[!-~][ -~]*" });
+const selectField = (name, label, options, value, change) => ({ name, kind: "select", label, options, value, change });
+const halfField = (name, kind, label, more) => ({ name, kind, label, isHalf: true, ...more });
+const operatorField = textField("operator", "Operator: your name, which this browser keeps", { required: true });
+const noted = (fields, note) => (note ? { ...fields, note } : fields);
+function input(field) {
+  const value = field.value === undefined ? "" : String(field.value);
+  if (field.kind === "select") {
+    const options = field.options.map((it) => h("option", { value: it.value, disabled: it.isOff, selected: String(it.value) === value }, it.label));
+    return h("select", { name: field.name, required: true }, options);
+  }
+  const it = h(field.kind === "lines" ? "textarea" : "input", { name: field.name, ...FIELDS[field.kind], ...field.more });
+  it.value = value;
+  return it;
+}
+async function foreseen(content, by, signal) {
+  const body = JSON.stringify({ at: desk.now(), by, ...content });
+  const reply = await fetch("/v1/check", { method: "POST", body, headers: { "Content-Type": "application/json" }, cache: "no-store", signal });
+  const { accepted, name, item, reason } = reply.status === 200 ? await reply.json() : { accepted: true };
+  if (accepted || name === "MomentBack") return "";
+  const list = content.parts || content.lines || content.orders || [];
+  return `As it stands, this would be refused${item && list.length > 1 ? `, for number ${item} of the list` : ""}. ${reason ? `It can't be read: ${reason}.`
+    : REFUSALS[name] || ""} (${name})`;
+}
+const PAUSE = 400;
+const CONSIDER = 600;
+class Form {
+  constructor(title, fields, label, take, { isGrave, contentOf, doubt, booksNothing } = {}) {
+    Object.assign(this, { label, take, contentOf, doubt, style: isGrave ? "main bad" : "main", again: null, confirmed: null, asking: new AbortController() });
+    this.needsName = !booksNothing;
+    this.fields = hasOperator() || booksNothing ? fields : [...fields, operatorField];
+    this.inputs = {};
+    this.wrong = h("p", { class: "wrong", role: "alert" });
+    this.told = h("p", { class: "foreseen", role: "status" });
+    this.ok = h("button", { class: this.style }, label);
+    this.as = h("span", { class: "as" });
+    this.who = h("div", { hidden: true });
+    this.drawAs();
+    const rows = this.fields.map((it) => this.row(it)), away = button("Cancel", () => this.ok.disabled || dialog.close());
+    const events = { onsubmit: (event) => this.submit(event), oninput: () => this.changed(), onkeydown: (event) => this.pressed(event) };
+    this.element = h("form", { method: "dialog", ...events }, h("h2", { id: "title" }, title), this.who, rows, this.told, this.wrong,
+      h("div", { class: "end" }, away, this.as, this.ok));
+    if (this.isInDoubt()) this.askWho(() => (fields.length ? this.first().focus() : this.element.requestSubmit()));
+  }
+  isInDoubt() { return this.needsName && !this.inputs.operator && isInDoubt(); }
+  drawAs() { this.as.textContent = this.needsName && !this.inputs.operator && hasOperator() ? `as ${operatorName()}` : ""; }
+  askWho(then) {
+    const named = (name) => { nameOperator(name); this.who.hidden = true; this.drawAs(); then(); };
+    this.who.replaceChildren(whoQuestion(named, () => this.askName()));
+    this.who.hidden = false;
+  }
+  askName() {
+    this.fields = [...this.fields, operatorField];
+    this.who.replaceWith(this.row(operatorField));
+    this.drawAs();
+    this.inputs.operator.focus();
+  }
+  row(field) {
+    if (field.kind === "say") return h("p", { class: "soft" }, field.label);
+    if (field.kind === "lot") return this.lotRow(field);
+    const it = (this.inputs[field.name] = input(field));
+    if (field.isNewLot) it.addEventListener("change", () => this.putNewLot(field, it.value));
+    const hint = h("span", { class: "small", role: "status" }, field.hint);
+    if (field.kind === "text") it.addEventListener("change", () => this.offerPlain(it, hint));
+    if (field.isNewLot) this.hint = hint;
+    return h("label", { class: field.isHalf ? "half" : null }, field.label, it, (field.hint || field.isNewLot || field.kind === "text") && hint);
+  }
+  lotRow(field) {
+    this.lot = new LotChoice(field, (part) => { this.changed(); return field.change && field.change(this.inputs, part); });
+    this.inputs[field.name] = this.lot.input;
+    return this.lot.element;
+  }
+  offerPlain(it, hint) {
+    const plain = it.checkValidity() ? null : plainText(it.value);
+    const take = () => { it.value = plain; hint.replaceChildren(); this.changed(); };
+    hint.replaceChildren(...(plain === null || plain === it.value ? [] : ["The desk has plain letters alone. ", button(`Take \u201c${plain}\u201d`, take)]));
+  }
+  isOpen() { return dialog.open && dialog.firstChild === this.element; }
+  values() {
+    const value = ({ name, kind }) => (kind === "amount" ? Number(this.inputs[name].value) : kind === "id" ? this.inputs[name].value.toUpperCase()
+      : kind === "lot" ? this.lot.part : this.inputs[name].value);
+    return Object.fromEntries(this.fields.filter((it) => it.name).map((it) => [it.name, value(it)]));
+  }
+  first() {
+    if (!this.who.hidden) return this.who.querySelector("button");
+    const wanted = Object.values(this.inputs).find((it) => !it.value && it.required && it.name !== "note");
+    return this.lot ? this.lot.input : wanted || this.inputs.amount || this.ok;
+  }
+  forget() { clearTimeout(this.pause); this.asking.abort(); this.told.textContent = ""; }
+  changed() {
+    this.forget();
+    this.doubted(null);
+    if (this.contentOf) this.pause = setTimeout(() => this.ask(), PAUSE);
+  }
+  async ask() {
+    const { operator: name, ...values } = this.values(), { signal } = (this.asking = new AbortController());
+    const isWhole = this.isOpen() && this.element.checkValidity() && (!this.lot || this.lot.isSettled());
+    const content = isWhole ? this.contentOf(values) : null;
+    const text = content && await foreseen(content, (name || operatorName()).trim(), signal).catch(() => "");
+    if (text && !signal.aborted) this.told.textContent = text;
+  }
+  places() { return [...this.element.querySelectorAll("input, select, textarea")].filter((it) => it !== this.lot?.list); }
+  async pressed(event) {
+    if (event.key !== "Enter" || !event.target.matches("input, select")) return;
+    if (this.lot && event.target === this.lot.list) return event.preventDefault();
+    const isOfLot = this.lot && event.target === this.lot.input && event.target.value.trim() !== "";
+    if (!isOfLot && event.target === this.places().at(-1)) return;
+    event.preventDefault();
+    if (isOfLot && !(await this.lot.look())) return;
+    this.goOn(event.target);
+  }
+  goOn(from) {
+    if (!this.isOpen()) return;
+    const places = this.places(), next = (from === this.lot?.input && this.lot.next) || places[places.indexOf(from) + 1] || this.ok;
+    next.focus();
+    if (next.select) next.select();
+  }
+  doubted(text) {
+    if (this.confirmed === null && text === null) return;
+    this.confirmed = text;
+    this.wrong.textContent = text || "";
+    this.ok.className = text ? "main bad" : this.style;
+    this.ok.textContent = text ? `${this.label} all the same` : this.label;
+    this.notBefore = performance.now() + CONSIDER;
+  }
+  async hasDoubt(values) {
+    const text = [this.again, this.doubt && await this.doubt(values)].filter(Boolean).join(" ") || null;
+    if (text === null || text === this.confirmed) return false;
+    this.doubted(text);
+    return true;
+  }
+  async submit(event) {
+    event.preventDefault();
+    if (this.ok.disabled || (this.confirmed && performance.now() < this.notBefore)) return;
+    if (this.lot && !this.lot.isSettled()) return this.lot.look();
+    if (this.isInDoubt()) {
+      this.askWho(() => this.element.requestSubmit(this.ok));
+      return this.who.querySelector("button").focus();
+    }
+    this.forget();
+    const { operator: name, ...values } = this.values();
+    if (name !== undefined) nameOperator(name);
+    this.ok.disabled = true;
+    const isDoubtful = await this.hasDoubt(values), isOff = isDoubtful || !this.isOpen();
+    if (!isOff) this.wrong.textContent = "";
+    const what = isOff ? null : await this.take(values);
+    this.ok.disabled = false;
+    if (what && what !== LOST) this.wrong.textContent = what;
+    if (isDoubtful || (what && what !== LOST)) this.ok.focus();
+    else if (!isOff && this.isOpen()) dialog.close();
+  }
+  async scanned(code, isAgain, place) {
+    if (this.ok.disabled) return tone();
+    this.doubted(null);
+    this.again = isAgain ? `${code} was scanned twice within two seconds.` : null;
+    const field = this.fields.find((it) => it.isNewLot), isForNew = field && place === this.inputs[field.name];
+    if (this.lot && !(isForNew && !(await lotNow(lotOf(code).lot)))) {
+      if (await this.lot.look(code)) this.goOn(this.lot.input);
+    } else if (field) {
+      this.inputs[field.name].value = code.toUpperCase();
+      this.putNewLot(field, code);
+      this.goOn(this.inputs[field.name]);
+    } else return this.refuse("This form takes no scan. Nothing was booked.");
+    if (this.again && !this.wrong.textContent) this.wrong.textContent = `${this.again} It is booked once you say so.`;
+  }
+  refuse(why) { this.wrong.textContent = why; tone(); }
+  putNewLot(field, code) {
+    const text = code.trim(), lot = isId(text.toUpperCase()) || !text ? null : lotOfSupplier(text), { note } = this.inputs;
+    if (text === this.made) return;
+    this.made = lot;
+    this.hint.textContent = lot ? `${text} is no id of the desk: the lot is ${lot}, and the code goes into the note.` : "";
+    if (!lot) return;
+    this.inputs[field.name].value = lot;
+    if (note) note.value = withCode(note.value, text);
+    this.changed();
+  }
+}
+let opened = null;
+function form(title, fields, label, take, more) {
+  opened = new Form(title, fields, label, take, more);
+  openDialog(opened.element, opened.first());
+}
+const openForm = () => (opened && opened.isOpen() ? opened : null);
+let focusBehind = null;
+function openDialog(content, first) {
+  focusBehind = keyOf(document.activeElement);
+  dialog.replaceChildren(content);
+  if (!dialog.open) dialog.showModal();
+  dialog.scrollTop = 0;
+  first.focus({ preventScroll: first.matches(".end button") });
+  if (first.select) first.select();
+}
+const REFERENCE = "ABCDEFGHIJKLMNOPQRSTUVWXYZ234567";
+const newReference = () => "WEB-" + Array.from(crypto.getRandomValues(new Uint8Array(20)), (byte) => REFERENCE[byte & 31]).join("");
+const TAB = (() => {
+  try {
+    const name = sessionStorage.getItem("desk.tab") || newReference();
+    sessionStorage.setItem("desk.tab", name);
+    return name;
+  } catch { return newReference(); }
+})();
+const OTHERS_WAIT = 60;
+let sending = null;
+const unanswered = () => kept("bookings", []);
+const isOfAnother = (it) => Boolean(it.desk) && desk.name !== undefined && it.desk !== desk.name;
+const isOffered = (it) => it.ref !== sending && !isOfAnother(it) && (it.tab === TAB || clock() - it.since > OTHERS_WAIT || clock() < it.since);
+const keepBooking = (booking) => keep("bookings", [...unanswered().filter((it) => it.ref !== booking.ref), booking]);
+function forgetBooking(ref) { keep("bookings", unanswered().filter((it) => it.ref !== ref)); drawWaiting(); }
+function send(booking) {
+  const { at: seconds, by, ref } = booking;
+  const post = (path, body, headers) => request(path, { method: "POST", body, headers });
+  if (booking.file !== undefined) return post("/v1/orders", booking.file,
+    { "Content-Type": "text/csv", "Desk-At": String(seconds), "Desk-By": by, "Desk-Ref": ref });
+  return post("/v1/commands", JSON.stringify({ at: seconds, by, ...booking.fields, ref }), { "Content-Type": "application/json" });
+}
+function isDecided({ status, body }) {
+  return status === 200 ? Number.isSafeInteger(body.ok)
+    : body.name !== undefined || body.csv !== undefined || body.fault === 2 || body.status === status;
+}
+async function deliver(booking) {
+  sending = booking.ref;
+  try {
+    for (let tries = 0; ; tries += 1) {
+      keepBooking(booking);
+      const answer = await send(booking);
+      if (!isDecided(answer)) return null;
+      if (answer.body.name !== "MomentBack" || tries === 3) { forgetBooking(booking.ref); return answer; }
+      await desk.lookAtMoment();
+      booking = { ...booking, at: desk.now() };
+    }
+  } catch { return null; } finally { sending = null; drawWaiting(); }
+}
+async function book(what, content) {
+  if (sending) return "A booking is under way.";
+  if (unanswered().some((it) => it.tab === TAB && !isOfAnother(it))) return "An earlier booking has no answer yet. Send it again first: see the top of the page.";
+  const booking = { what, at: desk.now(), by: operatorName(), ref: newReference(), tab: TAB, since: clock(), desk: desk.name, ...content };
+  return settle(booking, await deliver(booking));
+}
+async function settle({ what, by }, answer) {
+  if (!answer) return LOST;
+  if (answer.status !== 200) return plainly(answer);
+  keepName(by);
+  notice("good", `${what}. Number ${grouped(answer.body.ok)}. By ${by}.`);
+  await show();
+  return null;
+}
+async function sendAgain(booking) {
+  if (sending) return;
+  notice("", "Sending again\u2026");
+  const wrong = await sentAgain(booking);
+  if (wrong) notice("bad", wrong === LOST ? "Still no answer." : `${booking.what}: ${wrong}`);
+}
+async function sentAgain(booking) {
+  sending = booking.ref;
+  try { await desk.lookAtName(); } catch { return LOST; } finally { sending = null; drawWaiting(); }
+  if (isOfAnother(booking)) return "It was sent to another desk than the one that is served here now. It is kept until that one is back.";
+  return settle(booking, await deliver(booking));
+}
+function drawWaiting() {
+  const told = (it) => h("span", {}, `No answer came to \u201c${it.what}\u201d. It may have been taken or not. Sent again, it counts once.`);
+  const row = (it) => h("div", {}, told(it), button("Send again", () => sendAgain(it), "main"), button("Leave it", () => leaveBooking(it)));
+  at("waiting").replaceChildren(...unanswered().filter(isOffered).map(row));
+}
+function leaveBooking(booking) {
+  form(`Leave \u201c${booking.what}\u201d?`, [say("It isn't sent again. Whether the desk took it is seen in the views alone.")], "Leave it",
+    () => { forgetBooking(booking.ref); return null; }, { isGrave: true, booksNothing: true });
+}
+const command = (what, fields) => book(what, { fields });
+async function bookAtOnce(what, content, label) {
+  if (!hasOperator() || isInDoubt()) return form(what, [], label, () => book(what, content));
+  const wrong = await book(what, content);
+  if (wrong && wrong !== LOST) notice("bad", wrong);
+}
+const act = (what, fields) => bookAtOnce(what, { fields }, "Book it");
+function bookingForm(title, fields, label, take, more) {
+  const contentOf = (v) => {
+    let content = null;
+    take(v, (what, told) => { content = told; return LOST; });
+    return content;
+  };
+  form(title, fields, label, (v) => take(v, command), { ...more, contentOf });
+}
+"##;
+
+/// Its entity tag.
+pub const SCRIPT_TAG: &str = "\"56ea83fa6d211d8c383a68e3fcaf6db5\"";

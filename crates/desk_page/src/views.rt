@@ -1,0 +1,798 @@
+//! The views of the page, as it is sent. make/page.py writes this file of what is in page/.
+
+/// Its bytes: JavaScript in ASCII.
+pub const VIEWS: &[u8] = br##""use strict";
+const nameOf = (node) => (node.lot ? "lot " + node.lot : "batch " + node.batch);
+const LARGEST_PICTURE = 300;
+function genealogyCard({ back, forward }, here) {
+  const nodes = new Map([...back.nodes, ...forward.nodes].map((it) => [nameOf(it), it]));
+  const named = [...back.edges, ...forward.edges].map((it) => ({ from: nameOf(it.from), to: nameOf(it.to), amount: it.amount }));
+  const edges = [...new Map(named.map((it) => [`${it.from}>${it.to}`, it])).values()];
+  if (nodes.size === 1) return card("Genealogy", null, none("It came of nothing that is booked, and nothing came of it."));
+  const isLarge = nodes.size > LARGEST_PICTURE;
+  return card("Genealogy", h("span", { class: "soft small" }, `${counted(nodes.size - 1, "other", "others")}`),
+    isLarge ? none(`${grouped(nodes.size)} lots and batches are too many for a picture.`) : picture(nodes, edges, here),
+    edgesList(nodes, edges));
+}
+const unitOf = (nodes, edge) => nodes.get(edge.from).unit || nodes.get(edge.to).unit || "";
+function edgesList(nodes, edges) {
+  const place = (name) => link("quality/" + name.replace(" ", "/"), name);
+  const cells = (it) => [cell(place(it.from)), numberCell(it.amount, unitOf(nodes, it)), cell(place(it.to))];
+  const rows = edges.slice(0, MOST_STEPS).map((it) => row(`${it.from}>${it.to}`, cells(it)));
+  const title = edges.length > MOST_STEPS ? `The first ${grouped(MOST_STEPS)} steps in words` : "The steps in words";
+  return h("details", { class: "noprint" }, h("summary", {}, title), table(["From", "#Amount", "To"], rows, ""));
+}
+const MOST_STEPS = 1000;
+const BOX = { high: 62, across: 88, down: 16 };
+function placed(nodes, edges) {
+  const into = new Map([...nodes.keys()].map((it) => [it, []]));
+  for (const it of edges) into.get(it.to).push(it.from);
+  const depth = new Map(), columns = [], rows = new Map();
+  const deep = (name) => { if (!depth.has(name)) depth.set(name, Math.max(-1, ...into.get(name).map(deep)) + 1); return depth.get(name); };
+  for (const name of nodes.keys()) (columns[deep(name)] ||= []).push(name);
+  for (const column of columns) {
+    const wish = (name) => into.get(name).reduce((sum, it) => sum + rows.get(it), 0) / (into.get(name).length || 1);
+    const middle = column.length / 2;
+    column.sort((a, b) => wish(a) - wish(b) || (a < b ? -1 : 1)).forEach((name, k) => rows.set(name, k - middle + 0.5));
+  }
+  return { depth, rows, columns };
+}
+function picture(nodes, edges, here) {
+  const { depth, rows, columns } = placed(nodes, edges);
+  const label = (it) => [it.lot || it.batch, it.lot ? it.def : "batch", it.lot ? `${grouped(it.stock)} ${it.unit}` : ""];
+  const width = Math.max(104, ...[...nodes.values()].map((it) => 22 + 7.9 * Math.max(...label(it).map((text) => text.length))));
+  const tall = Math.max(...columns.map((it) => it.length));
+  const x = (name) => 8 + depth.get(name) * (width + BOX.across), y = (name) => 8 + (rows.get(name) + tall / 2 - 0.5) * (BOX.high + BOX.down);
+  const wide = 16 + columns.length * (width + BOX.across) - BOX.across, high = 16 + tall * (BOX.high + BOX.down) - BOX.down;
+  const it = svg("svg", { width: wide, height: high, viewBox: `0 0 ${wide} ${high}`, role: "img", "aria-label": `Genealogy of ${here}` },
+    svg("defs", {}, svg("marker", { id: "tip", viewBox: "0 0 8 8", refX: 8, refY: 4, markerWidth: 8, markerHeight: 8, orient: "auto" },
+      svg("path", { class: "tip", d: "M0 0L8 4L0 8z" }))),
+    edges.map((edge) => edgeLine(x(edge.from) + width, y(edge.from) + BOX.high / 2, x(edge.to), y(edge.to) + BOX.high / 2)),
+    edges.map((edge) => svg("text", { class: "amount", "text-anchor": "middle", x: x(edge.to) - BOX.across / 2,
+      y: y(edge.to) + BOX.high / 2 + amountDrop(x, y, edge, width) - 4 }, `${grouped(edge.amount)} ${unitOf(nodes, edge)}`)),
+    [...nodes].map(([name, node]) => nodeBox(node, label(node), x(name), y(name), width, name === here)));
+  Object.assign(it.style, { maxWidth: "100%", minWidth: `${Math.round(wide * 0.75)}px`, height: "auto" });
+  return h("div", { class: "picture", tabindex: 0, role: "group", "aria-label": "Picture, can be scrolled" }, it);
+}
+function amountDrop(x, y, edge, width) {
+  const run = x(edge.to) - x(edge.from) - width;
+  return ((y(edge.from) - y(edge.to)) * BOX.across) / 2 / run;
+}
+const edgeLine = (x1, y1, x2, y2) => svg("line", { class: "edge", x1, y1, x2, y2, "marker-end": "url(#tip)" });
+function nodeBox(node, [id, sub, stock], x, y, width, isHere) {
+  const text = (style, down, words) => svg("text", { class: style, x: x + width / 2, y: y + down, "text-anchor": "middle" }, words);
+  const marks = [node.held && "HELD", node.recalled && "RECALLED"].filter(Boolean).join(" ");
+  return svg("a", { href: node.lot ? "#quality/lot/" + node.lot : "#quality/batch/" + node.batch },
+    svg("rect", { class: ["box", node.recalled ? "recalled" : node.held ? "held" : "", isHere ? "here" : ""].join(" ").trim(), x, y, width,
+      height: BOX.high, rx: node.lot ? 14 : 2 }),
+    text("name", 17, id), text("sub", 31, sub), stock && text("sub", 44, stock), marks && text("word", 56, marks));
+}
+const FORMS_OF_RECORD = ["tables", "text"];
+function recordCard(batch) {
+  const isPlain = filterOf("record", FORMS_OF_RECORD) === "text";
+  const tools = [pill(batch.closed ? "closed" : batch.state, TONES[batch.state]),
+    h("span", { class: "noprint" }, link("shift/" + batch.batch, "To the shift's view")),
+    filterChoice("Form of the record", "record", FORMS_OF_RECORD),
+    csvButton("record", `record-${batch.batch}`, () => rowsOfRecord(batch.record, batch.lines.filter(isMaterial))), button("Print", () => print())];
+  const content = isPlain ? h("div", { class: "body" }, h("pre", {}, batch.record.text)) : recordTables(batch);
+  const it = card(`Batch record ${batch.batch}`, tools, printedLine(), content, signatures(batch.batch));
+  it.classList.add("record");
+  return it;
+}
+const printedLine = () => h("p", { class: "printed" });
+addEventListener("beforeprint", () => {
+  for (const it of document.querySelectorAll(".printed")) {
+    it.textContent = `Printed ${moment(desk.time(), true)} by ${operator.value.trim() || "nobody named"}, of the web page of the desk at ${location.host}.`;
+  }
+});
+const SIGNED = ["Made by", "Checked by", "Released by"];
+const signatures = (id) => h("div", { class: "sign" }, h("b", {}, `Signed of batch record ${id}`),
+  SIGNED.map((it) => h("div", {}, h("span", {}, it), h("span", {}, "Date"), h("span", {}, "Signature"))));
+function recordTables({ record, ...batch }) {
+  const number = (it) => h("td", { class: "num" }, it), stamp = (it) => [stampCell(it), cell(it.note)];
+  const booking = ({ words: [lot, def, amount, unit] }) => [idCell(lot), cell(def), numberCell(amount, unit)];
+  const what = (it) => [cell(it.kind), cell(it.def || it.name || it.path), it.amount ? numberCell(it.amount, it.unit) : cell(), cell(it.value || "")];
+  const recipe = record.lines.map((it, k) => row("line " + k, [number(k + 1), ...what(it)]));
+  const events = record.events.map((it) => row(it.seq, [number(it.seq), cell(it.what), ...stamp(it)]));
+  const consumed = record.consumed.map((it) => row(it.seq, [number(it.seq), ...booking(it), ...stamp(it)]));
+  const produced = record.produced.map((it) => row(it.seq, [number(it.seq), ...booking(it), numberCell(it.words[5], it.words[3]), ...stamp(it)]));
+  const total = (it) => [cell(it.kind), idCell(it.def), numberCell(it.asked, it.unit),
+    excess(it) ? overCell(it, `${grouped(it.booked)} ${it.unit}, `) : numberCell(it.booked, it.unit)];
+  const totals = batch.lines.filter(isMaterial).map((it) => row(`total ${it.kind} ${it.def}`, total(it)));
+  return [recordFacts(batch, record.released),
+    h("h3", {}, "Control recipe"), table(["#No", "Kind", "What", "#Amount", "Value"], recipe, ""),
+    h("h3", {}, "Events"), table(["#Number", "Event", "When, by", "Note"], events, "None."),
+    h("h3", {}, "Consumed"), table(["#Number", "Lot and part", "Material", "#Amount", "When, by", "Note"], consumed, "Nothing."),
+    h("h3", {}, "Produced"), table(["#Number", "Lot", "Material", "#Amount", "#Scrapped", "When, by", "Note"], produced, "Nothing."),
+    h("h3", {}, "Totals"), table(["In or out", "Material", "#Asked", "#Booked"], totals, "")];
+}
+function recordFacts(batch, released) {
+  return facts(fact("Order", link("planner/" + batch.order, batch.order)), fact("Recipe", `${batch.recipe} ${batch.version}`),
+    fact("Size", grouped(batch.size)), fact("State", batch.state), fact("Attempt", batch.attempt), fact("Phases",
+      `${batch.next - 1} of ${batch.phases}`),
+    fact("Released", moment(released.at, true)), fact("By", released.by), released.note && fact("Note", released.note));
+}
+const stampCell = (it) => h("td", { class: "stamp" }, h("span", {}, h("span", { class: "when" }, moment(it.at, true)), " ", it.by));
+const nameOfTicks = (of) => `ticks.${desk.name || ""}.${of}`;
+function tick(of, key, isOn) {
+  const others = kept(nameOfTicks(of), []).filter((it) => it !== key);
+  keep(nameOfTicks(of), isOn ? [...others, key] : others);
+}
+const byPlace = (a, b) => (a.place < b.place ? -1 : a.place > b.place ? 1 : a.key < b.key ? -1 : 1);
+const partsToSee = (lots) => lots.flatMap((lot) => lot.sublots.filter((it) => it.stock).map((it) => ({ ...it, key: `${lot.lot}/${it.no}`, lot: lot.lot,
+  def: lot.def, held: lot.held, recalled: lot.recalled }))).sort(byPlace);
+function totals(parts, units) {
+  const all = new Map();
+  for (const it of parts) {
+    const total = all.get(it.def) || { stock: 0, count: 0, unit: units.get(it.lot) };
+    all.set(it.def, { ...total, stock: total.stock + it.stock, count: total.count + 1 });
+  }
+  return [...all].sort().map(([def, it]) => row(`total ${def}`, [idCell(link("warehouse/" + def, def)), numberCell(it.stock, it.unit), numberCell(it.count)]));
+}
+function standsCard(of, lots, nodes) {
+  const units = new Map(nodes.filter((it) => it.lot).map((it) => [it.lot, it.unit])), parts = partsToSee(lots);
+  const seen = new Set(kept(nameOfTicks(of), [])), told = h("span", { class: "soft small" });
+  const count = () => { told.textContent = `${grouped(parts.filter((it) => seen.has(it.key)).length)} of ${counted(parts.length, "row", "rows")} ticked`; };
+  const ticked = (it, isOn) => {
+    if (isOn) seen.add(it.key); else seen.delete(it.key);
+    tick(of, it.key, isOn);
+    count();
+  };
+  const box = (it) => h("input", { type: "checkbox", "aria-label": `${it.key} at ${it.place || "no place"} is seen`, checked: seen.has(it.key),
+    onchange: (event) => ticked(it, event.target.checked) });
+  const cells = (it) => [cell(box(it)), cell(it.place || h("span", { class: "soft" }, "no place")), idCell(lotLink(it.lot, it.no)), cell(it.def),
+    numberCell(it.stock, units.get(it.lot)), cell(it.held && pill("on hold", "warn")), cell(it.recalled && pill("recalled", "bad"))];
+  count();
+  const rows = parts.map((it) => row(it.key, cells(it)));
+  const csv = csvButton("stands", `goods-of-${of.split(" ")[1]}`, () => parts.map((it) => ({ ...it, unit: units.get(it.lot), seen: seen.has(it.key) })));
+  return card("Where its goods are", parts.length > 0 && [told, csv],
+    table(["Seen", "Place", "Lot", "Material", "#Amount", "On hold", "Recalled"], rows, "Nothing of it is in stock."),
+    parts.length > 0 && [h("h3", {}, "In all"), table(["Material", "#Amount", "#Parts"], totals(parts, units), "", true)]);
+}
+async function runningCard(batches) {
+  const open = new Map((await desk.batches(Infinity)).map((it) => [it.batch, it]));
+  const running = batches.filter((it) => open.has(it.batch)).map((it) => open.get(it.batch));
+  const rows = running.map((it) => row(it.batch, [idCell(batchLink(it.batch)), cell(pill(it.state, TONES[it.state])), cell(it.order),
+    cell(it.phase ? `${it.phase}, ${it.next} of ${it.phases}` : "all done")]));
+  return card("Batches that still run", null, table(["Batch", "State", "Order", "Next phase"], rows, "None."));
+}
+const ORDER_STATES = ["open", "released", "finished", "cancelled"], WITHDRAWN = ["hidden", "shown"];
+async function planner([id]) {
+  const orderState = filterOf("orders", ORDER_STATES), isWithdrawnShown = filterOf("withdrawn", WITHDRAWN) === "shown";
+  const orders = await desk.orders(orderState, want("orders " + orderState));
+  const approved = await desk.recipes("approved", want("recipes")), drafts = await desk.recipes("draft", want("recipes"));
+  const withdrawn = isWithdrawnShown ? await desk.recipes("withdrawn", want("recipes")) : [];
+  const one = id && (await desk.foundOrder(id));
+  return ["side",
+    h("div", { class: "stack" }, desk.seq === 0 && firstSteps(), id && orderCard(id, one), listed(ordersCard(orders, orderState, approved))),
+    listed(h("div", { class: "stack" }, takeInCard(approved), recipesCard(approved, drafts, isWithdrawnShown && withdrawn)))];
+}
+const bySooner = (a, b) => (a.due < b.due ? -1 : a.due > b.due ? 1 : b.priority - a.priority);
+function ordersCard(orders, orderState, approved) {
+  const recipes = new Map(approved.map((it) => [`${it.recipe}.${it.version}`, it])), sorted = [...orders].sort(bySooner);
+  const rows = sorted.map((it) => orderRow(it, orderState, recipes.get(`${it.recipe}.${it.version}`)));
+  const late = MAY_BE_LATE.includes(orderState) ? orders.filter((it) => it.due < desk.today()).length : 0;
+  const states = filterChoice("State of the orders", "orders", ORDER_STATES);
+  const csv = csvButton("orders", `orders-${orderState}`, async () => (await desk.orders(orderState, Infinity)).map((it) => ({ ...it, state: orderState })));
+  const without = orderState === "open" ? "No order is open. Take an order file in, or one order by hand." : `No order is ${orderState}.`;
+  const isAll = late === orders.length && orders.more;
+  return card("Orders", [late > 0 && pill(`${grouped(late)}${isAll ? " and more" : ""} late`, "bad"), csv, states],
+    table(["Order", "Due", "#Priority", "Recipe", "#Size", ""], rows, without), more(orders, "orders " + orderState, " by their due dates"));
+}
+function orderRow(order, orderState, recipe) {
+  const isOpen = orderState === "open", name = `${order.recipe} ${order.version}`;
+  const title = recipe && recipe.title ? [recipe.title, " ", h("span", { class: "soft small" }, name)] : name;
+  const mark = isOpen && !recipe && [" ", pill("not approved", "warn")];
+  const open = [button("Release", () => release(order), "main"), button("Cancel", () => cancelOrder(order), "bad")];
+  const buttons = isOpen ? open : orderState !== "cancelled" && button("Batch", () => showBatchOf(order.order));
+  return row(order.order, [idCell(link("planner/" + order.order, order.order)), cell(due(order, orderState)),
+    h("td", { class: "num" }, order.priority),
+    cell(title, mark), numberCell(order.size), buttonsCell(buttons)]);
+}
+const MAY_BE_LATE = ["open", "released"];
+function due(order, state) {
+  const today = desk.today(), mayBeLate = MAY_BE_LATE.includes(state);
+  if (mayBeLate && order.due < today) return pill(order.due + " late", "bad");
+  return mayBeLate && order.due === today ? pill(order.due + " today", "warn") : order.due;
+}
+async function showBatchOf(id) {
+  try { go("shift", (await desk.order(id)).batch); } catch (error) { notice("bad", error.message); }
+}
+function orderCard(id, order) {
+  const away = button("Close this", () => go("planner"));
+  if (!order) return card(`Order ${id}`, away, none("There is no such order."));
+  const isOpen = order.state === "open";
+  return card(`Order ${id}`, [pill(order.state, isOpen ? "warn" : order.state === "finished" ? "good" : ""), away],
+    facts(fact("Due", due(order, order.state)), fact("Priority", order.priority), fact("Recipe", `${order.recipe} ${order.version}`),
+      fact("Size", grouped(order.size)), order.batch && fact("Batch", batchLink(order.batch))),
+    isOpen && h("div", { class: "body row" }, button("Release", () => release(order), "main", { "aria-label": `Release the order ${id}` }),
+      button("Cancel", () => cancelOrder(order), "bad", { "aria-label": `Cancel the order ${id}` })));
+}
+function release(order) {
+  const text = `${order.recipe} ${order.version}, size ${grouped(order.size)}, due ${order.due}. The shift can start its batch at once.`;
+  const batch = idField("batch", "New batch", idOf("B", order.order.replace(/^O-?(?=.)/, "")));
+  bookingForm(`Release order ${order.order}`, [say(text), batch, noteField()], "Release",
+    (v, tell) => tell(`Order ${order.order} released as ${v.batch}`, noted({ do: "release", order: order.order, batch: v.batch }, v.note)));
+}
+function cancelOrder(order) {
+  bookingForm(`Cancel order ${order.order}?`, [say("A cancelled order stays cancelled."), noteField("Why")], "Cancel the order",
+    (v, tell) => tell(`Order ${order.order} cancelled`, noted({ do: "cancel_order", order: order.order }, v.note)), { isGrave: true });
+}
+const FILE_HINT = "An order file has comma-separated values, with the first line order,recipe,version,size,due,priority. "
+  + "All of its orders are taken in, or none.";
+function takeInCard(approved) {
+  const file = h("input", { type: "file", accept: ".csv,text/csv", "aria-label": "Order file", id: "orderfile", class: "full" });
+  const buttons = [button("Take the file in", () => importFile(file), "main"), button("One order by hand", () => oneOrder(approved))];
+  return card("Take orders in", null, h("div", { class: "body" }, h("p", { class: "soft small" }, FILE_HINT), file,
+    h("p", { class: "row" }, buttons)));
+}
+async function importFile(field) {
+  const file = field.files[0];
+  if (!file) { field.focus(); return notice("bad", "Choose a file first."); }
+  if (file.size > 262144) return notice("bad", FILE_FAULTS.TooLong);
+  const content = await file.text(), what = `Order file ${file.name} taken in`;
+  dropFilter("orders");
+  return bookAtOnce(what, { file: content }, "Take it in");
+}
+function oneOrder(approved) {
+  if (!approved.length) return notice("bad", "No recipe is approved, so that no order can be taken in.");
+  const label = (it) => `${it.title || it.recipe} (${it.recipe} ${it.version}), ${grouped(it.min)} to ${grouped(it.max)}`;
+  const recipes = approved.map((it) => ({ value: `${it.recipe}.${it.version}`, label: label(it) }));
+  const priorities = [9, 8, 7, 6, 5, 4, 3, 2, 1].map((it) => ({ value: it, label: it }));
+  const fields = [
+    idField("order", "New order"), selectField("recipe", "Recipe", recipes), { ...amountField(), name: "size", label: "Size" },
+    halfField("due", "date", "Due", { value: day(new Date(Date.now() + 7 * 86400e3)) }),
+    halfField("priority", "select", "Priority, 9 before 1", { value: 5, options: priorities }),
+  ];
+  bookingForm("One order", fields, "Take it in", (v, tell) => {
+    const [recipe, version] = v.recipe.split(".");
+    const order = { order: v.order, recipe, version: Number(version), size: v.size, due: v.due, priority: Number(v.priority) };
+    return tell(`Order ${v.order} taken in`, { do: "import_orders", orders: [order] });
+  });
+}
+function recipesCard(approved, drafts, withdrawn) {
+  const rows = [...drafts.map((it) => recipeRow(it, "draft")), ...approved.map((it) => recipeRow(it, "approved")),
+    ...(withdrawn || []).map((it) => recipeRow(it, "withdrawn"))];
+  const tools = [button(withdrawn ? "Hide withdrawn" : "Show withdrawn", () => setFilter("withdrawn", WITHDRAWN, withdrawn ? "hidden" : "shown")),
+    csvButton("recipes", "recipes", allRecipes), button("New recipe", () => newRecipe())];
+  return card("Recipes", tools, table(["Recipe", ""], rows, "There is no recipe yet. Write one: its materials have to be there."),
+    [approved, drafts, withdrawn || []].map((it) => more(it, "recipes")).find(Boolean));
+}
+async function allRecipes() {
+  const all = [];
+  for (const state of ["draft", "approved", "withdrawn"]) all.push(...(await desk.recipes(state, Infinity)).map((it) => ({ ...it, state })));
+  return all;
+}
+function recipeRow(it, state) {
+  const name = `${it.recipe} ${it.version}`;
+  const approve = () => act(`Recipe ${name} approved`, { do: "approve", recipe: it.recipe, version: it.version });
+  const mark = state !== "approved" && [" ", pill(state, state === "draft" ? "warn" : "")];
+  const title = [h("b", {}, it.title || it.recipe), " ", h("span", { class: "soft small" }, name), mark];
+  const sizes = h("div", { class: "soft small" }, `${grouped(it.min)} to ${grouped(it.max)} of ${it.product}`);
+  const buttons = [button("Lines", () => showRecipe(it)), state === "draft" && button("Approve", approve),
+    state === "approved" && button("Withdraw", () => withdraw(it), "bad")];
+  return row(name, [cell(title, sizes), buttonsCell(...buttons)]);
+}
+async function showRecipe({ recipe, version }) {
+  let it;
+  try { it = await desk.recipe(recipe, version); } catch (error) { return notice("bad", error.message); }
+  const amount = (line) => (line.qty ? `${grouped(line.qty)} ${line.unit}` : line.value || "");
+  const rows = it.lines.map(withPath).map((line, k) => row("line " + k, [cell(line.kind), cell(line.def || line.name || line.path), cell(amount(line))]));
+  const away = button("Close", () => dialog.close());
+  const sizes = `For ${grouped(it.base)} ${it.unit} of ${it.product}; orders of ${grouped(it.min)} to ${grouped(it.max)} ${it.unit}.`;
+  openDialog(h("form", { method: "dialog" }, h("h2", { id: "title" }, `${it.title || it.recipe} (${it.recipe} ${it.version}), ${it.state}`),
+    h("p", { class: "soft" }, sizes), table(["Kind", "What", "Amount or value"], rows, ""), h("div", { class: "end" }, away)), away);
+}
+function withdraw(it) {
+  bookingForm(`Withdraw recipe ${it.recipe} ${it.version}?`,
+    [say("No order of this version can be released any more. Batches that are released go on."), noteField("Why")], "Withdraw",
+    (v, tell) => tell(`Recipe ${it.recipe} ${it.version} withdrawn`,
+      noted({ do: "withdraw", recipe: it.recipe, version: it.version }, v.note)), { isGrave: true });
+}
+function newRecipe() {
+  const fields = [
+    halfField("recipe", "id", "Recipe"),
+    halfField("version", "amount", "Version, 1 to 999", { value: 1, more: { pattern: "0*[1-9][0-9]{0,2}" } }),
+    halfField("title", "text", "Title"), halfField("product", "id", "Product, a material"),
+    { name: "base", kind: "amount", label: "Base size, for which the lines are written" },
+    halfField("min", "amount", "Least size of an order"), halfField("max", "amount", "Greatest size"),
+    { name: "lines", kind: "lines", label: "Lines", hint: LINES_HINT, more: { placeholder: LINES_EXAMPLE } },
+  ];
+  bookingForm("New recipe", fields, "Make a draft", ({ lines: text, ...header }, tell) => {
+    const [lines, wrong] = recipeLines(text);
+    return wrong || tell(`Recipe ${header.recipe} ${header.version} drafted`, { do: "add_recipe", ...header, lines });
+  });
+}
+const WHICH = ["open", "closed"];
+let batchShown = null;
+async function shift([id]) {
+  const areClosedShown = filterOf("batches", WHICH) === "closed";
+  const batches = areClosedShown ? await desk.closedBatches(want("closed")) : await desk.batches(want("batches"));
+  const shown = id || (!isNarrow() && batches[0] && batches[0].batch);
+  batchShown = null;
+  const rows = batches.map((it) => batchRow(it, it.batch === shown));
+  const noneOpen = "No batch is open. The planner releases an order, which makes its batch.";
+  const all = table(["Batch", "State"], rows, areClosedShown ? "No batch is closed." : noneOpen, true);
+  const which = filterChoice("Which batches", "batches", WHICH);
+  const csv = csvButton("batches", `batches-${areClosedShown ? "closed" : "open"}`, async () => (await (areClosedShown ? desk.closedBatches(Infinity)
+    : desk.batches(Infinity))).map((it) => ({ ...it, closed: areClosedShown })));
+  const without = card("No batch", null, none("Once an order is released, its batch is started, booked and closed here."));
+  const one = shown ? await batchCards(shown) : desk.seq === 0 ? firstSteps() : !isNarrow() && without;
+  return ["list", listed(card("Batches", [csv, which], all, more(batches, areClosedShown ? "closed" : "batches"))), h("div", { class: "stack" }, one)];
+}
+function batchRow(batch, isShown) {
+  const next = batch.phase ? `next ${batch.phase}, ${batch.next} of ${batch.phases}` : "all phases done";
+  const small = (text) => h("div", { class: "soft small" }, text);
+  const cells = [idCell(batchLink(batch.batch), small(batch.order)), cell(pill(batch.state, TONES[batch.state]), small(next))];
+  return row(batch.batch, cells, "shift/" + batch.batch, isShown);
+}
+async function batchCards(id) {
+  const batch = await desk.batch(id);
+  batchShown = batch;
+  return [progressCard(batch), materialsCard(batch), bookingsCard(batch)];
+}
+function progressCard(batch) {
+  const done = batch.next - 1, procedure = batch.lines.filter((it) => it.kind === "phase");
+  const path = procedure.map((it, k) => [k ? " \u203a " : "", k === done ? h("b", {}, it.path) : it.path, k < done ? " \u2713" : ""]);
+  const known = [fact("Order", link("planner/" + batch.order, batch.order)), fact("Recipe", `${batch.recipe} ${batch.version}`),
+    fact("Size", grouped(batch.size)), fact("Attempt", batch.attempt), fact("Phases done", `${done} of ${batch.phases}`),
+    batch.lines.filter((it) => it.kind === "par").map((it) => fact(it.name, it.value))];
+  const tools = [pill(batch.closed ? "closed" : batch.state, batch.closed ? "" : TONES[batch.state]),
+    link("quality/batch/" + batch.batch, "Record and genealogy")];
+  return card(`Batch ${batch.batch}`, tools, h("div", { class: "body" }, h("div", { class: "facts" }, known), progressBar(done, batch.phases),
+    h("p", { class: "soft small" }, path), h("p", { class: "row" }, moves(batch, procedure[done]))));
+}
+function progressBar(done, phases) {
+  const values = { "aria-valuemin": 0, "aria-valuemax": phases, "aria-valuenow": done };
+  const bar = h("div", { class: "bar", role: "progressbar", "aria-label": "Phases done", ...values }, h("i"));
+  bar.firstChild.style.width = `${(100 * done) / phases}%`;
+  return bar;
+}
+function moves(batch, phase) {
+  if (batch.closed) return "This batch is closed. Nothing more is booked on it.";
+  const { done, ...words } = STATES[batch.state], id = batch.batch;
+  const mayEnd = done && !(batch.state === "running" && phase);
+  const steps = [
+    batch.state === "running" && phase && { label: `Phase ${phase.phase} done`, what: `Phase ${phase.phase} of ${id} done`,
+      fields: { do: "phase_done", batch: id, phase: batch.next }, look: "main" },
+    mayEnd && { label: `Finish: ${done}`, what: `Batch ${id} is ${done}`, fields: { do: "settle", batch: id }, look: "main" },
+    ...Object.keys(words).filter((it) => !GRAVE[it] && it !== "hold").map((word) => ({ label: capital(word), what: `Batch ${id}: ${word}`,
+      fields: { do: "batch", batch: id, word }, look: QUICK.includes(word) ? "main" : null })),
+  ].filter(Boolean);
+  return [
+    MAY_CLOSE.includes(batch.state) && button("Close", () => closeBatch(id), "main"),
+    steps.map((it) => button(it.label, () => act(it.what, it.fields), it.look)),
+    Object.keys(words).filter((it) => GRAVE[it] || it === "hold").map((word) => button(capital(word), () => move(id, word), GRAVE[word] && "bad")),
+    steps.length > 0 && button("With a note\u2026", () => withNote(id, steps))];
+}
+function withNote(id, steps) {
+  const options = steps.map((it, k) => ({ value: k, label: it.label }));
+  bookingForm(`Batch ${id}, with a note`, [selectField("step", "What", options), textField("note", "Note", { required: true })], "Book it", (v, tell) => {
+    const { what, fields } = steps[v.step];
+    return tell(what, noted(fields, v.note));
+  });
+}
+const QUICK = ["start", "resume", "restart"];
+const GRAVE = {
+  stop: "The batch ends before its time. It can be reset, and begins anew as another attempt.",
+  abort: "The batch is broken off. It can be reset, and begins anew as another attempt.",
+  reset: "The batch begins anew, from its first phase, as another attempt. What was booked on it stays booked.",
+};
+function move(id, word) {
+  const fields = { do: "batch", batch: id, word }, what = `Batch ${id}: ${word}`;
+  bookingForm(`${capital(word)} batch ${id}?`, [GRAVE[word] && say(GRAVE[word]), noteField("Why")].filter(Boolean), capital(word),
+    (v, tell) => tell(what, noted(fields, v.note)), { isGrave: Boolean(GRAVE[word]) });
+}
+function closeBatch(id) {
+  bookingForm(`Close batch ${id}?`, [say("A closed batch takes no more bookings, and its order is finished."), noteField()], "Close it",
+    (v, tell) => tell(`Batch ${id} closed`, noted({ do: "close_batch", batch: id }, v.note)));
+}
+const takesBookings = (batch) => batch.state !== "idle" && !batch.closed;
+function materialsCard(batch) {
+  const isOpen = takesBookings(batch);
+  const rows = batch.lines.filter(isMaterial).map((it) => materialRow(batch, it, isOpen));
+  return card("Materials", batch.state === "idle" && h("span", { class: "soft small" }, "booked once the batch is started"),
+    table(["In or out", "Material", "#Asked", "#Booked", "#Left", ""], rows, ""));
+}
+function materialRow(batch, line, isOpen) {
+  const isInput = line.kind === "in";
+  const book = isInput ? button("Consume", () => consume(batch, line)) : button("Produce", () => produce(batch, line));
+  return row(`${line.kind} ${line.def}`, [cell(pill(line.kind, isInput ? "" : "good")), idCell(line.def), numberCell(line.asked, line.unit),
+    numberCell(line.booked, line.unit), excess(line) ? overCell(line) : numberCell(line.asked - line.booked, line.unit), buttonsCell(isOpen && book)]);
+}
+function bookingsCard(batch) {
+  const unit = (def) => (batch.lines.find((it) => it.def === def) || {}).unit;
+  const booked = [...batch.consumed.map((it) => ({ ...it, kind: "consumed" })),
+    ...batch.produced.map((it) => ({ ...it, kind: "produced" }))].sort((a, b) => b.seq - a.seq);
+  const rows = booked.map((it) => row(it.seq, [cell(it.kind), idCell(lotLink(it.lot, it.sub)), cell(it.def),
+    numberCell(it.amount, unit(it.def)), numberCell(it.seq)]));
+  return card("Bookings, the last first", null, table(["What", "Lot", "Material", "#Amount", "#Number"], rows, "Nothing is booked yet."));
+}
+async function consume(batch, line, ...scan) {
+  const { def, unit } = line;
+  let lots;
+  try { await desk.look(); lots = await desk.lots(def, PAGE); } catch (error) { return notice("bad", error.message); }
+  const parts = lots.flatMap(partsOfLot), isFree = parts.some((it) => !it.barred);
+  if (!isFree && !lots.more && !scan.length) return notice("bad", parts.length ? `All ${def} in stock is on hold or recalled.` : `There is no ${def} in stock.`);
+  const left = Math.max(1, line.asked - line.booked);
+  let offered = left;
+  const change = (inputs, part) => {
+    if (Number(inputs.amount.value) === offered) inputs.amount.value = offered = Math.min(part.stock, left);
+  };
+  const fields = [sayBooked(line), lotField({ def, unit, parts, change }), amountField(unit, left), noteField()];
+  bookingForm(`Consume ${def} in ${batch.batch}`, fields, "Consume", ({ from: { lot, sub }, amount, note }, tell) => tell(
+    `${grouped(amount)} ${unit} of ${lot} consumed`, noted({ do: "consume", batch: batch.batch, lot, sub, amount }, note)), overbooked(batch, line));
+  if (scan.length) await openForm().scanned(...scan);
+}
+const overbooked = (batch, line) => ({ doubt: async ({ amount }) => {
+  const lines = await desk.linesNow(batch.batch).catch(() => batch.lines);
+  return doubtOf(lines.find((it) => it.kind === line.kind && it.def === line.def) || line, amount, line.booked);
+} });
+const sayBooked = (line) => say(`Asked ${grouped(line.asked)} ${line.unit}, booked ${grouped(line.booked)} ${line.unit}.`);
+async function produce(batch, line, ...scan) {
+  const before = batch.produced.filter((it) => it.def === line.def).length;
+  const fields = [sayBooked(line), newLotField("lot", "New lot", idOf(line.def, batch.batch, ...(before ? [before + 1] : []))),
+    amountField(line.unit, Math.max(1, line.asked - line.booked)), placeField(), noteField()];
+  bookingForm(`Produce ${line.def} of ${batch.batch}`, fields, "Produce", (v, tell) => tell(
+    `${grouped(v.amount)} ${line.unit} as ${v.lot} produced`,
+    noted({ do: "produce", batch: batch.batch, lot: v.lot, def: line.def, amount: v.amount, place: v.place }, v.note)), overbooked(batch, line));
+  if (scan.length) await openForm().scanned(...scan);
+}
+async function scanAtBatch(code, isAgain) {
+  const batch = batchShown && await desk.batch(batchShown.batch);
+  if (!batch || !takesBookings(batch)) return false;
+  const { lot: id } = lotOf(code), lot = id && await desk.foundLot(id), lines = batch.lines.filter(isMaterial);
+  if (lot) {
+    const line = lines.find((it) => it.kind === "in" && it.def === lot.def);
+    return line ? consume(batch, line, code, isAgain) : `Lot ${id} is ${lot.def}, which batch ${batch.batch} doesn't consume.`;
+  }
+  const outputs = lines.filter((it) => it.kind === "out"), line = outputs.find((it) => it.booked < it.asked) || outputs[0];
+  const isOther = !id || await desk.foundBatch(id) || await desk.foundOrder(id) || await desk.recall(id);
+  return line && !isOther ? produce(batch, line, code, isAgain) : false;
+}
+const chosen = new Map();
+let chosenOf = null;
+async function warehouse([id, lotId]) {
+  const classes = await desk.classes(), all = classes.flatMap((it) => it.definitions);
+  const def = id || (!isNarrow() && all[0] && all[0].def);
+  if (def !== chosenOf) chosen.clear();
+  chosenOf = def;
+  const side = listed(materialsSide(classes, def));
+  const without = card("Lots", null, none("There is no material yet."));
+  if (!def) return ["list", side, desk.seq === 0 ? firstSteps() : !all.length && without];
+  const known = all.find((it) => it.def === def) || (await desk.definition(def));
+  if (!known) return ["list", side, card("Lots", null, none("There is no such material."))];
+  const lots = await desk.lots(def, want("lots " + def)), one = lotId && (await desk.foundLot(lotId));
+  if (one) one.recalled = (await desk.lotNode(lotId)).recalled;
+  const lotsOf = lotsCard(known, lots);
+  return ["list", side, h("div", { class: "stack" }, lotId && oneLotCard(lotId, one, known), lotId ? listed(lotsOf) : lotsOf)];
+}
+function materialsSide(classes, def) {
+  const tools = [csvButton("materials", "materials", () => desk.materials()), button("New class", newClass),
+    classes.length > 0 && button("New material", () => newMaterial(classes))];
+  const without = none("There is no class yet.");
+  return card("Materials", tools, classes.length ? classes.map((it) => classTable(it, def)) : without, more(classes, "classes"));
+}
+function classTable({ id, name, definitions }, def) {
+  const cells = (it) => [idCell(link("warehouse/" + it.def, it.def)), cell(it.name), h("td", { class: "soft" }, it.unit)];
+  const rows = definitions.map((it) => row(it.def, cells(it), "warehouse/" + it.def, it.def === def));
+  return [h("h3", {}, name || id, name && [" ", h("span", { class: "soft small" }, id)]),
+    table(["Material", "Name", "Unit"], rows, "No material is in this class.", true), more(definitions, "definitions " + id)];
+}
+function newClass() {
+  bookingForm("New class", [say("A class is a group of materials, such as RAW or GOODS."), idField("group", "New class"),
+    textField("name", "Name")], "Make it",
+  (v, tell) => tell(`Class ${v.group} made`, { do: "add_class", class: v.group, name: v.name }));
+}
+function newMaterial(classes) {
+  bookingForm("New material", [idField("def", "New material"), textField("name", "Name"),
+    selectField("group", "Class", classes.map((it) => ({ value: it.id, label: it.name ? `${it.id} (${it.name})` : it.id }))),
+    textField("unit", "Unit in which it is counted, such as kg or pcs",
+      { pattern: "[A-Za-z0-9]{1,8}", title: "1 to 8 letters and digits", required: true })], "Make it",
+  (v, tell) => tell(`Material ${v.def} made`, { do: "add_definition", def: v.def, class: v.group, name: v.name, unit: v.unit }));
+}
+function lotsCard(known, lots) {
+  const isFree = (it) => !it.held && !it.recalled, shown = lots.more ? " of those shown" : "";
+  const total = (some) => [grouped(some.reduce((n, it) => n + it.stock, 0)), " ", known.unit];
+  const bar = h("div", { class: "chosen", hidden: true }, h("span", {}), button("Merge\u2026", () => merge(known), "main"),
+    button("Choose none", () => { chosen.clear(); show(); }));
+  const told = () => drawChosen(bar);
+  const rows = lots.flatMap((lot) => partRows(lot, known, told));
+  told();
+  const title = h("span", {}, known.name || known.def, known.name && [" ", h("span", { class: "soft small" }, known.def)]);
+  const without = `There is no ${known.def} in stock. Receive a lot, or have one produced.`;
+  const csv = csvButton("lots", `lots-${known.def}`, async () => partsOfLots(await desk.lots(known.def, Infinity))
+    .map((it) => ({ ...it, def: known.def, unit: known.unit })));
+  return card(title, [csv, button("Receive a lot", () => receive(known), "main")],
+    facts(fact("Free" + shown, total(lots.filter(isFree))), fact("On hold or recalled", total(lots.filter((it) => !isFree(it)))),
+      fact("Lots with stock", grouped(lots.length), lots.more ? " and more" : "")),
+    table(PART_HEADS, rows, lots.more ? "None of the lots that were looked at has stock." : without), more(lots, "lots " + known.def), bar);
+}
+function drawChosen(bar) {
+  bar.hidden = !chosen.size;
+  const isTooMany = chosen.size > MOST_PARTS;
+  bar.firstChild.textContent = isTooMany ? `A merge takes ${MOST_PARTS} parts at most.` : `${counted(chosen.size, "part is", "parts are")} chosen for a merge.`;
+  bar.children[1].disabled = isTooMany;
+}
+const PART_HEADS = ["Choose", "Lot", "#Part", "Place", "#Stock", ""];
+function partRows(lot, known, told) {
+  const barred = lot.held ? "on hold" : lot.recalled ? "recalled" : "", isBarred = barred !== "";
+  const marks = [lot.held && [" ", pill("on hold", "warn")], lot.recalled && [" ", pill("recalled", "bad")]];
+  return lot.sublots.filter((it) => it.stock > 0).map((it) => {
+    const key = `${lot.lot}/${it.no}`, part = { lot: lot.lot, sub: it.no, stock: it.stock, place: it.place, barred };
+    const buttons = [button("Divide", () => divide(part, known)), button("Split", () => split(part, known), null, { disabled: isBarred }),
+      button("Scrap", () => scrap(part, known), "bad")];
+    return row(key, [cell(chooseBox(key, part, isBarred, told)), idCell(lotLink(lot.lot), marks), h("td", { class: "num" }, it.no),
+      cell(it.place || h("span", { class: "soft" }, "no place")), numberCell(it.stock, known.unit), buttonsCell(buttons)]);
+  });
+}
+function chooseBox(key, part, isBarred, told) {
+  if (chosen.has(key)) chosen.set(key, part);
+  const choose = (event) => {
+    if (event.target.checked) chosen.set(key, part);
+    else chosen.delete(key);
+    told();
+  };
+  const name = `Choose ${key} for a merge`;
+  return h("input", { type: "checkbox", "aria-label": name, checked: chosen.has(key), disabled: isBarred, onchange: choose });
+}
+function oneLotCard(id, lot, known) {
+  const away = button("Close this", () => go("warehouse", known.def));
+  if (!lot) return card(`Lot ${id}`, away, none("There is no such lot."));
+  return card(`Lot ${id}`, away, table(PART_HEADS, partRows(lot, known, show), "Nothing is left of it."));
+}
+function receive({ def, unit }) {
+  bookingForm(`Receive ${def}`, [newLotField("lot", "Scan or type the new lot"), amountField(unit), placeField(), noteField()], "Receive",
+    (v, tell) => tell(`${grouped(v.amount)} ${unit} as ${v.lot} received`,
+      noted({ do: "receive", lot: v.lot, def, amount: v.amount, place: v.place }, v.note)));
+}
+const fromField = ({ def, unit }, part, mayBeBarred) => lotField({ def, unit, part, parts: [part], mayBeBarred });
+function scrap(part, known) {
+  bookingForm(`Scrap ${known.def}`, [fromField(known, part, true), amountField(known.unit), noteField("Why")], "Scrap",
+    ({ from: { lot, sub }, amount, note }, tell) => tell(`${grouped(amount)} ${known.unit} of ${lot} scrapped`,
+      noted({ do: "scrap", lot, sub, amount }, note)), { isGrave: true });
+}
+function divide(part, known) {
+  bookingForm(`Divide ${known.def}`, [fromField(known, part, true), say("The amount becomes another part of the same lot, at a place of its own."),
+    amountField(known.unit), placeField("New place"), noteField()], "Divide",
+    ({ from: { lot, sub }, amount, place, note }, tell) => tell(`${grouped(amount)} ${known.unit} of ${lot} brought to ${place || "no place"}`,
+      noted({ do: "divide", lot, sub, amount, place }, note)));
+}
+function split(part, known) {
+  bookingForm(`Split ${known.def}`, [fromField(known, part), say("The amount becomes a lot of its own."), amountField(known.unit),
+    newLotField("new", "New lot"), placeField(), noteField()], "Split",
+    ({ from: { lot, sub }, amount, place, note, ...v }, tell) => tell(`${grouped(amount)} ${known.unit} of ${lot} split off as ${v.new}`,
+      noted({ do: "split", lot, sub, amount, new: v.new, place }, note)));
+}
+const MOST_PARTS = 16;
+function merge(known, values = {}) {
+  const parts = [...chosen.values()], { def, unit } = known;
+  const label = (it) => `Of ${keyOfPart(it)} at ${it.place || "no place"}, ${unit}`;
+  const amounts = parts.map((it) => ({ ...amountField(unit, it.stock), name: keyOfPart(it), label: label(it) }));
+  const take = async (v, tell) => {
+    const taken = parts.map((it) => ({ lot: it.lot, sub: it.sub, amount: v[keyOfPart(it)] }));
+    const wrong = await tell(`Merged as ${v.new}`, noted({ do: "merge", new: v.new, place: v.place, parts: taken }, v.note));
+    if (!wrong) { chosen.clear(); show(); }
+    return wrong;
+  };
+  const change = (inputs, part) => {
+    const key = keyOfPart(part);
+    if (inputs[key]) return inputs[key];
+    if (chosen.size >= MOST_PARTS) return openForm().refuse(`A merge takes ${MOST_PARTS} parts at most.`);
+    chosen.set(key, part);
+    show();
+    return merge(known, Object.fromEntries(Object.entries(inputs).map(([name, it]) => [name, it.value])));
+  };
+  const fields = [lotField({ def, unit, change, isOptional: true }), ...amounts, newLotField("new", "New lot"), placeField(), noteField()];
+  for (const it of fields) if (it.kind !== "lot" && values[it.name] !== undefined) it.value = values[it.name];
+  bookingForm(`Merge ${counted(parts.length, "part", "parts")}`, fields, "Merge", take);
+}
+const WHICH_RECALLS = ["open", "lifted"];
+async function quality([kind, id]) {
+  const areLiftedShown = filterOf("recalls", WHICH_RECALLS) === "lifted";
+  const recalls = areLiftedShown ? await desk.liftedRecalls(want("lifted")) : await desk.recalls(want("recalls"));
+  const side = listed(h("div", { class: "stack" }, recallsCard(recalls, areLiftedShown), holdsCard(await desk.allHolds(want("all holds")))));
+  const shown = { lot: lotCards, batch: batchRecordCards, recall: (it) => recallCards(it, recalls) }[kind];
+  const hint = none("Find a lot, a batch or a recall by its id: at the top, or with ", h("kbd", {}, "/"),
+    ". Its holds, genealogy, ledger and record are shown here.");
+  if (!id || !shown) return ["list", side, desk.seq === 0 ? firstSteps()
+    : h("div", { class: "stack" }, card("A lot, a batch or a recall", null, hint), commandsCard(await desk.lastCommands(PAGE)))];
+  return ["list", side, h("div", { class: "stack" }, await shown(id))];
+}
+function commandsCard(commands) {
+  const rows = commands.map((it) => row(it.seq, [numberCell(it.seq), momentCell(it.at), cell(it.by), cell(it.do), cell(it.note), cell(it.ref)]));
+  return card("The last commands with references", null, table(["#Number", "When", "By", "What", "Note", "Reference"], rows, "None."));
+}
+function holdsCard(holds) {
+  const told = (it) => [it.hold, h("div", { class: "soft small" }, `${it.by}, ${moment(it.at)}`), it.note && h("div", { class: "small" }, it.note)];
+  const rows = holds.map((it) => row(`${it.lot}.${it.hold}`, [idCell(lotLink(it.lot)), cell(told(it)),
+    buttonsCell(button("Take the hold off", () => unhold(it.lot, it.hold)))]));
+  const csv = csvButton("holds", "holds", () => desk.allHolds(Infinity));
+  return card("On hold", csv, table(["Lot", "Hold", ""], rows, "No lot is on hold."), more(holds, "all holds"));
+}
+function recallsCard(recalls, areLiftedShown) {
+  const told = (it) => [h("b", {}, link("quality/recall/" + it.recall, it.recall)), h("div", { class: "soft small" }, `${it.by}, ${moment(it.at)}`),
+    it.note && h("div", { class: "small" }, it.note)];
+  const lifted = (it) => cell(`${it.lift.by}, ${moment(it.lift.at)}`, it.lift.note && h("div", { class: "small" }, it.lift.note));
+  const rows = recalls.map((it) => row(it.recall, [cell(told(it)), idCell(lotLink(it.lot)),
+    it.lift ? lifted(it) : buttonsCell(button("Lift", () => lift(it)))]));
+  const state = areLiftedShown ? "lifted" : "open", all = () => (areLiftedShown ? desk.liftedRecalls(Infinity) : desk.recalls(Infinity));
+  const tools = [csvButton("recalls", `recalls-${state}`, all), filterChoice("Which recalls", "recalls", WHICH_RECALLS)];
+  return card("Recalls", tools, table(["Recall", "Lot", areLiftedShown ? "Lifted" : ""], rows, `No recall is ${state}.`),
+    more(recalls, areLiftedShown ? "lifted" : "recalls"));
+}
+async function lotCards(id) {
+  const lot = await desk.lot(id), holds = await desk.holds(id, want("holds " + id));
+  const around = { back: await desk.back("lots", id), forward: await desk.forward("lots", id) };
+  const stands = await desk.stands("lots", id), ledger = await desk.movements(id, want("movements " + id));
+  const self = around.back.nodes.find((it) => it.lot === id);
+  return [lotCard(lot, self, holds, around.forward), genealogyCard(around, "lot " + id), standsCard(`lot ${id}`, stands, around.forward.nodes),
+    ledgerCard(id, ledger, self.unit)];
+}
+function lotCard(lot, self, holds, forward) {
+  const rows = holds.map((it) => row(it.hold, [idCell(it.hold), momentCell(it.at), cell(it.by), cell(it.note),
+    buttonsCell(button("Take the hold off", () => unhold(lot.lot, it.hold)))]));
+  const tools = [lot.held && pill("on hold", "warn"), self.recalled && pill("recalled", "bad"), button("Hold", () => hold(lot.lot)),
+    button("Recall", () => recall(lot.lot, forward), "bad")];
+  return card(`Lot ${lot.lot}`, tools,
+    facts(fact("Material", link("warehouse/" + lot.def, lot.def)), fact("Stock", grouped(lot.stock), " ", self.unit),
+      lot.sublots.filter((it) => it.stock || lot.sublots.length === 1).map((it) =>
+        fact(`Part ${it.no} at ${it.place || "no place"}`, grouped(it.stock), " ", self.unit))),
+    table(["Hold", "Since", "By", "Why", ""], rows, "No hold is on it."), more(holds, "holds " + lot.lot));
+}
+function ledgerCard(id, ledger, unit) {
+  const to = (it) => (it.to ? `${it.to}/${it.to_sub}` : it.batch ? batchLink(it.batch) : "");
+  const cells = (it) => [momentCell(it.at), cell(it.by), cell(it.kind), numberCell(it.amount, unit), cell(`${it.lot}/${it.sub}`), cell(to(it)),
+    cell(it.note)];
+  const rows = ledger.map((it) => row(`${it.seq}.${it.line}`, cells(it)));
+  const csv = csvButton("ledger", `ledger-${id}`, async () => (await desk.movements(id, Infinity)).map((one) => ({ ...one, unit })));
+  return card("Ledger", csv, table(["When", "By", "What", "#Amount", "Part", "To or of", "Note"], rows, ""),
+    more(ledger, "movements " + id));
+}
+function hold(id) {
+  bookingForm(`Hold lot ${id}`, [say("It can't be consumed, split or merged until the hold is taken off."),
+    idField("hold", "New hold", idOf("H", stampWord())), whyField()], "Hold",
+    (v, tell) => tell(`Lot ${id} is on hold`, { do: "hold", lot: id, hold: v.hold, note: v.note }));
+}
+function unhold(id, name) {
+  bookingForm(`Take hold ${name} off lot ${id}?`, [noteField("Why")], "Take it off",
+    (v, tell) => tell(`Hold ${name} is taken off ${id}`, noted({ do: "unhold", lot: id, hold: name }, v.note)));
+}
+function recall(id, forward) {
+  const lots = forward.nodes.filter((it) => it.lot).length, batches = forward.nodes.length - lots;
+  const reaches = `It reaches ${counted(lots, "lot", "lots")} and ${counted(batches, "batch", "batches")} now, and all that comes of them.`;
+  const fields = [say(`${reaches} No lot of these can be consumed, split or merged until the recall is lifted.`),
+    idField("recall", "New recall", idOf("RC", stampWord())), whyField()];
+  bookingForm(`Recall lot ${id}`, fields, "Recall",
+    (v, tell) => tell(`Lot ${id} is recalled`, { do: "recall", recall: v.recall, lot: id, note: v.note }), { isGrave: true });
+}
+function lift(it) {
+  const text = `Lot ${it.lot} and all that came of it is free again, but for other recalls and holds. A lifted recall stays lifted.`;
+  bookingForm(`Lift recall ${it.recall}?`, [say(text), noteField("Why")], "Lift",
+    (v, tell) => tell(`Recall ${it.recall} is lifted`, noted({ do: "lift", recall: it.recall }, v.note)));
+}
+async function recallCards(id, recalls) {
+  const it = await desk.recall(id), open = recalls.find((other) => other.recall === id);
+  if (!it) return [card(`Recall ${id}`, null, none("There is no such recall."))];
+  const { nodes } = await desk.forward("lots", it.lot), stands = standsCard(`recall ${id}`, await desk.stands("lots", it.lot), nodes);
+  const print = button("Print", () => globalThis.print());
+  if (it.state === "lifted") return [card(`Recall ${id}`, [pill("lifted"), print], printedLine(), facts(fact("Lot", lotLink(it.lot))),
+    none("It is lifted, and reaches nothing any more.")), stands];
+  const since = open ? [fact("Since", moment(open.at)), fact("By", open.by), open.note && fact("Why", open.note)] : [];
+  const lots = it.nodes.filter((node) => node.lot), batches = it.nodes.filter((node) => node.batch);
+  const links = (kind, ids) => h("div", { class: "body row" }, ids.map((one) => link(`quality/${kind}/${one}`, one)));
+  return [
+    card(`Recall ${id}`, [pill("open", "bad"), print, button("Lift", () => lift(it), null, { "aria-label": `Lift the recall ${id}` })], printedLine(),
+      facts(fact("Lot", lotLink(it.lot)), since, fact("Reaches", `${counted(lots.length, "lot", "lots")}, ${counted(batches.length, "batch", "batches")}`))),
+    await runningCard(batches), stands,
+    card(`${counted(lots.length, "lot", "lots")} reached`, null, links("lot", lots.map((node) => node.lot))),
+    card(`${counted(batches.length, "batch", "batches")} reached`, null, links("batch", batches.map((node) => node.batch))),
+  ];
+}
+async function batchRecordCards(id) {
+  const batch = { ...(await desk.batch(id)), record: await desk.record(id) };
+  const around = { back: await desk.back("batches", id), forward: await desk.forward("batches", id) };
+  return [recordCard(batch), genealogyCard(around, "batch " + id)];
+}
+async function find(code) {
+  const { lot: id } = lotOf(code);
+  if (!id) return miss(`An id has ${ID_RULE}.`);
+  if (await showFound(id)) return true;
+  return miss(`There is no lot, no batch, no order and no recall ${id}.`);
+}
+function miss(why) { notice("bad", why); return false; }
+async function showFound(id) {
+  const [name] = place();
+  const lot = await desk.foundLot(id);
+  const where = lot ? (name === "warehouse" ? ["warehouse", lot.def, id] : ["quality", "lot", id])
+    : await desk.foundBatch(id) ? (name === "shift" ? ["shift", id] : ["quality", "batch", id])
+      : await desk.foundOrder(id) ? ["planner", id] : await desk.recall(id) ? ["quality", "recall", id] : null;
+  if (where) go(...where);
+  return where !== null;
+}
+at("finder").addEventListener("submit", async (event) => {
+  event.preventDefault();
+  notice();
+  try { await find(at("find").value); } catch (error) { miss(whyNot(error)); }
+});
+const whyNot = (error) => (error instanceof Refusal ? error.message : "The desk doesn't answer.");
+listenToScans(async (code, isAgain, from) => {
+  if (openForm()) return openForm().scanned(code, isAgain, from);
+  notice();
+  try {
+    const isOfBatch = !dialog.open && place()[0] === "shift" && from !== at("find") && await scanAtBatch(code, isAgain);
+    if (typeof isOfBatch === "string") { miss(isOfBatch); tone(); } else if (isOfBatch === false) await findScanned(code);
+  } catch (error) { miss(whyNot(error)); tone(); }
+});
+async function findScanned(code) {
+  if (dialog.open) dialog.close();
+  if (!(await find(code))) tone();
+}
+const WORDS = {
+  "Divide, Split": "Divide brings an amount to another place: it stays the same lot, as another part. Split makes an amount a lot of its own.",
+  "Hold, Recall": "A hold keeps one lot from being consumed, split and merged, a recall also all that came of it.",
+  "Stop, Abort": "Stop ends a batch in order before its time, Abort breaks it off. Both can be reset, and begin anew.",
+  "Finish": "Pausing, stopping and the like take time. Finish says that the batch got there.",
+  "Complete, Close": "A complete batch has done its work, and still takes bookings. A closed one takes none, and its order is finished.",
+};
+function help() {
+  const key = (name, what) => h("p", {}, h("kbd", {}, name), " ", what);
+  const keys = [key("1", "planner"), key("2", "shift"), key("3", "warehouse"), key("4", "quality"),
+    key("/", "find a lot, a batch, an order or a recall"), key("r", "look again"), key("Esc", "close a form"),
+    key("Enter", "to the next field of a form; books in the last one")];
+  const scans = "A scanner works wherever the cursor is, and books nothing: at a batch it opens the form with the scanned lot, in a form it chooses the "
+    + "lot, elsewhere it finds.";
+  const text = "A booking can't be taken back: book the opposite, or scrap. It counts once, also where its answer is lost and it is sent again. "
+    + "Views look again every 20 seconds.";
+  const end = h("div", { class: "end" }, h("button", { class: "main" }, "Close"));
+  const words = Object.entries(WORDS).map(([name, what]) => [h("dt", {}, name), h("dd", {}, what)]);
+  const it = h("form", { method: "dialog" }, h("h2", { id: "title" }, "Keys and help"), keys, h("p", { class: "soft" }, scans), h("p", { class: "soft" }, text),
+    h("h2", {}, "Words"), h("dl", {}, words), end);
+  openDialog(it, it.querySelector("button"));
+}
+at("help").addEventListener("click", help);
+dialog.addEventListener("cancel", (event) => { if (sending) event.preventDefault(); });
+dialog.addEventListener("close", () => {
+  if (dialog.open) return;
+  const isLost = document.activeElement === document.body || dialog.contains(document.activeElement);
+  dialog.replaceChildren();
+  if (isLost) focusAgain(focusBehind);
+  if (view.dataset.ready && !view.dataset.ready.endsWith(` ${desk.seq}`)) show();
+});
+addEventListener("keydown", (event) => {
+  if (event.ctrlKey || event.altKey || event.metaKey || dialog.open) return;
+  if (event.key === "Escape" && document.activeElement === at("find")) return view.focus();
+  if (isWriting()) return;
+  const role = Object.keys(VIEWS)[Number(event.key) - 1];
+  const act = role ? () => go(role) : { "/": () => at("find").select(), "?": help, r: show }[event.key];
+  if (!act) return;
+  event.preventDefault();
+  onceAlone(act);
+});
+Object.assign(VIEWS, { planner, shift, warehouse, quality });
+operator.value = kept("operator", "");
+operator.addEventListener("input", () => keep("operator", operator.value));
+operator.addEventListener("change", () => nameOperator(operator.value));
+operator.addEventListener("keydown", (event) => { if (event.key === "Enter") view.focus(); });
+const TURN = 20;
+async function lookAgain() {
+  if (document.hidden || sending || dialog.open) return;
+  drawWaiting();
+  try {
+    const isNew = await desk.look(), isAtWork = chosen.size > 0 || (isWriting() && view.contains(document.activeElement));
+    if (isNew && isAtWork) drawNew();
+    else if (isNew || (isDayOver() && !isAtWork) || at("stand").textContent === "no answer") show();
+  } catch { tellStatus("bad", "no answer"); }
+}
+const drawNew = () => tellStatus("warn", "there are new bookings: ", button("Look again", () => show()));
+setInterval(lookAgain, TURN * 1000);
+addEventListener("visibilitychange", lookAgain);
+addEventListener("storage", drawWaiting);
+addEventListener("desk-named", drawWaiting);
+addEventListener("hashchange", () => { if (dialog.open && !sending) dialog.close(); show(); });
+drawWaiting();
+show();
+"##;
+
+/// Its entity tag.
+pub const VIEWS_TAG: &str = "\"5c6be4e63e21a3a92885317ee67a4f6b\"";

@@ -1,0 +1,9 @@
+use Rattle.std.proofs.Common.{◌∙◌, sym, ap, take_all, flat_map}
+use Rattle.std.proofs.Output.{has_written_of_eq}
+use Rattle.plant_base.specs.{lines_text, order_lines}
+use Rattle.plant_base.proofs.LinesRoundTrip.{lines_of_items}
+use Rattle.plant_base.proofs.content.OrdersTextDisplay.fmt.Goals as goal
+
+pub returns-clause-writes : goal.returns-clause-writes
+returns-clause-writes g c = λ plain ok.
+    has_written_of_eq _ _ _ _ _ (ap (flat_map (λ x. lines_text (order_lines x))) (take_all _ _ c.loop-order-test.false) ∙ sym (lines_of_items order_lines _)) (c.loop-order.invariant plain)

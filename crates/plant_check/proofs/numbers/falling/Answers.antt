@@ -1,5 +1,0 @@
-use Rattle.plant_check.proofs.FallBreaksRule.{reported_breaks}
-use Rattle.plant_check.proofs.numbers.falling.Goals as goal
-
-pub returns-clause-breaks : goal.returns-clause-breaks
-returns-clause-breaks g c = reported_breaks g.R.Marked.mark_of g.R.Marked.early c.first_fall.result c.args.rows.now c.first_fall.ensures

@@ -1,0 +1,142 @@
+-- What an input asks for.
+use Rattle.std.specs.Prelude.{◌≡◌, ℕ, ◌<◌, Bool, true, false, nat_lt, nat_le, List, length, take, drop, map, Option, Some, None, Result, Ok, Err, if◌then◌else◌, MatchBool}
+use Rattle.httparse.specs.Grammar.{RequestHead}
+use Rattle.httparse.specs.Spans.{name_and_value}
+use Rattle.plant_base.specs.{OrderRow}
+use Rattle.plant_orders.specs.{import, orders_of, CsvFault, CsvKind, ImportMetadata}
+use Rattle.plant_orders.specs.declared.fault.CsvKind.TheVariants as csv
+use Rattle.plant_text.specs.{line_of, text_checked, Line}
+use Rattle.plant_text.specs.declared.LineFault.{LineFault}
+use Rattle.plant_text.specs.declared.read.Line.TheVariants as L
+use Rattle.plant_text.specs.declared.LineFault.TheVariants as line
+use Rattle.plant_http_requests.specs.HeadEnd.{end_of_head}
+use Rattle.plant_http_requests.specs.declared.reading.HeadEnd.{HeadEnd}
+use Rattle.plant_http_requests.specs.declared.reading.HeadEnd.TheVariants as end
+use Rattle.plant_http_requests.specs.Heads.{field_lines, Parsed}
+use Rattle.plant_http_requests.specs.Steps.{refusal_of, fails, request_step}
+use Rattle.plant_http_requests.specs.declared.task.RequestTask.{RequestTask}
+use Rattle.plant_http_requests.specs.declared.task.RequestTask.TheVariants.{Decided, Command, Check, Ahead, BadForm, BadFile, MemoryError}
+use Rattle.plant_http_requests.specs.declared.task.BodyKind.{BodyKind}
+use Rattle.plant_http_requests.specs.declared.task.BodyKind.TheVariants as content
+use Rattle.plant_http_requests.specs.declared.task.HeadStep.{HeadStep}
+use Rattle.plant_http_requests.specs.declared.task.HeadStep.TheVariants as S
+use Rattle.plant_http_requests.specs.InTime.{in_time}
+use Rattle.plant_http_requests.specs.declared.profile.Profile.{Profile}
+use Rattle.plant_http_requests.specs.declared.profile.Terms.{Terms}
+use Rattle.plant_http_requests.specs.declared.status.Status.TheVariants.{BadRequest, HeadTooLarge}
+
+-- the most reads that a request takes
+abbrev pub most_reads : ℕ
+most_reads = 4096
+
+-- ---- bodies
+
+-- a question or a check is no command
+abbrev pub command_task : Option Line → RequestTask
+command_task None = BadForm
+command_task (Some (L.Command e)) = Command e
+command_task (Some (L.Question q)) = BadForm
+command_task (Some (L.Check c)) = BadForm
+
+-- what a body asks for that was read as a line; want of memory comes of nothing else
+abbrev pub command_of : Result Line LineFault → RequestTask
+command_of (Ok (L.Command e)) = Command e
+command_of (Ok (L.Question q)) = BadForm
+command_of (Ok (L.Check c)) = BadForm
+command_of (Err line.BadForm) = BadForm
+command_of (Err line.Memory) = MemoryError
+
+abbrev pub file_task : ImportMetadata → Result (List OrderRow) CsvFault → RequestTask
+file_task import_metadata (Ok orders) = Command (import import_metadata orders)
+file_task import_metadata (Err fault) = BadFile fault
+
+-- what the reader of order files reports as a fault: the file's, or want of memory
+abbrev pub fault_task_of : CsvKind → CsvFault → RequestTask
+fault_task_of csv.Memory fault = MemoryError
+fault_task_of _ fault = BadFile fault
+
+abbrev pub fault_task : CsvFault → RequestTask
+fault_task fault = fault_task_of fault.kind fault
+
+-- what a whole body says; the fields of an order file come before its text
+abbrev pub body_says : BodyKind → List ℕ → RequestTask
+body_says content.Command body = command_task (line_of body)
+body_says content.Check body = Check (text_checked body)
+body_says (content.Orders None) body = refusal_of BadRequest false
+body_says (content.Orders (Some import_metadata)) body = file_task import_metadata (orders_of body)
+
+-- what it asks for: a command that is too far ahead of the machine's clock isn't taken
+abbrev pub body_task : Terms → BodyKind → List ℕ → RequestTask
+body_task terms c body = in_time terms (body_says c body)
+
+-- ---- heads
+
+-- what a head and the bytes after it ask for
+abbrev pub finish : Terms → HeadStep → List ℕ → RequestTask
+finish terms (S.Decided decision) rest = Decided decision
+finish terms (S.Body n c) rest = if nat_le n (length rest) then body_task terms c (take n rest) else refusal_of BadRequest false
+
+abbrev pub parsed_step : Profile → Option RequestHead → HeadStep
+parsed_step profile None = fails BadRequest false
+parsed_step profile (Some h) = request_step profile h.method h.target h.minor (map name_and_value h.fields)
+
+-- what a head decides: its lines are counted before they are parsed
+abbrev pub StepOf : Profile → List ℕ → HeadStep → Type 0
+StepOf profile head step =
+    MatchBool (nat_lt 32 (field_lines head)) (step ≡ fails HeadTooLarge false)
+    ((p : Option RequestHead) × Parsed head p × (step ≡ parsed_step profile p))
+
+abbrev pub HeadTask : Terms → List ℕ → List ℕ → RequestTask → Type 0
+HeadTask terms head rest task = (step : HeadStep) × StepOf terms.profile head step × (task ≡ finish terms step rest)
+
+-- ---- inputs
+
+abbrev pub EndTask : Terms → HeadEnd → List ℕ → Option RequestTask → Type 0
+EndTask terms end.Nothing whole task = task ≡ None
+EndTask terms end.Early whole task = task ≡ Some (refusal_of BadRequest false)
+EndTask terms end.TooLong whole task = task ≡ Some (refusal_of HeadTooLarge false)
+EndTask terms (end.Found n) whole task = (j : RequestTask) × (task ≡ Some j) × HeadTask terms (take n whole) (drop n whole) j
+
+-- what an input asks for by these terms: none where it has no byte
+abbrev pub TaskOf : Terms → List ℕ → Option RequestTask → Type 0
+TaskOf terms whole task = EndTask terms (end_of_head whole) whole task
+
+-- ---- want of memory
+
+-- the task comes of what a body says
+abbrev pub is_of_body : RequestTask → Bool
+is_of_body (Decided decision) = false
+is_of_body (Command e) = true
+is_of_body (Check c) = true
+is_of_body (Ahead most) = true
+is_of_body BadForm = true
+is_of_body (BadFile fault) = true
+is_of_body MemoryError = false
+
+-- a body was read for what it says; want of memory comes only where it says something
+abbrev pub Reads : RequestTask → RequestTask → Type 0
+Reads MemoryError task = is_of_body task ≡ true
+Reads (Decided decision) task = Decided decision ≡ task
+Reads (Command e) task = Command e ≡ task
+Reads (Check c) task = Check c ≡ task
+Reads (Ahead most) task = Ahead most ≡ task
+Reads BadForm task = BadForm ≡ task
+Reads (BadFile fault) task = BadFile fault ≡ task
+
+-- the head asks for a body of which so many bytes are too few
+abbrev pub LacksBody : Profile → List ℕ → ℕ → Type 0
+LacksBody profile head have = (size : ℕ) × (c : BodyKind) × StepOf profile head (S.Body size c) × (have < size)
+
+-- a head and the bytes after it ask for this, want of memory aside
+abbrev pub HeadAsksFor : Terms → List ℕ → List ℕ → RequestTask → Type 0
+HeadAsksFor terms head rest task = (j : RequestTask) × HeadTask terms head rest j × Reads task j
+
+-- the same of an option of tasks
+abbrev pub ReadsSome : Option RequestTask → Option RequestTask → Type 0
+ReadsSome None task = task ≡ None
+ReadsSome (Some j) None = ⊥
+ReadsSome (Some j) (Some task) = Reads j task
+
+-- the input asks for this, want of memory aside
+abbrev pub AsksFor : Terms → List ℕ → Option RequestTask → Type 0
+AsksFor terms whole task = (j : Option RequestTask) × TaskOf terms whole j × ReadsSome task j

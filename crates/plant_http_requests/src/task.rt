@@ -1,0 +1,79 @@
+use crate::routes::BodyFormat;
+use crate::status::{Allow, Status};
+use desk_page::Resource;
+use plant_base::Envelope;
+use plant_orders::{CsvFault, ImportMetadata};
+use plant_questions::Question;
+use plant_text::ToCheck;
+
+/// What the head of a request decides alone. `silent` where the answer's body is left out, as to a HEAD.
+#[derive(Clone, Copy, Debug, PartialEq, Eq)]
+pub enum HeadDecision {
+    /// The request is answered by this status alone.
+    Refuse {
+        /// The status of the answer.
+        status: Status,
+        /// The methods that the path allows, which the answer names with 405.
+        allow: Allow,
+        /// Whether the answer's body is left out, since the request is a HEAD.
+        silent: bool,
+    },
+    /// A question to the desk, and the format of its answer.
+    Ask {
+        /// What the desk is asked.
+        question: Question,
+        /// The format of the answer.
+        body_format: BodyFormat,
+        /// Whether the answer's body is left out, since the request is a HEAD.
+        silent: bool,
+    },
+    /// A resource of the page for browsers.
+    Resource {
+        /// Which.
+        resource: Resource,
+        /// Whether the client has it as it is, so that it is answered 304 and its bytes are left out.
+        is_current: bool,
+        /// Whether the answer's body is left out, since the request is a HEAD.
+        silent: bool,
+    },
+}
+
+/// What a request asks for.
+#[derive(Drop)]
+pub enum RequestTask {
+    /// What its head decides, or a refusal of its body.
+    Decided(HeadDecision),
+    /// A command for the desk to execute, be it the body itself or the import of an order file.
+    Command(Envelope),
+    /// What is to be checked: the desk says what would become of it, and executes nothing.
+    Check(ToCheck),
+    /// A command, to be executed or checked, whose moment is later than the machine's time by more than so many seconds.
+    Ahead(u32),
+    /// A body that is to be a command and is none.
+    BadForm,
+    /// An order file with this fault.
+    BadFile(CsvFault),
+    /// Memory was refused while a body was read as a command or an order file. Nothing is said of the body.
+    MemoryError,
+}
+
+/// What a body is to be.
+#[derive(Clone, Copy, Debug, PartialEq, Eq)]
+pub(crate) enum BodyKind {
+    /// One command.
+    Command,
+    /// One command, which is to be checked.
+    Check,
+    /// An order file, to be taken with this moment and operator and under this reference; `None` where the fields of the
+    /// head don't name them as they should.
+    Orders(Option<ImportMetadata>),
+}
+
+/// What a head decides.
+#[derive(Clone, Copy, Debug, PartialEq, Eq)]
+pub(crate) enum HeadStep {
+    /// The head decides alone.
+    Decided(HeadDecision),
+    /// A body of so many bytes, at most 262,144, is to be read.
+    Body { size: u32, content: BodyKind },
+}

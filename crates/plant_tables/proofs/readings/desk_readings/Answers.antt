@@ -1,5 +1,0 @@
-use Rattle.plant_tables.proofs.TextsSelectAll.{all_selected}
-use Rattle.plant_tables.proofs.readings.desk_readings.Goals as goal
-
-pub returns-clause-texts : goal.returns-clause-texts
-returns-clause-texts c = all_selected

@@ -1,0 +1,125 @@
+// The frame: the view that the address names, drawn anew as the desk changes. A place names a view and then, where words or ids follow, a thing in it;
+// a narrow screen has room for the view's list or for the thing.
+
+import { counted, grouped } from "./amounts.js";
+import { lengthOfTime, moment } from "./moments.js";
+import { isId } from "./ids.js";
+import { isAbove, isSamePlace, placeFrom, readAddress, withFilter } from "./addresses.js";
+import { PAGE } from "./cursors.js";
+import { at, h, view } from "./elements.js";
+import { focusAgain, focusRow, keyOf, released } from "./focus.js";
+import { button, card, choice, link, none, notice } from "./parts.js";
+import { Refusal, desk, want, wantedItems } from "./questions.js";
+
+export function more(items, name, what) {
+  if (!items.more) return null;
+  const ask = (count) => button(`${grouped(count)} more`, () => { wantedItems.set(name, want(name) + count); show(); });
+  return h("div", { class: "more" }, `The first ${grouped(items.length)}${what || ""} are shown, and there are more.`, ask(PAGE),
+    ask(10 * PAGE));
+}
+
+// The views by their names, which the start puts in.
+export const VIEWS = {};
+
+// What stands behind # in the address: a view, and then words or ids.
+export function place() {
+  const { name, words } = readAddress(location.hash);
+  const kinds = ["lot", "batch", "recall"];
+  const rest = words.map((it) => (kinds.includes(it) ? it : it.toUpperCase())).filter((it) => kinds.includes(it) || isId(it));
+  return Object.hasOwn(VIEWS, name) ? [name, rest] : ["planner", []];
+}
+
+// What the address says of a filter, the first of its options where it says none of them.
+export function filterOf(name, options) {
+  const it = readAddress(location.hash).filters.get(name);
+  return options.includes(it) ? it : options[0];
+}
+const filtered = (name, options, value) => `#${withFilter(location.hash || `#${place()[0]}`, name, value === options[0] ? null : value)}`;
+export function setFilter(name, options, value) { location.hash = filtered(name, options, value); }
+export const filterChoice = (label, name, options) => choice(label, options, filterOf(name, options), (it) => setFilter(name, options, it));
+
+// Takes a filter away, as what is about to be booked is seen without it.
+export function dropFilter(name) { history.replaceState(history.state, "", filtered(name, [null], null)); }
+
+// Whether the screen has room for a list or a thing alone, as the style has it.
+export const isNarrow = () => innerWidth < 980;
+let wasNarrow = isNarrow();
+addEventListener("resize", () => { if (wasNarrow !== isNarrow()) show(); wasNarrow = isNarrow(); });
+
+// The status: how far the desk is, or why that isn't known.
+export function tellStatus(tone, ...told) {
+  at("stand").className = tone;
+  at("stand").replaceChildren(...told);
+}
+
+const SLOW = 700;
+let showing = 0;
+export async function show() {
+  const mine = ++showing, [name, rest] = place();
+  markRole(name);
+  const slow = setTimeout(() => tellStatus("", "reading\u2026"), SLOW);
+  try {
+    await desk.look();
+    const [layout, ...parts] = await VIEWS[name](rest);
+    await released();
+    if (mine !== showing) return;
+    draw(layout, parts);
+    view.dataset.ready = `${name} ${desk.seq}`;
+  } catch (error) {
+    if (mine === showing) drawFailure(name, error);
+  } finally { clearTimeout(slow); }
+}
+
+// The address that is drawn, and the day on which it was; how far each address was scrolled when it was left.
+let drawn = "", drawnOn = "";
+export const isDayOver = () => drawnOn !== desk.today();
+const tops = new Map();
+history.scrollRestoration = "manual";
+
+function draw(layout, parts) {
+  const now = document.activeElement, key = view.contains(now) && now !== view ? keyOf(now) : null, before = readAddress(drawn).words.at(-1);
+  const isAnother = !isSamePlace(drawn, location.hash), isBack = isAnother && (history.state !== null || isAbove(location.hash, drawn));
+  if (isAnother) tops.set(drawn, scrollY);
+  view.className = layout;
+  view.replaceChildren(...parts.filter(Boolean));
+  drawBack();
+  if (isAnother) scrollTo(0, (isBack && tops.get(location.hash)) || 0);
+  if (isBack && (key || now === at("back"))) focusRow(before);
+  else if (key) focusAgain(key);
+  drawn = location.hash;
+  drawnOn = desk.today();
+  if (history.state === null) history.replaceState({ isDrawn: true }, "");
+  drawStatus();
+}
+// The way back from a thing to the list that it is in.
+const LISTS_OF = { planner: "the orders", shift: "the batches", warehouse: "the materials", quality: "recalls and holds" };
+function drawBack() {
+  const [name, rest] = place(), isOfLot = name === "warehouse" && rest.length > 1;
+  view.classList.toggle("thing", rest.length > 0);
+  at("back").hidden = !rest.length;
+  at("back").href = `#${placeFrom(location.hash, isOfLot ? `warehouse/${rest[0]}` : name)}`;
+  at("back").textContent = `\u2039 Back to ${isOfLot ? `the lots of ${rest[0]}` : LISTS_OF[name]}`;
+}
+function drawFailure(name, error) {
+  if (error instanceof Refusal) return draw("", [card("Not here", null, none(error.message, " ", link(name, "Back")))]);
+  const why = "The desk doesn't answer. It may be stopped, or the way to it is broken.", again = button("Try again", () => { notice(); show(); });
+  if (drawn !== location.hash) draw("", [card("No answer", null, none(why), h("div", { class: "body" }, again))]);
+  else notice("bad", why, again);
+  tellStatus("bad", "no answer");
+}
+function drawStatus() {
+  const isAhead = desk.moment > desk.time() + 60, isOff = Math.abs(desk.offset) > 60;
+  at("clock").hidden = !isOff;
+  at("clock").textContent = isOff ? `This device's clock is ${lengthOfTime(Math.abs(desk.offset))} ${desk.offset < 0 ? "ahead of" : "behind"} that of the desk's `
+    + "machine. Bookings take the machine's time." : "";
+  tellStatus(isAhead ? "warn" : "", desk.seq === 0 ? "no booking yet"
+    : `${counted(desk.seq, "booking", "bookings")}, ${isAhead ? "ahead:" : "last"} ${moment(desk.moment)}`);
+  at("stand").title = isAhead ? "The desk's last booking is later than its machine's clock. Bookings take the desk's moment." : "";
+}
+function markRole(name) {
+  for (const it of document.querySelectorAll("header nav a")) {
+    if (it.hash === "#" + name) it.setAttribute("aria-current", "page");
+    else it.removeAttribute("aria-current");
+  }
+  document.title = "Desk: " + name;
+}

@@ -1,0 +1,24 @@
+// Moments and days, in the time of this machine.
+
+const two = (n) => String(n).padStart(2, "0");
+export const clock = () => Math.floor(Date.now() / 1000);
+
+// A day, and a moment of the desk (seconds since 1970 in UTC), in the time of this machine.
+export const day = (date) => `${date.getFullYear()}-${two(date.getMonth() + 1)}-${two(date.getDate())}`;
+export function moment(seconds, isExact) {
+  const date = new Date(seconds * 1000);
+  return `${day(date)} ${two(date.getHours())}:${two(date.getMinutes())}${isExact ? ":" + two(date.getSeconds()) : ""}`;
+}
+
+// By how many seconds the clock of another machine is ahead of this one's, which was between two moments as that one told its moment.
+export const clockOffset = (told, first, last) => (told < first ? told - first : told > last ? told - last : 0);
+
+// A length of time in words, at least a minute.
+export function lengthOfTime(seconds) {
+  const [unit, size] = [["day", 86400], ["hour", 3600]].find(([, it]) => seconds >= 2 * it) || ["minute", 60];
+  const count = Math.max(1, Math.round(seconds / size));
+  return `${count} ${unit}${count === 1 ? "" : "s"}`;
+}
+
+// A word of the clock, by which the ids of holds and recalls differ.
+export const stampWord = () => clock().toString(36).toUpperCase();

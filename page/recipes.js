@@ -1,0 +1,30 @@
+// Recipes: their lines, as they are written in the form and as the desk tells them.
+
+import { isId } from "./ids.js";
+
+export const LINES_HINT = "One to a line: in MATERIAL AMOUNT, out MATERIAL AMOUNT, par NAME VALUE, phase UNIT OPERATION PHASE.";
+export const LINES_EXAMPLE = "in FLOUR 200\nout DOUGH 300\npar TEMP 20 C\nphase MIX BLEND STIR";
+
+// The lines of a recipe as they are written in the form, or what is wrong with one.
+export function recipeLines(text) {
+  const lines = [];
+  for (const [k, line] of text.split("\n").entries()) {
+    if (!line.trim()) continue;
+    const read = recipeLine(line.trim().split(/\s+/));
+    if (!read) return [null, `Line ${k + 1} can't be read. ${LINES_HINT}`];
+    lines.push(read);
+  }
+  return [lines, null];
+}
+function recipeLine([kind, ...words]) {
+  const ids = words.map((it) => it.toUpperCase()), isAmount = /^[0-9]{1,16}$/.test(words[1]);
+  if ((kind === "in" || kind === "out") && words.length === 2 && isId(ids[0]) && isAmount) return { kind, def: ids[0], qty: Number(words[1]) };
+  if (kind === "par" && words.length >= 1 && isId(ids[0])) return { kind, name: ids[0], value: words.slice(1).join(" ") };
+  if (kind === "phase" && words.length === 3 && ids.every(isId)) return { kind, unit: ids[0], oper: ids[1], phase: ids[2] };
+  return null;
+}
+
+// A line of a recipe, which has a path where it is a phase.
+export const withPath = (line) => (line.kind === "phase" ? { kind: "phase", phase: line.phase, path: `${line.unit} ${line.oper} ${line.phase}` } : line);
+
+export const isMaterial = (line) => line.kind === "in" || line.kind === "out";

@@ -1,0 +1,63 @@
+// The batch record, with its moments as dates or as the desk tells it. It is what is printed.
+
+import { excess, grouped } from "./amounts.js";
+import { moment } from "./moments.js";
+import { isMaterial } from "./recipes.js";
+import { TONES } from "./words.js";
+import { h, operator } from "./elements.js";
+import { button, card, cell, fact, facts, idCell, link, numberCell, overCell, pill, row, table } from "./parts.js";
+import { rowsOfRecord } from "./csv.js";
+import { csvButton } from "./saved.js";
+import { filterChoice, filterOf } from "./frame.js";
+
+const FORMS_OF_RECORD = ["tables", "text"];
+export function recordCard(batch) {
+  const isPlain = filterOf("record", FORMS_OF_RECORD) === "text";
+  const tools = [pill(batch.closed ? "closed" : batch.state, TONES[batch.state]),
+    h("span", { class: "noprint" }, link("shift/" + batch.batch, "To the shift's view")),
+    filterChoice("Form of the record", "record", FORMS_OF_RECORD),
+    csvButton("record", `record-${batch.batch}`, () => rowsOfRecord(batch.record, batch.lines.filter(isMaterial))), button("Print", () => print())];
+  const content = isPlain ? h("div", { class: "body" }, h("pre", {}, batch.record.text)) : recordTables(batch);
+  const it = card(`Batch record ${batch.batch}`, tools, printedLine(), content, signatures(batch.batch));
+  it.classList.add("record");
+  return it;
+}
+
+// When and by whom something is printed is known as it is printed.
+export const printedLine = () => h("p", { class: "printed" });
+addEventListener("beforeprint", () => {
+  for (const it of document.querySelectorAll(".printed")) {
+    it.textContent = `Printed ${moment(desk.time(), true)} by ${operator.value.trim() || "nobody named"}, of the web page of the desk at ${location.host}.`;
+  }
+});
+
+// Lines to sign, on paper alone.
+const SIGNED = ["Made by", "Checked by", "Released by"];
+const signatures = (id) => h("div", { class: "sign" }, h("b", {}, `Signed of batch record ${id}`),
+  SIGNED.map((it) => h("div", {}, h("span", {}, it), h("span", {}, "Date"), h("span", {}, "Signature"))));
+
+function recordTables({ record, ...batch }) {
+  const number = (it) => h("td", { class: "num" }, it), stamp = (it) => [stampCell(it), cell(it.note)];
+  const booking = ({ words: [lot, def, amount, unit] }) => [idCell(lot), cell(def), numberCell(amount, unit)];
+  const what = (it) => [cell(it.kind), cell(it.def || it.name || it.path), it.amount ? numberCell(it.amount, it.unit) : cell(), cell(it.value || "")];
+  const recipe = record.lines.map((it, k) => row("line " + k, [number(k + 1), ...what(it)]));
+  const events = record.events.map((it) => row(it.seq, [number(it.seq), cell(it.what), ...stamp(it)]));
+  const consumed = record.consumed.map((it) => row(it.seq, [number(it.seq), ...booking(it), ...stamp(it)]));
+  const produced = record.produced.map((it) => row(it.seq, [number(it.seq), ...booking(it), numberCell(it.words[5], it.words[3]), ...stamp(it)]));
+  const total = (it) => [cell(it.kind), idCell(it.def), numberCell(it.asked, it.unit),
+    excess(it) ? overCell(it, `${grouped(it.booked)} ${it.unit}, `) : numberCell(it.booked, it.unit)];
+  const totals = batch.lines.filter(isMaterial).map((it) => row(`total ${it.kind} ${it.def}`, total(it)));
+  return [recordFacts(batch, record.released),
+    h("h3", {}, "Control recipe"), table(["#No", "Kind", "What", "#Amount", "Value"], recipe, ""),
+    h("h3", {}, "Events"), table(["#Number", "Event", "When, by", "Note"], events, "None."),
+    h("h3", {}, "Consumed"), table(["#Number", "Lot and part", "Material", "#Amount", "When, by", "Note"], consumed, "Nothing."),
+    h("h3", {}, "Produced"), table(["#Number", "Lot", "Material", "#Amount", "#Scrapped", "When, by", "Note"], produced, "Nothing."),
+    h("h3", {}, "Totals"), table(["In or out", "Material", "#Asked", "#Booked"], totals, "")];
+}
+function recordFacts(batch, released) {
+  return facts(fact("Order", link("planner/" + batch.order, batch.order)), fact("Recipe", `${batch.recipe} ${batch.version}`),
+    fact("Size", grouped(batch.size)), fact("State", batch.state), fact("Attempt", batch.attempt), fact("Phases",
+      `${batch.next - 1} of ${batch.phases}`),
+    fact("Released", moment(released.at, true)), fact("By", released.by), released.note && fact("Note", released.note));
+}
+const stampCell = (it) => h("td", { class: "stamp" }, h("span", {}, h("span", { class: "when" }, moment(it.at, true)), " ", it.by));

@@ -1,0 +1,180 @@
+// The shift's view: the open batches, and one of them.
+
+import { capital, doubtOf, excess, grouped } from "./amounts.js";
+import { idOf } from "./ids.js";
+import { PAGE } from "./cursors.js";
+import { isMaterial } from "./recipes.js";
+import { lotOf } from "./scans.js";
+import { MAY_CLOSE, STATES, TONES } from "./words.js";
+import { h } from "./elements.js";
+import {
+  batchLink, button, buttonsCell, card, cell, fact, firstSteps, idCell, link, listed, lotLink, none, notice, numberCell, overCell, pill, row, table,
+} from "./parts.js";
+import { csvButton } from "./saved.js";
+import { desk, want } from "./questions.js";
+import { filterChoice, filterOf, isNarrow, more } from "./frame.js";
+import { partsOfLot } from "./lots.js";
+import { amountField, lotField, newLotField, noteField, noted, openForm, placeField, say, selectField, textField } from "./forms.js";
+import { act, bookingForm } from "./book.js";
+
+const WHICH = ["open", "closed"];
+
+// The batch that is shown, if any.
+let batchShown = null;
+
+export async function shift([id]) {
+  const areClosedShown = filterOf("batches", WHICH) === "closed";
+  const batches = areClosedShown ? await desk.closedBatches(want("closed")) : await desk.batches(want("batches"));
+  const shown = id || (!isNarrow() && batches[0] && batches[0].batch);
+  batchShown = null;
+  const rows = batches.map((it) => batchRow(it, it.batch === shown));
+  const noneOpen = "No batch is open. The planner releases an order, which makes its batch.";
+  const all = table(["Batch", "State"], rows, areClosedShown ? "No batch is closed." : noneOpen, true);
+  const which = filterChoice("Which batches", "batches", WHICH);
+  const csv = csvButton("batches", `batches-${areClosedShown ? "closed" : "open"}`, async () => (await (areClosedShown ? desk.closedBatches(Infinity)
+    : desk.batches(Infinity))).map((it) => ({ ...it, closed: areClosedShown })));
+  const without = card("No batch", null, none("Once an order is released, its batch is started, booked and closed here."));
+  const one = shown ? await batchCards(shown) : desk.seq === 0 ? firstSteps() : !isNarrow() && without;
+  return ["list", listed(card("Batches", [csv, which], all, more(batches, areClosedShown ? "closed" : "batches"))), h("div", { class: "stack" }, one)];
+}
+function batchRow(batch, isShown) {
+  const next = batch.phase ? `next ${batch.phase}, ${batch.next} of ${batch.phases}` : "all phases done";
+  const small = (text) => h("div", { class: "soft small" }, text);
+  const cells = [idCell(batchLink(batch.batch), small(batch.order)), cell(pill(batch.state, TONES[batch.state]), small(next))];
+  return row(batch.batch, cells, "shift/" + batch.batch, isShown);
+}
+async function batchCards(id) {
+  const batch = await desk.batch(id);
+  batchShown = batch;
+  return [progressCard(batch), materialsCard(batch), bookingsCard(batch)];
+}
+
+function progressCard(batch) {
+  const done = batch.next - 1, procedure = batch.lines.filter((it) => it.kind === "phase");
+  const path = procedure.map((it, k) => [k ? " \u203a " : "", k === done ? h("b", {}, it.path) : it.path, k < done ? " \u2713" : ""]);
+  const known = [fact("Order", link("planner/" + batch.order, batch.order)), fact("Recipe", `${batch.recipe} ${batch.version}`),
+    fact("Size", grouped(batch.size)), fact("Attempt", batch.attempt), fact("Phases done", `${done} of ${batch.phases}`),
+    batch.lines.filter((it) => it.kind === "par").map((it) => fact(it.name, it.value))];
+  const tools = [pill(batch.closed ? "closed" : batch.state, batch.closed ? "" : TONES[batch.state]),
+    link("quality/batch/" + batch.batch, "Record and genealogy")];
+  return card(`Batch ${batch.batch}`, tools, h("div", { class: "body" }, h("div", { class: "facts" }, known), progressBar(done, batch.phases),
+    h("p", { class: "soft small" }, path), h("p", { class: "row" }, moves(batch, procedure[done]))));
+}
+function progressBar(done, phases) {
+  const values = { "aria-valuemin": 0, "aria-valuemax": phases, "aria-valuenow": done };
+  const bar = h("div", { class: "bar", role: "progressbar", "aria-label": "Phases done", ...values }, h("i"));
+  bar.firstChild.style.width = `${(100 * done) / phases}%`;
+  return bar;
+}
+// The buttons of what a batch can do in its state.
+function moves(batch, phase) {
+  if (batch.closed) return "This batch is closed. Nothing more is booked on it.";
+  const { done, ...words } = STATES[batch.state], id = batch.batch;
+  const mayEnd = done && !(batch.state === "running" && phase);
+  const steps = [
+    batch.state === "running" && phase && { label: `Phase ${phase.phase} done`, what: `Phase ${phase.phase} of ${id} done`,
+      fields: { do: "phase_done", batch: id, phase: batch.next }, look: "main" },
+    mayEnd && { label: `Finish: ${done}`, what: `Batch ${id} is ${done}`, fields: { do: "settle", batch: id }, look: "main" },
+    ...Object.keys(words).filter((it) => !GRAVE[it] && it !== "hold").map((word) => ({ label: capital(word), what: `Batch ${id}: ${word}`,
+      fields: { do: "batch", batch: id, word }, look: QUICK.includes(word) ? "main" : null })),
+  ].filter(Boolean);
+  return [
+    MAY_CLOSE.includes(batch.state) && button("Close", () => closeBatch(id), "main"),
+    steps.map((it) => button(it.label, () => act(it.what, it.fields), it.look)),
+    Object.keys(words).filter((it) => GRAVE[it] || it === "hold").map((word) => button(capital(word), () => move(id, word), GRAVE[word] && "bad")),
+    steps.length > 0 && button("With a note\u2026", () => withNote(id, steps))];
+}
+// Books one of the steps that need no form, with a note.
+function withNote(id, steps) {
+  const options = steps.map((it, k) => ({ value: k, label: it.label }));
+  bookingForm(`Batch ${id}, with a note`, [selectField("step", "What", options), textField("note", "Note", { required: true })], "Book it", (v, tell) => {
+    const { what, fields } = steps[v.step];
+    return tell(what, noted(fields, v.note));
+  });
+}
+const QUICK = ["start", "resume", "restart"];
+const GRAVE = {
+  stop: "The batch ends before its time. It can be reset, and begins anew as another attempt.",
+  abort: "The batch is broken off. It can be reset, and begins anew as another attempt.",
+  reset: "The batch begins anew, from its first phase, as another attempt. What was booked on it stays booked.",
+};
+function move(id, word) {
+  const fields = { do: "batch", batch: id, word }, what = `Batch ${id}: ${word}`;
+  bookingForm(`${capital(word)} batch ${id}?`, [GRAVE[word] && say(GRAVE[word]), noteField("Why")].filter(Boolean), capital(word),
+    (v, tell) => tell(what, noted(fields, v.note)), { isGrave: Boolean(GRAVE[word]) });
+}
+function closeBatch(id) {
+  bookingForm(`Close batch ${id}?`, [say("A closed batch takes no more bookings, and its order is finished."), noteField()], "Close it",
+    (v, tell) => tell(`Batch ${id} closed`, noted({ do: "close_batch", batch: id }, v.note)));
+}
+
+const takesBookings = (batch) => batch.state !== "idle" && !batch.closed;
+function materialsCard(batch) {
+  const isOpen = takesBookings(batch);
+  const rows = batch.lines.filter(isMaterial).map((it) => materialRow(batch, it, isOpen));
+  return card("Materials", batch.state === "idle" && h("span", { class: "soft small" }, "booked once the batch is started"),
+    table(["In or out", "Material", "#Asked", "#Booked", "#Left", ""], rows, ""));
+}
+
+function materialRow(batch, line, isOpen) {
+  const isInput = line.kind === "in";
+  const book = isInput ? button("Consume", () => consume(batch, line)) : button("Produce", () => produce(batch, line));
+  return row(`${line.kind} ${line.def}`, [cell(pill(line.kind, isInput ? "" : "good")), idCell(line.def), numberCell(line.asked, line.unit),
+    numberCell(line.booked, line.unit), excess(line) ? overCell(line) : numberCell(line.asked - line.booked, line.unit), buttonsCell(isOpen && book)]);
+}
+function bookingsCard(batch) {
+  const unit = (def) => (batch.lines.find((it) => it.def === def) || {}).unit;
+  const booked = [...batch.consumed.map((it) => ({ ...it, kind: "consumed" })),
+    ...batch.produced.map((it) => ({ ...it, kind: "produced" }))].sort((a, b) => b.seq - a.seq);
+  const rows = booked.map((it) => row(it.seq, [cell(it.kind), idCell(lotLink(it.lot, it.sub)), cell(it.def),
+    numberCell(it.amount, unit(it.def)), numberCell(it.seq)]));
+  return card("Bookings, the last first", null, table(["What", "Lot", "Material", "#Amount", "#Number"], rows, "Nothing is booked yet."));
+}
+
+async function consume(batch, line, ...scan) {
+  const { def, unit } = line;
+  let lots;
+  try { await desk.look(); lots = await desk.lots(def, PAGE); } catch (error) { return notice("bad", error.message); }
+  const parts = lots.flatMap(partsOfLot), isFree = parts.some((it) => !it.barred);
+  if (!isFree && !lots.more && !scan.length) return notice("bad", parts.length ? `All ${def} in stock is on hold or recalled.` : `There is no ${def} in stock.`);
+  const left = Math.max(1, line.asked - line.booked);
+  let offered = left;
+  const change = (inputs, part) => {
+    if (Number(inputs.amount.value) === offered) inputs.amount.value = offered = Math.min(part.stock, left);
+  };
+  const fields = [sayBooked(line), lotField({ def, unit, parts, change }), amountField(unit, left), noteField()];
+  bookingForm(`Consume ${def} in ${batch.batch}`, fields, "Consume", ({ from: { lot, sub }, amount, note }, tell) => tell(
+    `${grouped(amount)} ${unit} of ${lot} consumed`, noted({ do: "consume", batch: batch.batch, lot, sub, amount }, note)), overbooked(batch, line));
+  if (scan.length) await openForm().scanned(...scan);
+}
+// The doubt whether so much is meant: what is booked is read anew, since others book on the batch too. Without an answer what was read first counts.
+const overbooked = (batch, line) => ({ doubt: async ({ amount }) => {
+  const lines = await desk.linesNow(batch.batch).catch(() => batch.lines);
+  return doubtOf(lines.find((it) => it.kind === line.kind && it.def === line.def) || line, amount, line.booked);
+} });
+const sayBooked = (line) => say(`Asked ${grouped(line.asked)} ${line.unit}, booked ${grouped(line.booked)} ${line.unit}.`);
+
+async function produce(batch, line, ...scan) {
+  const before = batch.produced.filter((it) => it.def === line.def).length;
+  const fields = [sayBooked(line), newLotField("lot", "New lot", idOf(line.def, batch.batch, ...(before ? [before + 1] : []))),
+    amountField(line.unit, Math.max(1, line.asked - line.booked)), placeField(), noteField()];
+  bookingForm(`Produce ${line.def} of ${batch.batch}`, fields, "Produce", (v, tell) => tell(
+    `${grouped(v.amount)} ${line.unit} as ${v.lot} produced`,
+    noted({ do: "produce", batch: batch.batch, lot: v.lot, def: line.def, amount: v.amount, place: v.place }, v.note)), overbooked(batch, line));
+  if (scan.length) await openForm().scanned(...scan);
+}
+
+// Opens the form of a code that was scanned while a batch is shown: of a lot that the batch consumes, or of one that is to be produced. Gives false
+// where the code is of neither, and in words why a lot is of no use to the batch.
+export async function scanAtBatch(code, isAgain) {
+  const batch = batchShown && await desk.batch(batchShown.batch);
+  if (!batch || !takesBookings(batch)) return false;
+  const { lot: id } = lotOf(code), lot = id && await desk.foundLot(id), lines = batch.lines.filter(isMaterial);
+  if (lot) {
+    const line = lines.find((it) => it.kind === "in" && it.def === lot.def);
+    return line ? consume(batch, line, code, isAgain) : `Lot ${id} is ${lot.def}, which batch ${batch.batch} doesn't consume.`;
+  }
+  const outputs = lines.filter((it) => it.kind === "out"), line = outputs.find((it) => it.booked < it.asked) || outputs[0];
+  const isOther = !id || await desk.foundBatch(id) || await desk.foundOrder(id) || await desk.recall(id);
+  return line && !isOther ? produce(batch, line, code, isAgain) : false;
+}

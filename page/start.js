@@ -1,0 +1,128 @@
+// The start: finding, the keyboard, and looking again.
+
+import { ID_RULE } from "./ids.js";
+import { lotOf } from "./scans.js";
+import { at, dialog, h, operator, view } from "./elements.js";
+import { keep, kept } from "./store.js";
+import { nameOperator } from "./who.js";
+import { focusAgain, isWriting } from "./focus.js";
+import { listenToScans, onceAlone, tone } from "./scanner.js";
+import { button, go, notice } from "./parts.js";
+import { Refusal, desk } from "./questions.js";
+import { VIEWS, isDayOver, place, show, tellStatus } from "./frame.js";
+import { focusBehind, openDialog, openForm } from "./forms.js";
+import { drawWaiting, sending } from "./book.js";
+import { planner } from "./planner.js";
+import { scanAtBatch, shift } from "./shift.js";
+import { chosen, warehouse } from "./warehouse.js";
+import { quality } from "./quality.js";
+
+// Finds a lot, a batch, an order or a recall by its id, a supplier's code being that of a lot, and shows it where the role looks at such things. Says
+// whether it did.
+async function find(code) {
+  const { lot: id } = lotOf(code);
+  if (!id) return miss(`An id has ${ID_RULE}.`);
+  if (await showFound(id)) return true;
+  return miss(`There is no lot, no batch, no order and no recall ${id}.`);
+}
+function miss(why) { notice("bad", why); return false; }
+async function showFound(id) {
+  const [name] = place();
+  const lot = await desk.foundLot(id);
+  const where = lot ? (name === "warehouse" ? ["warehouse", lot.def, id] : ["quality", "lot", id])
+    : await desk.foundBatch(id) ? (name === "shift" ? ["shift", id] : ["quality", "batch", id])
+      : await desk.foundOrder(id) ? ["planner", id] : await desk.recall(id) ? ["quality", "recall", id] : null;
+  if (where) go(...where);
+  return where !== null;
+}
+at("finder").addEventListener("submit", async (event) => {
+  event.preventDefault();
+  notice();
+  try { await find(at("find").value); } catch (error) { miss(whyNot(error)); }
+});
+const whyNot = (error) => (error instanceof Refusal ? error.message : "The desk doesn't answer.");
+
+// What was scanned goes to the form that is open, else to the batch that is shown, else it is found.
+listenToScans(async (code, isAgain, from) => {
+  if (openForm()) return openForm().scanned(code, isAgain, from);
+  notice();
+  try {
+    const isOfBatch = !dialog.open && place()[0] === "shift" && from !== at("find") && await scanAtBatch(code, isAgain);
+    if (typeof isOfBatch === "string") { miss(isOfBatch); tone(); } else if (isOfBatch === false) await findScanned(code);
+  } catch (error) { miss(whyNot(error)); tone(); }
+});
+async function findScanned(code) {
+  if (dialog.open) dialog.close();
+  if (!(await find(code))) tone();
+}
+
+// What two words of the desk have in common, and what not.
+const WORDS = {
+  "Divide, Split": "Divide brings an amount to another place: it stays the same lot, as another part. Split makes an amount a lot of its own.",
+  "Hold, Recall": "A hold keeps one lot from being consumed, split and merged, a recall also all that came of it.",
+  "Stop, Abort": "Stop ends a batch in order before its time, Abort breaks it off. Both can be reset, and begin anew.",
+  "Finish": "Pausing, stopping and the like take time. Finish says that the batch got there.",
+  "Complete, Close": "A complete batch has done its work, and still takes bookings. A closed one takes none, and its order is finished.",
+};
+function help() {
+  const key = (name, what) => h("p", {}, h("kbd", {}, name), " ", what);
+  const keys = [key("1", "planner"), key("2", "shift"), key("3", "warehouse"), key("4", "quality"),
+    key("/", "find a lot, a batch, an order or a recall"), key("r", "look again"), key("Esc", "close a form"),
+    key("Enter", "to the next field of a form; books in the last one")];
+  const scans = "A scanner works wherever the cursor is, and books nothing: at a batch it opens the form with the scanned lot, in a form it chooses the "
+    + "lot, elsewhere it finds.";
+  const text = "A booking can't be taken back: book the opposite, or scrap. It counts once, also where its answer is lost and it is sent again. "
+    + "Views look again every 20 seconds.";
+  const end = h("div", { class: "end" }, h("button", { class: "main" }, "Close"));
+  const words = Object.entries(WORDS).map(([name, what]) => [h("dt", {}, name), h("dd", {}, what)]);
+  const it = h("form", { method: "dialog" }, h("h2", { id: "title" }, "Keys and help"), keys, h("p", { class: "soft" }, scans), h("p", { class: "soft" }, text),
+    h("h2", {}, "Words"), h("dl", {}, words), end);
+  openDialog(it, it.querySelector("button"));
+}
+at("help").addEventListener("click", help);
+dialog.addEventListener("cancel", (event) => { if (sending) event.preventDefault(); });
+// A browser tells of a closed dialog with its next frame only. Until then a field of it can have the keyboard, a key can have led elsewhere, and
+// another dialog can be open.
+dialog.addEventListener("close", () => {
+  if (dialog.open) return;
+  const isLost = document.activeElement === document.body || dialog.contains(document.activeElement);
+  dialog.replaceChildren();
+  if (isLost) focusAgain(focusBehind);
+  if (view.dataset.ready && !view.dataset.ready.endsWith(` ${desk.seq}`)) show();
+});
+
+addEventListener("keydown", (event) => {
+  if (event.ctrlKey || event.altKey || event.metaKey || dialog.open) return;
+  if (event.key === "Escape" && document.activeElement === at("find")) return view.focus();
+  if (isWriting()) return;
+  const role = Object.keys(VIEWS)[Number(event.key) - 1];
+  const act = role ? () => go(role) : { "/": () => at("find").select(), "?": help, r: show }[event.key];
+  if (!act) return;
+  event.preventDefault();
+  onceAlone(act);
+});
+Object.assign(VIEWS, { planner, shift, warehouse, quality });
+operator.value = kept("operator", "");
+operator.addEventListener("input", () => keep("operator", operator.value));
+operator.addEventListener("change", () => nameOperator(operator.value));
+operator.addEventListener("keydown", (event) => { if (event.key === "Enter") view.focus(); });
+
+// Every 20 seconds, while the page is seen, it looks whether there are new bookings, and draws its view anew where nobody is at work in it.
+const TURN = 20;
+async function lookAgain() {
+  if (document.hidden || sending || dialog.open) return;
+  drawWaiting();
+  try {
+    const isNew = await desk.look(), isAtWork = chosen.size > 0 || (isWriting() && view.contains(document.activeElement));
+    if (isNew && isAtWork) drawNew();
+    else if (isNew || (isDayOver() && !isAtWork) || at("stand").textContent === "no answer") show();
+  } catch { tellStatus("bad", "no answer"); }
+}
+const drawNew = () => tellStatus("warn", "there are new bookings: ", button("Look again", () => show()));
+setInterval(lookAgain, TURN * 1000);
+addEventListener("visibilitychange", lookAgain);
+addEventListener("storage", drawWaiting);
+addEventListener("desk-named", drawWaiting);
+addEventListener("hashchange", () => { if (dialog.open && !sending) dialog.close(); show(); });
+drawWaiting();
+show();

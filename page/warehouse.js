@@ -1,0 +1,164 @@
+// The warehouse's view: materials by their classes, and the lots of one.
+
+import { counted, grouped } from "./amounts.js";
+import { h } from "./elements.js";
+import {
+  button, buttonsCell, card, cell, fact, facts, firstSteps, go, idCell, link, listed, lotLink, none, numberCell, pill, row, table,
+} from "./parts.js";
+import { partsOfLots } from "./csv.js";
+import { csvButton } from "./saved.js";
+import { desk, want } from "./questions.js";
+import { isNarrow, more, show } from "./frame.js";
+import { amountField, idField, lotField, newLotField, noteField, noted, openForm, placeField, say, selectField, textField } from "./forms.js";
+import { keyOfPart } from "./lots.js";
+import { bookingForm } from "./book.js";
+
+// The parts of lots that are chosen for a merge, and their material.
+export const chosen = new Map();
+let chosenOf = null;
+
+export async function warehouse([id, lotId]) {
+  const classes = await desk.classes(), all = classes.flatMap((it) => it.definitions);
+  const def = id || (!isNarrow() && all[0] && all[0].def);
+  if (def !== chosenOf) chosen.clear();
+  chosenOf = def;
+  const side = listed(materialsSide(classes, def));
+  const without = card("Lots", null, none("There is no material yet."));
+  if (!def) return ["list", side, desk.seq === 0 ? firstSteps() : !all.length && without];
+  const known = all.find((it) => it.def === def) || (await desk.definition(def));
+  if (!known) return ["list", side, card("Lots", null, none("There is no such material."))];
+  const lots = await desk.lots(def, want("lots " + def)), one = lotId && (await desk.foundLot(lotId));
+  if (one) one.recalled = (await desk.lotNode(lotId)).recalled;
+  const lotsOf = lotsCard(known, lots);
+  return ["list", side, h("div", { class: "stack" }, lotId && oneLotCard(lotId, one, known), lotId ? listed(lotsOf) : lotsOf)];
+}
+
+function materialsSide(classes, def) {
+  const tools = [csvButton("materials", "materials", () => desk.materials()), button("New class", newClass),
+    classes.length > 0 && button("New material", () => newMaterial(classes))];
+  const without = none("There is no class yet.");
+  return card("Materials", tools, classes.length ? classes.map((it) => classTable(it, def)) : without, more(classes, "classes"));
+}
+function classTable({ id, name, definitions }, def) {
+  const cells = (it) => [idCell(link("warehouse/" + it.def, it.def)), cell(it.name), h("td", { class: "soft" }, it.unit)];
+  const rows = definitions.map((it) => row(it.def, cells(it), "warehouse/" + it.def, it.def === def));
+  return [h("h3", {}, name || id, name && [" ", h("span", { class: "soft small" }, id)]),
+    table(["Material", "Name", "Unit"], rows, "No material is in this class.", true), more(definitions, "definitions " + id)];
+}
+
+function newClass() {
+  bookingForm("New class", [say("A class is a group of materials, such as RAW or GOODS."), idField("group", "New class"),
+    textField("name", "Name")], "Make it",
+  (v, tell) => tell(`Class ${v.group} made`, { do: "add_class", class: v.group, name: v.name }));
+}
+function newMaterial(classes) {
+  bookingForm("New material", [idField("def", "New material"), textField("name", "Name"),
+    selectField("group", "Class", classes.map((it) => ({ value: it.id, label: it.name ? `${it.id} (${it.name})` : it.id }))),
+    textField("unit", "Unit in which it is counted, such as kg or pcs",
+      { pattern: "[A-Za-z0-9]{1,8}", title: "1 to 8 letters and digits", required: true })], "Make it",
+  (v, tell) => tell(`Material ${v.def} made`, { do: "add_definition", def: v.def, class: v.group, name: v.name, unit: v.unit }));
+}
+
+function lotsCard(known, lots) {
+  const isFree = (it) => !it.held && !it.recalled, shown = lots.more ? " of those shown" : "";
+  const total = (some) => [grouped(some.reduce((n, it) => n + it.stock, 0)), " ", known.unit];
+  const bar = h("div", { class: "chosen", hidden: true }, h("span", {}), button("Merge\u2026", () => merge(known), "main"),
+    button("Choose none", () => { chosen.clear(); show(); }));
+  const told = () => drawChosen(bar);
+  const rows = lots.flatMap((lot) => partRows(lot, known, told));
+  told();
+  const title = h("span", {}, known.name || known.def, known.name && [" ", h("span", { class: "soft small" }, known.def)]);
+  const without = `There is no ${known.def} in stock. Receive a lot, or have one produced.`;
+  const csv = csvButton("lots", `lots-${known.def}`, async () => partsOfLots(await desk.lots(known.def, Infinity))
+    .map((it) => ({ ...it, def: known.def, unit: known.unit })));
+  return card(title, [csv, button("Receive a lot", () => receive(known), "main")],
+    facts(fact("Free" + shown, total(lots.filter(isFree))), fact("On hold or recalled", total(lots.filter((it) => !isFree(it)))),
+      fact("Lots with stock", grouped(lots.length), lots.more ? " and more" : "")),
+    table(PART_HEADS, rows, lots.more ? "None of the lots that were looked at has stock." : without), more(lots, "lots " + known.def), bar);
+}
+function drawChosen(bar) {
+  bar.hidden = !chosen.size;
+  const isTooMany = chosen.size > MOST_PARTS;
+  bar.firstChild.textContent = isTooMany ? `A merge takes ${MOST_PARTS} parts at most.` : `${counted(chosen.size, "part is", "parts are")} chosen for a merge.`;
+  bar.children[1].disabled = isTooMany;
+}
+const PART_HEADS = ["Choose", "Lot", "#Part", "Place", "#Stock", ""];
+// A row for each part of a lot, with what can be done with it; `told` is called once a part is chosen for a merge.
+function partRows(lot, known, told) {
+  const barred = lot.held ? "on hold" : lot.recalled ? "recalled" : "", isBarred = barred !== "";
+  const marks = [lot.held && [" ", pill("on hold", "warn")], lot.recalled && [" ", pill("recalled", "bad")]];
+  return lot.sublots.filter((it) => it.stock > 0).map((it) => {
+    const key = `${lot.lot}/${it.no}`, part = { lot: lot.lot, sub: it.no, stock: it.stock, place: it.place, barred };
+    const buttons = [button("Divide", () => divide(part, known)), button("Split", () => split(part, known), null, { disabled: isBarred }),
+      button("Scrap", () => scrap(part, known), "bad")];
+    return row(key, [cell(chooseBox(key, part, isBarred, told)), idCell(lotLink(lot.lot), marks), h("td", { class: "num" }, it.no),
+      cell(it.place || h("span", { class: "soft" }, "no place")), numberCell(it.stock, known.unit), buttonsCell(buttons)]);
+  });
+}
+function chooseBox(key, part, isBarred, told) {
+  if (chosen.has(key)) chosen.set(key, part);
+  const choose = (event) => {
+    if (event.target.checked) chosen.set(key, part);
+    else chosen.delete(key);
+    told();
+  };
+  const name = `Choose ${key} for a merge`;
+  return h("input", { type: "checkbox", "aria-label": name, checked: chosen.has(key), disabled: isBarred, onchange: choose });
+}
+// One lot, which somebody looked for.
+function oneLotCard(id, lot, known) {
+  const away = button("Close this", () => go("warehouse", known.def));
+  if (!lot) return card(`Lot ${id}`, away, none("There is no such lot."));
+  return card(`Lot ${id}`, away, table(PART_HEADS, partRows(lot, known, show), "Nothing is left of it."));
+}
+
+function receive({ def, unit }) {
+  bookingForm(`Receive ${def}`, [newLotField("lot", "Scan or type the new lot"), amountField(unit), placeField(), noteField()], "Receive",
+    (v, tell) => tell(`${grouped(v.amount)} ${unit} as ${v.lot} received`,
+      noted({ do: "receive", lot: v.lot, def, amount: v.amount, place: v.place }, v.note)));
+}
+
+// The field of the lot that goods are taken of: at first the part whose button was pressed.
+const fromField = ({ def, unit }, part, mayBeBarred) => lotField({ def, unit, part, parts: [part], mayBeBarred });
+function scrap(part, known) {
+  bookingForm(`Scrap ${known.def}`, [fromField(known, part, true), amountField(known.unit), noteField("Why")], "Scrap",
+    ({ from: { lot, sub }, amount, note }, tell) => tell(`${grouped(amount)} ${known.unit} of ${lot} scrapped`,
+      noted({ do: "scrap", lot, sub, amount }, note)), { isGrave: true });
+}
+function divide(part, known) {
+  bookingForm(`Divide ${known.def}`, [fromField(known, part, true), say("The amount becomes another part of the same lot, at a place of its own."),
+    amountField(known.unit), placeField("New place"), noteField()], "Divide",
+    ({ from: { lot, sub }, amount, place, note }, tell) => tell(`${grouped(amount)} ${known.unit} of ${lot} brought to ${place || "no place"}`,
+      noted({ do: "divide", lot, sub, amount, place }, note)));
+}
+function split(part, known) {
+  bookingForm(`Split ${known.def}`, [fromField(known, part), say("The amount becomes a lot of its own."), amountField(known.unit),
+    newLotField("new", "New lot"), placeField(), noteField()], "Split",
+    ({ from: { lot, sub }, amount, place, note, ...v }, tell) => tell(`${grouped(amount)} ${known.unit} of ${lot} split off as ${v.new}`,
+      noted({ do: "split", lot, sub, amount, new: v.new, place }, note)));
+}
+
+// Merges the parts that are chosen. A lot that is scanned is one more of them; `values` are those that were typed before.
+const MOST_PARTS = 16;
+function merge(known, values = {}) {
+  const parts = [...chosen.values()], { def, unit } = known;
+  const label = (it) => `Of ${keyOfPart(it)} at ${it.place || "no place"}, ${unit}`;
+  const amounts = parts.map((it) => ({ ...amountField(unit, it.stock), name: keyOfPart(it), label: label(it) }));
+  const take = async (v, tell) => {
+    const taken = parts.map((it) => ({ lot: it.lot, sub: it.sub, amount: v[keyOfPart(it)] }));
+    const wrong = await tell(`Merged as ${v.new}`, noted({ do: "merge", new: v.new, place: v.place, parts: taken }, v.note));
+    if (!wrong) { chosen.clear(); show(); }
+    return wrong;
+  };
+  const change = (inputs, part) => {
+    const key = keyOfPart(part);
+    if (inputs[key]) return inputs[key];
+    if (chosen.size >= MOST_PARTS) return openForm().refuse(`A merge takes ${MOST_PARTS} parts at most.`);
+    chosen.set(key, part);
+    show();
+    return merge(known, Object.fromEntries(Object.entries(inputs).map(([name, it]) => [name, it.value])));
+  };
+  const fields = [lotField({ def, unit, change, isOptional: true }), ...amounts, newLotField("new", "New lot"), placeField(), noteField()];
+  for (const it of fields) if (it.kind !== "lot" && values[it.name] !== undefined) it.value = values[it.name];
+  bookingForm(`Merge ${counted(parts.length, "part", "parts")}`, fields, "Merge", take);
+}

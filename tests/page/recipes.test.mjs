@@ -1,0 +1,25 @@
+import assert from "node:assert/strict";
+import test from "node:test";
+
+import { LINES_EXAMPLE, LINES_HINT, isMaterial, recipeLines, withPath } from "../../page/recipes.js";
+
+test("the example of the form is read", () => {
+  assert.deepEqual(recipeLines(LINES_EXAMPLE), [[
+    { kind: "in", def: "FLOUR", qty: 200 }, { kind: "out", def: "DOUGH", qty: 300 }, { kind: "par", name: "TEMP", value: "20 C" },
+    { kind: "phase", unit: "MIX", oper: "BLEND", phase: "STIR" },
+  ], null]);
+});
+
+test("small letters, empty lines and further spaces are taken", () => {
+  assert.deepEqual(recipeLines("\n  in  flour   5 \n\npar note"), [[{ kind: "in", def: "FLOUR", qty: 5 }, { kind: "par", name: "NOTE", value: "" }], null]);
+});
+
+test("a line that can't be read is named by its number", () => {
+  const wrong = ["in FLOUR", "in FLOUR 1 2", "in FLOUR x", "in 1FLOUR 2", "in FLOUR 12345678901234567", "add FLOUR 2", "par", "phase MIX BLEND", "phase A B C D"];
+  for (const line of wrong) assert.deepEqual(recipeLines(`in FLOUR 1\n${line}`), [null, `Line 2 can't be read. ${LINES_HINT}`], line);
+});
+
+test("a phase has a path, and inputs and outputs are of materials", () => {
+  assert.equal(withPath({ kind: "phase", unit: "MIX", oper: "BLEND", phase: "STIR" }).path, "MIX BLEND STIR");
+  assert.deepEqual([{ kind: "in" }, { kind: "out" }, { kind: "par" }, { kind: "phase" }].map(isMaterial), [true, true, false, false]);
+});

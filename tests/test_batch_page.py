@@ -1,0 +1,141 @@
+"""A batch at the page, in a browser: amounts above what was asked, which are booked on purpose alone, and the batch record in print."""
+from __future__ import annotations
+
+import shutil
+import subprocess
+import time
+
+from tests.support.browser import Tab
+from tests.support.pages import MORNINGS, BrowserTestCase
+
+FORM = "document.querySelector('dialog[open]')"
+
+# A note of 60 letters, and the longest id.
+NOTE = "scale 4 recalibrated before weighing, witnessed by erna h."
+LONGEST = "BREAD-OF-THE-NIGHT-00"
+
+
+class Overbooking(BrowserTestCase):
+    """Amounts above what was asked."""
+
+    IS_LONG = True
+
+    def press(self, tab: Tab) -> None:
+        """Presses the button of the form that is open."""
+        tab.run(f"{FORM}.querySelector('.end button:last-child').focus()")
+        tab.key("Enter")
+
+    def filled(self, tab: Tab, amount: int) -> None:
+        """Has a lot chosen and an amount in the form that is open."""
+        tab.scan("D-1")
+        tab.has("D-1/0 at", f"{FORM}.querySelector('.said')")
+        tab.fill("amount", amount)
+
+    def consider(self, tab: Tab) -> None:
+        """Waits until a second press counts."""
+        tab.until("performance.now() > openForm().notBefore", "the time in which a second press doesn't count")
+
+    def stock(self) -> None:
+        """Has more dough in stock than the mornings leave, and batch B-4 started, of which 60 kg are asked."""
+        self.served.told(at=self.now(), by="ben", do="receive", lot="D-9", **{"def": "DOUGH"}, amount=5000, place="A9")
+        self.served.told(at=self.now(), by="ben", do="release", order="O-4", batch="B-4")
+        self.served.told(at=self.now(), by="ben", do="batch", batch="B-4", word="start")
+
+    def now(self) -> int:
+        moment: int = self.served.ask("/moment")["at"]
+        return moment
+
+    def booked(self) -> int:
+        """Returns how many kg of dough batch B-4 has consumed."""
+        lines = self.served.ask("/batches/B-4/lines")["lines"]
+        amount: int = next(it["booked"] for it in lines if it["kind"] == "in")
+        return amount
+
+    def test_two_tabs_that_book_the_same_input_are_told(self) -> None:
+        self.serve()
+        self.stock()
+        tabs = [self.open("shift/B-4"), self.open("shift/B-4")]
+        for tab in tabs:
+            tab.click("Consume")
+            tab.scan("D-9")
+            tab.has("D-9/0 at", f"{FORM}.querySelector('.said')")
+            self.check("the amount that is left", tab.value("amount"), "60")
+        self.press(tabs[0])
+        tabs[0].has("60 kg of D-9 consumed.")
+        self.press(tabs[1])
+        tabs[1].has("Since the form was opened, 60 kg was booked. Asked 60 kg, booked 60 kg: this makes 120 kg, 2 times what was asked.", FORM)
+        self.check("what is booked", self.booked(), 60)
+        red = tabs[1].run(f"getComputedStyle({FORM}.querySelector('.end button:last-child')).backgroundColor")
+        self.check("the colour of the button", red, "rgb(163, 32, 43)")
+        self.check("the button", tabs[1].run(f"{FORM}.querySelector('.end button:last-child').innerText"), "Consume all the same")
+        self.press(tabs[1])
+        self.check("what a press at once books", self.booked(), 60)
+        self.consider(tabs[1])
+        self.press(tabs[1])
+        tabs[1].has("60 kg of D-9 consumed.")
+        self.check("what is booked on purpose", self.booked(), 120)
+        tabs[1].has("over 60 kg", "document.querySelector('[data-row=\"in DOUGH\"] .over')")
+        for tab in tabs:
+            self.check("what the console tells of errors", tab.errors(), [])
+
+    def test_ten_times_too_much_is_asked_for_again(self) -> None:
+        self.serve()
+        self.stock()
+        tab = self.open("shift/B-4")
+        tab.click("Consume")
+        tab.scan("D-9")
+        tab.has("D-9/0 at", f"{FORM}.querySelector('.said')")
+        tab.fill("amount", 600)
+        self.press(tab)
+        tab.has("Asked 60 kg, booked 0 kg: this makes 600 kg, 10 times what was asked.", FORM)
+        tab.fill("amount", 60)
+        tab.lacks("10 times", FORM)
+        self.check("the button", tab.run(f"{FORM}.querySelector('.end button:last-child').innerText"), "Consume")
+        self.press(tab)
+        tab.has("60 kg of D-9 consumed.")
+        tab.until("!document.getElementById('dialog').open")
+        tab.click("Produce")
+        tab.fill("amount", 1000)
+        self.press(tab)
+        tab.has("Asked 100 pcs, booked 0 pcs: this makes 1 000 pcs, 10 times what was asked.", FORM)
+        self.consider(tab)
+        self.press(tab)
+        tab.has("1 000 pcs as BREAD-B-4 produced.")
+        tab.has("over 900 pcs", "document.querySelector('[data-row=\"out BREAD\"] .over')")
+        tab.run("location.hash = 'quality/batch/B-4'")
+        tab.has("1 000 pcs, over 900 pcs", "document.querySelector('.record .over')")
+
+
+class PrintedRecord(BrowserTestCase):
+    """The batch record in print."""
+
+    def booked(self) -> None:
+        """Books 60 rows on batch B-3, with long ids and notes."""
+        moment = self.served.ask("/moment")["at"]
+        for k in range(30):
+            self.served.told(at=moment, by="benedict", do="consume", batch="B-3", lot="D-1", sub=0, amount=1, note=NOTE)
+            self.served.told(
+                at=moment, by="benedict", do="produce", batch="B-3", lot=f"{LONGEST}-{k:02}", **{"def": "BREAD"}, amount=10, place="SHELF", note=NOTE,
+            )
+
+    def test_record_of_sixty_rows_is_whole_on_paper(self) -> None:
+        if not shutil.which("pdftotext"):
+            self.leave_out("the text of a printed record", "there is no pdftotext")
+            self.skipTest("there is no pdftotext")
+        self.serve()
+        self.booked()
+        tab = self.open("quality/batch/B-3")
+        tab.printed(self.folder / "record.pdf")
+        text = subprocess.run(["pdftotext", "-raw", "record.pdf", "-"], cwd=self.folder, capture_output=True, text=True).stdout.replace("\u202f", " ")
+        pages = text.rstrip("\f").split("\f")
+        for number, page in enumerate(pages, 1):
+            self.check_true(f"the number of page {number}", f"page {number} of {len(pages)}" in page)
+        words = " ".join(text.split())
+        self.check("notes that are whole", words.count(NOTE), 60)
+        for k in range(30):
+            self.check_true(f"lot {k}", f"{LONGEST}-{k:02}" in words.replace("- ", "-"))
+        self.check("moments with their operators", words.count("benedict"), 60)
+        printed = time.strftime("Printed %Y-%m-%d ")
+        for wanted in ("phase 1: OVEN BAKE BAKE", "over 296 pcs", "Made by", "Checked by", "Released by", "Signature", printed, " by anna"):
+            self.check_true(wanted, wanted in words)
+        self.check("the number", self.served.ask("/desk")["seq"], MORNINGS + 60)

@@ -1,0 +1,96 @@
+"""Lists that the page saves as files, in a browser: all of their items, as a spreadsheet reads them."""
+from __future__ import annotations
+
+import csv
+import pathlib
+import time
+
+from tests.support.browser import Tab
+from tests.support.pages import BrowserTestCase
+
+# Has the browser say that it is of a country whose decimals have a comma.
+GERMAN = """Object.defineProperty(navigator, "language", {value: "de-DE"});"""
+
+# How many seconds a file may take.
+LIMIT = 60
+
+
+class SavedLists(BrowserTestCase):
+    """Lists saved as files."""
+
+    IS_LONG = True
+
+    def open_saving(self, place: str, script: str = "") -> Tab:
+        """Opens a view whose files come into the folder of the test."""
+        tab = self.open(place, script)
+        (self.folder / "saved").mkdir(exist_ok=True)
+        self.browser.call(
+            "Browser.setDownloadBehavior", behavior="allow", browserContextId=tab.context, downloadPath=str(self.folder / "saved"),
+        )
+        return tab
+
+    def saved(self, tab: Tab, name: str) -> bytes:
+        """Presses the button that saves a list, and returns the file, which is then removed."""
+        tab.until(f"document.querySelector('[aria-label=\"CSV of {name}\"]') !== null", f"the button of {name}")
+        tab.run(f"document.querySelector('[aria-label=\"CSV of {name}\"]').click()")
+        file: pathlib.Path = self.folder / "saved" / f"{name}-{tab.run('desk.today()')}.csv"
+        tab.has(f"saved as {file.name}.")
+        end = time.monotonic() + LIMIT
+        while not file.is_file():
+            if time.monotonic() > end:
+                raise AssertionError(f"there is no file {file.name}: {[it.name for it in file.parent.iterdir()]}")
+            time.sleep(0.02)
+        text = file.read_bytes()
+        file.unlink()
+        return text
+
+    def rows(self, tab: Tab, name: str, separator: str = ",") -> list[list[str]]:
+        """Returns the rows of such a file, as a program reads them."""
+        return list(csv.reader(self.saved(tab, name).decode("ascii").split("\r\n")[:-1], delimiter=separator))
+
+    def now(self) -> int:
+        moment: int = self.served.ask("/moment")["at"]
+        return moment
+
+    def test_each_list_is_saved(self) -> None:
+        self.serve()
+        self.served.told(at=self.now(), by="dora", do="recall", recall="RC-1", lot="F-1", note="moths, seen by \"erna\"")
+        tab = self.open_saving("planner")
+        for place, name, head, row in (
+            ("planner", "orders-open", "Order,State,Due,Priority,Recipe,Version,Size", ("O-4", 6, "100")),
+            ("planner", "recipes", "Recipe,Version,State,Title,Product,Base size,Least size,Greatest size", ("BREAD", 2, "approved")),
+            ("shift", "batches-open", "Batch,Order,State,Attempt,Phases done,Phases,Next phase,Closed", ("B-2", 6, "RISE")),
+            ("shift?batches=closed", "batches-closed", "Batch,Order,State,Attempt,Phases done,Phases,Next phase,Closed", ("B-1", 7, "yes")),
+            ("warehouse/FLOUR", "materials", "Class,Material,Name,Unit", ("GOODS", 3, "pcs")),
+            ("warehouse/FLOUR", "lots-FLOUR", "Lot,Material,Part,Place,Stock,Unit,On hold,Recalled", ("F-2", 6, "yes")),
+            ("quality", "holds", "Lot,Hold,When,By,Note", ("F-2", 4, "wet sacks")),
+            ("quality", "recalls-open", "Recall,Lot,When,By,Note,Lifted,Lifted by,Lifted for", ("RC-1", 4, "moths, seen by \"erna\"")),
+            ("quality/recall/RC-1", "goods-of-RC-1", "Place,Lot,Part,Material,Amount,Unit,On hold,Recalled,Seen", ("A1", 7, "yes")),
+            ("quality/lot/F-1", "ledger-F-1", "Number,Line,When,By,What,Amount,Unit,Lot,Part,To lot,To part,Batch,Note", ("12", 4, "received")),
+            ("quality/batch/B-1", "record-B-1", "Table,Number,What,Lot,Material,Amount,Unit,Asked,Scrapped,Value,When,By,Note", ("Produced", 5, "296")),
+        ):
+            tab.run(f"location.hash = '{place}'")
+            rows = self.rows(tab, name)
+            self.check(f"the head of {name}", ",".join(rows[0]), head)
+            self.check(f"a row of {name}", [it[row[1]] for it in rows if it[0] == row[0]][:1], [row[2]])
+            self.check(f"the width of {name}", {len(it) for it in rows}, {len(rows[0])})
+        self.check("what the console tells of errors", tab.errors(), [])
+
+    def test_all_items_are_saved_as_a_spreadsheet_takes_them(self) -> None:
+        self.serve()
+        order = {"recipe": "BREAD", "version": 1, "size": 100, "due": "2030-03-01", "priority": 5}
+        for start in (0, 100, 200):
+            self.served.told(at=self.now(), by="ben", do="import_orders", orders=[{"order": f"M-{k:03}", **order} for k in range(start, start + 100)])
+        for lot, place in (("X-1", "=HYPERLINK(1)"), ("X-2", "A;B"), ("X-3", "-1")):
+            self.served.told(at=self.now(), by="ben", do="receive", lot=lot, **{"def": "FLOUR"}, amount=1, place=place)
+        tab = self.open_saving("planner", GERMAN)
+        rows = self.rows(tab, "orders-open", ";")
+        self.check("how many orders", len(rows), 1 + 2 + 300)
+        self.check("the orders shown", tab.run("document.querySelectorAll('[data-row^=\"M-\"], [data-row^=\"O-\"]').length"), 100)
+        tab.run("location.hash = 'warehouse/FLOUR'")
+        text = self.saved(tab, "lots-FLOUR").decode("ascii")
+        for line in ("X-1;FLOUR;0;'=HYPERLINK(1);1;kg;no;no\r\n", "X-2;FLOUR;0;\"A;B\";1;kg;no;no\r\n", "X-3;FLOUR;0;'-1;1;kg;no;no\r\n"):
+            self.check_true(line, line in text)
+        self.served.kill()
+        tab.run("document.querySelector('[aria-label=\"CSV of lots-FLOUR\"]').click()")
+        tab.has("The desk doesn't answer. Nothing was saved.")

@@ -210,6 +210,7 @@ class Views(BrowserTestCase):
             for place, press in (("planner", "One order by hand"), ("shift/B-3", "Consume"), ("warehouse/FLOUR", "Receive a lot"), ("quality/lot/F-1", "Hold")):
                 self.go(tab, place)
                 tab.click(press)
+                tab.until("dialog.open")
                 self.check(f"contrasts in {place}, {scheme}", tab.run(CONTRASTS), [True, True, True])
                 tab.key("Escape")
                 tab.until("!dialog.open")

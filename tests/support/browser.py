@@ -249,8 +249,12 @@ class Tab:
     def click(
         self, text: str, tag: str = "button", within: str = "document", row: str | None = None, times: int = 1,
     ) -> None:
-        """Clicks on the element of this text."""
-        x, y = self.place(text, tag, within, row)
+        """Clicks on the element of this text, once it has stayed at its place for a while: a view that is drawn anew moves its buttons."""
+        was, now = None, self.place(text, tag, within, row)
+        while now != was:
+            time.sleep(0.1)
+            was, now = now, self.place(text, tag, within, row)
+        x, y = now
         self.click_at(x, y, times)
 
     def click_at(self, x: float, y: float, times: int = 1, first: int = 1) -> None:

@@ -1,6 +1,6 @@
 // Lists as comma-separated values (RFC 4180), for spreadsheets.
 
-import { moment } from "./moments.js";
+import { dayOf, moment } from "./moments.js";
 import { capital } from "./amounts.js";
 
 // What separates values: a semicolon where this machine's numbers have a comma before their decimals, else a comma.
@@ -29,9 +29,10 @@ const MATERIAL = ["Material", (it) => it.def], WHEN = ["When", (it) => moment(it
 export const COLUMNS = {
   orders: ["order", "state", "due", "priority", "recipe", "version", "size"],
   batches: ["batch", "order", "state", "attempt", ["Phases done", (it) => it.next - 1], "phases", ["Next phase", (it) => it.phase], "closed"],
-  materials: ["class", MATERIAL, "name", "unit"],
+  materials: ["class", MATERIAL, "name", "unit", "lots", ["Free", (it) => it.usable], ["On hold", (it) => it.held], "recalled"],
   stands: ["place", "lot", ["Part", (it) => it.no], MATERIAL, ["Amount", (it) => it.stock], "unit", ["On hold", (it) => it.held], "recalled", "seen"],
-  lots: ["lot", MATERIAL, ["Part", (it) => it.no], "place", "stock", "unit", ["On hold", (it) => it.held], "recalled"],
+  lots: ["lot", MATERIAL, ["Part", (it) => it.no], "place", "stock", "unit", ["On hold", (it) => it.held], "recalled", ["Came", (it) => dayOf(it.at)], "by", "note",
+    ["Number", (it) => it.seq]],
   ledger: [["Number", (it) => it.seq], "line", WHEN, "by", ["What", (it) => it.kind], AMOUNT, "unit", "lot", ["Part", (it) => it.sub], ["To lot", (it) => it.to],
     ["To part", (it) => it.to_sub], "batch", "note"],
   holds: ["lot", "hold", WHEN, "by", "note"],

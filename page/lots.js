@@ -1,22 +1,37 @@
 // A field for a lot: it is scanned, typed, or chosen of a list. That only chooses it; to book is another press.
 
-import { grouped } from "./amounts.js";
+import { PAGE } from "./cursors.js";
+import { keyOfPart, partInWords } from "./words.js";
 import { lotOf } from "./scans.js";
 import { h } from "./elements.js";
 import { tone } from "./scanner.js";
 import { Refusal, desk } from "./questions.js";
 
-// The parts of a lot that have stock, each with what bars it from being consumed, split and merged.
+// The parts of a lot that have stock, each with when the lot came, and with what bars it from being consumed, split and merged.
 export const partsOfLot = (lot) => lot.sublots.filter((it) => it.stock > 0).map((it) => ({ lot: lot.lot, sub: it.no, stock: it.stock, place: it.place,
-  barred: lot.held ? "on hold" : lot.recalled ? "recalled" : "" }));
-export const keyOfPart = (it) => `${it.lot}/${it.sub}`;
-const words = (it, unit) => `${keyOfPart(it)} at ${it.place || "no place"}: ${grouped(it.stock)} ${unit}${it.barred ? `, ${it.barred}` : ""}`;
+  at: lot.at, barred: lot.held ? "on hold" : lot.recalled ? "recalled" : "" }));
 
-// A lot as the desk has it now, with whether a recall reaches it, or null.
+// The parts of a material that are in stock, the oldest first and what is barred last: those of a page of lots, and where nothing of these is free, of
+// further ones until something is. `more` says whether there are others.
+export async function partsToOffer(def) {
+  let lots, parts, wanted = 0;
+  do {
+    lots = await desk.stock(def, wanted += PAGE);
+    parts = lots.flatMap(partsOfLot);
+  } while (lots.more && parts.every((it) => it.barred));
+  return Object.assign(parts.sort((a, b) => Boolean(a.barred) - Boolean(b.barred)), { more: lots.more });
+}
+
+// A lot with whether a recall reaches it, and with when it came, or null; and the same as the desk has it now.
+export async function wholeLot(id) {
+  const lot = id && await desk.foundLot(id);
+  if (!lot) return null;
+  const { recalled } = await desk.lotNode(id), [first] = await desk.movements(id, 1);
+  return { ...lot, recalled, at: first ? first.at : null };
+}
 export async function lotNow(id) {
   await desk.look();
-  const lot = id && await desk.foundLot(id);
-  return lot && { ...lot, recalled: (await desk.lotNode(id)).recalled };
+  return wholeLot(id);
 }
 
 // The part that a code names, followed by the others of its lot; or in words why it can't be taken.
@@ -45,7 +60,7 @@ export class LotChoice {
     this.wrong = h("p", { class: "wrong", role: "alert" });
     this.offer(field.parts || []);
     this.element = h("div", { class: "lot" }, h("label", {}, field.label, this.input),
-      h("label", {}, "Or one of those in stock", this.list), this.said, this.wrong);
+      h("label", {}, `Or one of those in stock, the oldest first${field.parts?.more ? "; younger ones are scanned or typed" : ""}`, this.list), this.said, this.wrong);
     this.draw();
   }
 
@@ -59,14 +74,14 @@ export class LotChoice {
   offer(parts) {
     for (const it of parts.filter((part) => !this.known.has(keyOfPart(part)))) {
       this.known.set(keyOfPart(it), it);
-      this.list.append(h("option", { value: keyOfPart(it), disabled: Boolean(it.barred) && !this.field.mayBeBarred }, words(it, this.field.unit)));
+      this.list.append(h("option", { value: keyOfPart(it), disabled: Boolean(it.barred) && !this.field.mayBeBarred }, partInWords(it, this.field.unit)));
     }
   }
 
   // Shows what is chosen. The list is shown where it has another part than the one that is chosen at first.
   draw() {
     this.list.parentNode.hidden = this.known.size < (this.field.part ? 2 : 1);
-    this.said.textContent = this.part ? words(this.part, this.field.unit) : "";
+    this.said.textContent = this.part ? partInWords(this.part, this.field.unit) : "";
     this.list.value = this.part ? keyOfPart(this.part) : "";
     this.input.required = !this.part && !this.field.isOptional;
   }

@@ -3,8 +3,9 @@
 const two = (n) => String(n).padStart(2, "0");
 export const clock = () => Math.floor(Date.now() / 1000);
 
-// A day, and a moment of the desk (seconds since 1970 in UTC), in the time of this machine.
+// A day, and a moment of the desk (seconds since 1970 in UTC) and its day, in the time of this machine. A moment that isn't known has no day.
 export const day = (date) => `${date.getFullYear()}-${two(date.getMonth() + 1)}-${two(date.getDate())}`;
+export const dayOf = (seconds) => (seconds === null ? "" : day(new Date(seconds * 1000)));
 export function moment(seconds, isExact) {
   const date = new Date(seconds * 1000);
   return `${day(date)} ${two(date.getHours())}:${two(date.getMinutes())}${isExact ? ":" + two(date.getSeconds()) : ""}`;

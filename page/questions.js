@@ -1,6 +1,7 @@
 // What the desk is asked, one request after the other: the desk serves one at a time.
 
 import { clock, clockOffset, day } from "./moments.js";
+import { idBefore } from "./ids.js";
 import { PAGE, readPage } from "./cursors.js";
 import { withPath } from "./recipes.js";
 import { readRecord } from "./records.js";
@@ -48,18 +49,16 @@ async function found(path) {
   try { return await asked(path); } catch (error) { if (error instanceof Refusal && error.answer.status === 404) return null; throw error; }
 }
 
-// The items of a list, page by page until there are as many as are wanted; `more` of them says whether others stand behind. A page of lots may
-// have few items and others behind it, so that pages are counted too.
+// The items of a list, page by page until there are as many as are wanted; `more` of them says whether others stand behind.
 async function list(path, wanted) {
   const all = [];
-  let behind = "", pages = 0;
+  let behind = "";
   do {
     const { items, last } = readPage(path, await asked(`/v1/lists/${path}${behind}`));
     all.push(...items);
     all.more = last !== null;
     behind = "/" + last;
-    pages += 1;
-  } while (all.more && all.length < wanted && pages < wanted / 10);
+  } while (all.more && all.length < wanted);
   return all;
 }
 
@@ -134,7 +133,6 @@ export const desk = {
   orders: (state, wanted) => list("orders_by_due/" + state, wanted),
   batches: (wanted) => list("batches", wanted),
   closedBatches: (wanted) => list("closed_batches", wanted),
-  lots: (def, wanted) => list("lots/" + def, wanted),
   holds: (lot, wanted) => list("holds/" + lot, wanted),
   // The commands among the last so many that had references, as those of this page have, the last first.
   async lastCommands(count) {
@@ -144,14 +142,26 @@ export const desk = {
   allHolds: (wanted) => list("all_holds", wanted),
   recalls: (wanted) => list("recalls", wanted),
   liftedRecalls: (wanted) => list("lifted_recalls", wanted),
-  definitions: (group, wanted) => list("definitions/" + group, wanted),
   recipes: (state, wanted) => list("recipes/" + state, wanted),
   movements: (lot, wanted) => list("movements/" + lot, wanted),
 
-  // All materials, each with its class.
+  // The lots of a material that have stock, the oldest first, each with the booking that made it; and the materials of a class, each with what there is
+  // of it.
+  stock: (def, wanted) => list("stock/" + def, wanted),
+  stocks: (group, wanted) => list("stocks/" + group, wanted),
+
+  // A material with what there is of it, or null. Those of one class share its first page.
+  async stockOf(def) {
+    const known = await this.definition(def), isMeant = (it) => it.def === def;
+    if (!known) return null;
+    const first = (await this.stocks(known.class, PAGE)).find(isMeant);
+    return first || (await list(`stocks/${known.class}/${idBefore(def)}`, 1)).find(isMeant) || null;
+  },
+
+  // All materials, each with its class and what there is of it.
   async materials() {
     const all = [];
-    for (const { class: id } of await list("classes", Infinity)) all.push(...(await this.definitions(id, Infinity)).map((it) => ({ class: id, ...it })));
+    for (const { class: id } of await list("classes", Infinity)) all.push(...(await this.stocks(id, Infinity)).map((it) => ({ class: id, ...it })));
     return all;
   },
 
@@ -160,7 +170,7 @@ export const desk = {
     const classes = await list("classes", want("classes"));
     const known = [];
     for (const it of classes) {
-      known.push({ id: it.class, name: it.name, definitions: await this.definitions(it.class, want("definitions " + it.class)) });
+      known.push({ id: it.class, name: it.name, stocks: await this.stocks(it.class, want("stocks " + it.class)) });
     }
     known.more = classes.more;
     return known;

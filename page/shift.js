@@ -2,7 +2,6 @@
 
 import { capital, doubtOf, excess, grouped } from "./amounts.js";
 import { idOf } from "./ids.js";
-import { PAGE } from "./cursors.js";
 import { isMaterial } from "./recipes.js";
 import { lotOf } from "./scans.js";
 import { MAY_CLOSE, STATES, TONES } from "./words.js";
@@ -13,7 +12,7 @@ import {
 import { csvButton } from "./saved.js";
 import { desk, want } from "./questions.js";
 import { filterChoice, filterOf, isNarrow, more } from "./frame.js";
-import { partsOfLot } from "./lots.js";
+import { partsToOffer } from "./lots.js";
 import { amountField, lotField, newLotField, noteField, noted, openForm, placeField, say, selectField, textField } from "./forms.js";
 import { act, bookingForm } from "./book.js";
 
@@ -46,7 +45,7 @@ function batchRow(batch, isShown) {
 async function batchCards(id) {
   const batch = await desk.batch(id);
   batchShown = batch;
-  return [progressCard(batch), materialsCard(batch), bookingsCard(batch)];
+  return [progressCard(batch), await materialsCard(batch), bookingsCard(batch)];
 }
 
 function progressCard(batch) {
@@ -109,18 +108,34 @@ function closeBatch(id) {
 }
 
 const takesBookings = (batch) => batch.state !== "idle" && !batch.closed;
-function materialsCard(batch) {
-  const isOpen = takesBookings(batch);
-  const rows = batch.lines.filter(isMaterial).map((it) => materialRow(batch, it, isOpen));
+async function materialsCard(batch) {
+  const isOpen = takesBookings(batch), lines = batch.lines.filter(isMaterial), free = batch.closed ? null : await freeOf(lines);
+  const rows = lines.map((it) => materialRow(batch, it, isOpen, free));
   return card("Materials", batch.state === "idle" && h("span", { class: "soft small" }, "booked once the batch is started"),
-    table(["In or out", "Material", "#Asked", "#Booked", "#Left", ""], rows, ""));
+    table(["In or out", "Material", "#Asked", "#Booked", "#Left", ...(free ? ["#Free in stock"] : []), ""], rows, ""));
+}
+// How much of each input is in stock, and neither on hold nor recalled.
+async function freeOf(lines) {
+  const free = new Map();
+  for (const { kind, def } of lines) {
+    const stock = kind === "in" && await desk.stockOf(def);
+    if (stock) free.set(def, stock.usable);
+  }
+  return free;
+}
+// That amount of a line, in red where it is less than what is left.
+function freeCell(line, free) {
+  const amount = line.kind === "in" ? free.get(line.def) : undefined;
+  if (amount === undefined) return cell();
+  return h("td", { class: "num" }, h("span", { class: amount < line.asked - line.booked ? "over" : null }, `${grouped(amount)} ${line.unit}`));
 }
 
-function materialRow(batch, line, isOpen) {
+function materialRow(batch, line, isOpen, free) {
   const isInput = line.kind === "in";
   const book = isInput ? button("Consume", () => consume(batch, line)) : button("Produce", () => produce(batch, line));
   return row(`${line.kind} ${line.def}`, [cell(pill(line.kind, isInput ? "" : "good")), idCell(line.def), numberCell(line.asked, line.unit),
-    numberCell(line.booked, line.unit), excess(line) ? overCell(line) : numberCell(line.asked - line.booked, line.unit), buttonsCell(isOpen && book)]);
+    numberCell(line.booked, line.unit), excess(line) ? overCell(line) : numberCell(line.asked - line.booked, line.unit),
+    free && freeCell(line, free), buttonsCell(isOpen && book)].filter(Boolean));
 }
 function bookingsCard(batch) {
   const unit = (def) => (batch.lines.find((it) => it.def === def) || {}).unit;
@@ -133,10 +148,9 @@ function bookingsCard(batch) {
 
 async function consume(batch, line, ...scan) {
   const { def, unit } = line;
-  let lots;
-  try { await desk.look(); lots = await desk.lots(def, PAGE); } catch (error) { return notice("bad", error.message); }
-  const parts = lots.flatMap(partsOfLot), isFree = parts.some((it) => !it.barred);
-  if (!isFree && !lots.more && !scan.length) return notice("bad", parts.length ? `All ${def} in stock is on hold or recalled.` : `There is no ${def} in stock.`);
+  let parts;
+  try { await desk.look(); parts = await partsToOffer(def); } catch (error) { return notice("bad", error.message); }
+  if (parts.every((it) => it.barred) && !scan.length) return notice("bad", parts.length ? `All ${def} in stock is on hold or recalled.` : `There is no ${def} in stock.`);
   const left = Math.max(1, line.asked - line.booked);
   let offered = left;
   const change = (inputs, part) => {

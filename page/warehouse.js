@@ -1,6 +1,8 @@
 // The warehouse's view: materials by their classes, and the lots of one.
 
 import { counted, grouped } from "./amounts.js";
+import { dayOf } from "./moments.js";
+import { cameInWords, keyOfPart, placeOfPart } from "./words.js";
 import { h } from "./elements.js";
 import {
   button, buttonsCell, card, cell, fact, facts, firstSteps, go, idCell, link, listed, lotLink, none, numberCell, pill, row, table,
@@ -10,7 +12,7 @@ import { csvButton } from "./saved.js";
 import { desk, want } from "./questions.js";
 import { isNarrow, more, show } from "./frame.js";
 import { amountField, idField, lotField, newLotField, noteField, noted, openForm, placeField, say, selectField, textField } from "./forms.js";
-import { keyOfPart } from "./lots.js";
+import { wholeLot } from "./lots.js";
 import { bookingForm } from "./book.js";
 
 // The parts of lots that are chosen for a merge, and their material.
@@ -18,18 +20,16 @@ export const chosen = new Map();
 let chosenOf = null;
 
 export async function warehouse([id, lotId]) {
-  const classes = await desk.classes(), all = classes.flatMap((it) => it.definitions);
+  const classes = await desk.classes(), all = classes.flatMap((it) => it.stocks);
   const def = id || (!isNarrow() && all[0] && all[0].def);
   if (def !== chosenOf) chosen.clear();
   chosenOf = def;
   const side = listed(materialsSide(classes, def));
   const without = card("Lots", null, none("There is no material yet."));
   if (!def) return ["list", side, desk.seq === 0 ? firstSteps() : !all.length && without];
-  const known = all.find((it) => it.def === def) || (await desk.definition(def));
+  const known = all.find((it) => it.def === def) || (await desk.stockOf(def));
   if (!known) return ["list", side, card("Lots", null, none("There is no such material."))];
-  const lots = await desk.lots(def, want("lots " + def)), one = lotId && (await desk.foundLot(lotId));
-  if (one) one.recalled = (await desk.lotNode(lotId)).recalled;
-  const lotsOf = lotsCard(known, lots);
+  const lotsOf = lotsCard(known, await desk.stock(def, want("lots " + def))), one = await wholeLot(lotId);
   return ["list", side, h("div", { class: "stack" }, lotId && oneLotCard(lotId, one, known), lotId ? listed(lotsOf) : lotsOf)];
 }
 
@@ -39,11 +39,16 @@ function materialsSide(classes, def) {
   const without = none("There is no class yet.");
   return card("Materials", tools, classes.length ? classes.map((it) => classTable(it, def)) : without, more(classes, "classes"));
 }
-function classTable({ id, name, definitions }, def) {
-  const cells = (it) => [idCell(link("warehouse/" + it.def, it.def)), cell(it.name), h("td", { class: "soft" }, it.unit)];
-  const rows = definitions.map((it) => row(it.def, cells(it), "warehouse/" + it.def, it.def === def));
+function classTable({ id, name, stocks }, def) {
+  const named = (it) => idCell(link("warehouse/" + it.def, it.def), it.name && h("div", { class: "under" }, it.name));
+  const rows = stocks.map((it) => row(it.def, [named(it), numberCell(it.lots), freeCellOf(it)], "warehouse/" + it.def, it.def === def));
   return [h("h3", {}, name || id, name && [" ", h("span", { class: "soft small" }, id)]),
-    table(["Material", "Name", "Unit"], rows, "No material is in this class.", true), more(definitions, "definitions " + id)];
+    h("div", { class: "stocks" }, table(["Material", "#Lots", "#Free in stock"], rows, "No material is in this class.", true)), more(stocks, "stocks " + id)];
+}
+// How much of a material is free, and below it what is on hold and what is recalled.
+function freeCellOf({ usable, held, recalled, unit }) {
+  const barred = (amount, what, tone) => amount > 0 && h("div", {}, pill(`${grouped(amount)} ${unit} ${what}`, tone));
+  return h("td", { class: "num" }, h("span", {}, `${grouped(usable)} ${unit}`, barred(held, "on hold", "warn"), barred(recalled, "recalled", "bad")));
 }
 
 function newClass() {
@@ -60,21 +65,19 @@ function newMaterial(classes) {
 }
 
 function lotsCard(known, lots) {
-  const isFree = (it) => !it.held && !it.recalled, shown = lots.more ? " of those shown" : "";
-  const total = (some) => [grouped(some.reduce((n, it) => n + it.stock, 0)), " ", known.unit];
+  const amount = (name, n) => fact(name, grouped(n), " ", known.unit);
   const bar = h("div", { class: "chosen", hidden: true }, h("span", {}), button("Merge\u2026", () => merge(known), "main"),
     button("Choose none", () => { chosen.clear(); show(); }));
   const told = () => drawChosen(bar);
   const rows = lots.flatMap((lot) => partRows(lot, known, told));
   told();
   const title = h("span", {}, known.name || known.def, known.name && [" ", h("span", { class: "soft small" }, known.def)]);
-  const without = `There is no ${known.def} in stock. Receive a lot, or have one produced.`;
-  const csv = csvButton("lots", `lots-${known.def}`, async () => partsOfLots(await desk.lots(known.def, Infinity))
+  const without = `There is no ${known.def} in stock. Receive a lot, or have one produced. A lot that is used up is found by its id.`;
+  const csv = csvButton("lots", `lots-${known.def}`, async () => partsOfLots(await desk.stock(known.def, Infinity))
     .map((it) => ({ ...it, def: known.def, unit: known.unit })));
   return card(title, [csv, button("Receive a lot", () => receive(known), "main")],
-    facts(fact("Free" + shown, total(lots.filter(isFree))), fact("On hold or recalled", total(lots.filter((it) => !isFree(it)))),
-      fact("Lots with stock", grouped(lots.length), lots.more ? " and more" : "")),
-    table(PART_HEADS, rows, lots.more ? "None of the lots that were looked at has stock." : without), more(lots, "lots " + known.def), bar);
+    facts(amount("Free", known.usable), amount("On hold", known.held), amount("Recalled", known.recalled), fact("Lots with stock", grouped(known.lots))),
+    table(PART_HEADS, rows, without), more(lots, "lots " + known.def, " lots, the oldest first,"), bar);
 }
 function drawChosen(bar) {
   bar.hidden = !chosen.size;
@@ -82,17 +85,17 @@ function drawChosen(bar) {
   bar.firstChild.textContent = isTooMany ? `A merge takes ${MOST_PARTS} parts at most.` : `${counted(chosen.size, "part is", "parts are")} chosen for a merge.`;
   bar.children[1].disabled = isTooMany;
 }
-const PART_HEADS = ["Choose", "Lot", "#Part", "Place", "#Stock", ""];
+const PART_HEADS = ["Choose", "Lot", "#Part", "Came", "Place", "#Stock", ""];
 // A row for each part of a lot, with what can be done with it; `told` is called once a part is chosen for a merge.
 function partRows(lot, known, told) {
   const barred = lot.held ? "on hold" : lot.recalled ? "recalled" : "", isBarred = barred !== "";
   const marks = [lot.held && [" ", pill("on hold", "warn")], lot.recalled && [" ", pill("recalled", "bad")]];
   return lot.sublots.filter((it) => it.stock > 0).map((it) => {
-    const key = `${lot.lot}/${it.no}`, part = { lot: lot.lot, sub: it.no, stock: it.stock, place: it.place, barred };
+    const key = `${lot.lot}/${it.no}`, part = { lot: lot.lot, sub: it.no, stock: it.stock, place: it.place, at: lot.at, barred };
     const buttons = [button("Divide", () => divide(part, known)), button("Split", () => split(part, known), null, { disabled: isBarred }),
       button("Scrap", () => scrap(part, known), "bad")];
     return row(key, [cell(chooseBox(key, part, isBarred, told)), idCell(lotLink(lot.lot), marks), h("td", { class: "num" }, it.no),
-      cell(it.place || h("span", { class: "soft" }, "no place")), numberCell(it.stock, known.unit), buttonsCell(buttons)]);
+      h("td", { class: "when" }, dayOf(lot.at)), cell(it.place || h("span", { class: "soft" }, "no place")), numberCell(it.stock, known.unit), buttonsCell(buttons)]);
   });
 }
 function chooseBox(key, part, isBarred, told) {
@@ -142,7 +145,7 @@ function split(part, known) {
 const MOST_PARTS = 16;
 function merge(known, values = {}) {
   const parts = [...chosen.values()], { def, unit } = known;
-  const label = (it) => `Of ${keyOfPart(it)} at ${it.place || "no place"}, ${unit}`;
+  const label = (it) => `Of ${placeOfPart(it)}${cameInWords(it)}, ${unit}`;
   const amounts = parts.map((it) => ({ ...amountField(unit, it.stock), name: keyOfPart(it), label: label(it) }));
   const take = async (v, tell) => {
     const taken = parts.map((it) => ({ lot: it.lot, sub: it.sub, amount: v[keyOfPart(it)] }));

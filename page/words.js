@@ -1,5 +1,14 @@
 // The desk's words, in plain ones.
 
+import { grouped } from "./amounts.js";
+import { dayOf } from "./moments.js";
+
+// A part of a lot: its name, where it is, the day on which its lot came, and all that is to be known where it is chosen, with what bars it.
+export const keyOfPart = (it) => `${it.lot}/${it.sub}`;
+export const placeOfPart = (it) => `${keyOfPart(it)} at ${it.place || "no place"}`;
+export const cameInWords = (it) => (it.at === null ? "" : `, came ${dayOf(it.at)}`);
+export const partInWords = (it, unit) => `${placeOfPart(it)}: ${grouped(it.stock)} ${unit}${cameInWords(it)}${it.barred ? `, ${it.barred}` : ""}`;
+
 // Why a booking or a question is refused.
 export const REFUSALS = {
   BadForm: "The desk can't read that. Look for a value that breaks its rule.",

@@ -6,7 +6,7 @@ import pathlib
 import time
 
 from tests.support.browser import Tab
-from tests.support.pages import BrowserTestCase
+from tests.support.pages import MORNINGS, BrowserTestCase
 
 # Has the browser say that it is of a country whose decimals have a comma.
 GERMAN = """Object.defineProperty(navigator, "language", {value: "de-DE"});"""
@@ -61,8 +61,8 @@ class SavedLists(BrowserTestCase):
             ("planner", "recipes", "Recipe,Version,State,Title,Product,Base size,Least size,Greatest size", ("BREAD", 2, "approved")),
             ("shift", "batches-open", "Batch,Order,State,Attempt,Phases done,Phases,Next phase,Closed", ("B-2", 6, "RISE")),
             ("shift?batches=closed", "batches-closed", "Batch,Order,State,Attempt,Phases done,Phases,Next phase,Closed", ("B-1", 7, "yes")),
-            ("warehouse/FLOUR", "materials", "Class,Material,Name,Unit", ("GOODS", 3, "pcs")),
-            ("warehouse/FLOUR", "lots-FLOUR", "Lot,Material,Part,Place,Stock,Unit,On hold,Recalled", ("F-2", 6, "yes")),
+            ("warehouse/FLOUR", "materials", "Class,Material,Name,Unit,Lots,Free,On hold,Recalled", ("GOODS", 3, "pcs")),
+            ("warehouse/FLOUR", "lots-FLOUR", "Lot,Material,Part,Place,Stock,Unit,On hold,Recalled,Came,By,Note,Number", ("F-2", 11, "14")),
             ("quality", "holds", "Lot,Hold,When,By,Note", ("F-2", 4, "wet sacks")),
             ("quality", "recalls-open", "Recall,Lot,When,By,Note,Lifted,Lifted by,Lifted for", ("RC-1", 4, "moths, seen by \"erna\"")),
             ("quality/recall/RC-1", "goods-of-RC-1", "Place,Lot,Part,Material,Amount,Unit,On hold,Recalled,Seen", ("A1", 7, "yes")),
@@ -89,8 +89,9 @@ class SavedLists(BrowserTestCase):
         self.check("the orders shown", tab.run("document.querySelectorAll('[data-row^=\"M-\"], [data-row^=\"O-\"]').length"), 100)
         tab.run("location.hash = 'warehouse/FLOUR'")
         text = self.saved(tab, "lots-FLOUR").decode("ascii")
-        for line in ("X-1;FLOUR;0;'=HYPERLINK(1);1;kg;no;no\r\n", "X-2;FLOUR;0;\"A;B\";1;kg;no;no\r\n", "X-3;FLOUR;0;'-1;1;kg;no;no\r\n"):
-            self.check_true(line, line in text)
+        came = time.strftime("%Y-%m-%d", time.localtime(self.now()))
+        for number, line in enumerate(("X-1;FLOUR;0;'=HYPERLINK(1);1;kg;no;no", "X-2;FLOUR;0;\"A;B\";1;kg;no;no", "X-3;FLOUR;0;'-1;1;kg;no;no"), MORNINGS + 4):
+            self.check_true(line, f"{line};{came};ben;;{number}\r\n" in text)
         self.served.kill()
         tab.run("document.querySelector('[aria-label=\"CSV of lots-FLOUR\"]').click()")
         tab.has("The desk doesn't answer. Nothing was saved.")

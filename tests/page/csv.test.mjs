@@ -26,11 +26,23 @@ test("a list has the names of its columns first", () => {
     ["O-1", "open", "2027-03-01", 5, "CAKE", 1, 300]]);
 });
 
-test("lots have a row for each part with stock", () => {
-  const lots = [{ lot: "F-1", held: true, recalled: false, stock: 5, sublots: [{ no: 0, place: "A1", stock: 0 }, { no: 1, place: "A2", stock: 5 }] }];
+test("lots have a row for each part with stock, with the booking that made the lot", () => {
+  const made = { at: 86_400 * 365, by: "carl", note: "from the mill", seq: 12 };
+  const lots = [
+    { lot: "F-1", held: true, recalled: false, stock: 5, ...made, sublots: [{ no: 0, place: "A1", stock: 0 }, { no: 1, place: "A2", stock: 5 }] },
+    { lot: "F-2", held: false, recalled: true, stock: 7, at: null, by: null, note: null, seq: null, sublots: [{ no: 0, place: "", stock: 7 }] },
+  ];
   const rows = rowsOf(partsOfLots(lots).map((it) => ({ ...it, def: "FLOUR", unit: "kg" })), COLUMNS.lots);
-  assert.deepEqual(rows[1], ["F-1", "FLOUR", 1, "A2", 5, "kg", true, false]);
-  assert.equal(rows.length, 2);
+  assert.deepEqual(rows, [
+    ["Lot", "Material", "Part", "Place", "Stock", "Unit", "On hold", "Recalled", "Came", "By", "Note", "Number"],
+    ["F-1", "FLOUR", 1, "A2", 5, "kg", true, false, "1971-01-01", "carl", "from the mill", 12],
+    ["F-2", "FLOUR", 0, "", 7, "kg", false, true, "", null, null, null],
+  ]);
+});
+
+test("materials have what there is of them", () => {
+  const rows = rowsOf([{ class: "RAW", def: "FLOUR", name: "Flour", unit: "kg", lots: 3, usable: 350, held: 20, recalled: 5 }], COLUMNS.materials);
+  assert.deepEqual(rows, [["Class", "Material", "Name", "Unit", "Lots", "Free", "On hold", "Recalled"], ["RAW", "FLOUR", "Flour", "kg", 3, 350, 20, 5]]);
 });
 
 test("a lifted recall says when and why", () => {

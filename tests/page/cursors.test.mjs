@@ -11,6 +11,7 @@ test("a list goes on behind the key of its last item", () => {
     all_holds: [{ holds: [{ lot: "F-1", hold: "H-1" }] }, "F-1.H-1"],
     closed_batches: [{ batches: [{ batch: "B-1" }, { batch: "B-2" }] }, "B-2"],
     lifted_recalls: [{ recalls: [{ recall: "R-1" }] }, "R-1"],
+    "stocks/RAW": [{ stocks: [{ def: "FLOUR" }, { def: "YEAST" }] }, "YEAST"],
   };
   for (const [path, [page, last]] of Object.entries(keys)) {
     assert.equal(readPage(path, { ...page, more: true }).last, last, path);
@@ -18,9 +19,12 @@ test("a list goes on behind the key of its last item", () => {
   }
 });
 
-test("a page of lots says itself which was its last", () => {
-  assert.deepEqual(readPage("lots/FLOUR", { lots: [], last: "F-100", more: true }), { items: [], last: "F-100" });
-  assert.deepEqual(readPage("lots/FLOUR", { lots: [{ lot: "F-7" }], last: "F-9", more: false }), { items: [{ lot: "F-7" }], last: null });
+test("lots in stock go on behind the booking that made the last of them, and one that has none counts as 0", () => {
+  const page = (seq) => ({ lots: [{ seq: 3, lot: "Z-9" }, { seq, lot: "F-1" }], more: true });
+  assert.equal(readPage("stock/FLOUR", page(12)).last, "12.F-1");
+  assert.equal(readPage("stock/FLOUR", page(null)).last, "0.F-1");
+  assert.equal(readPage("stock/FLOUR", { ...page(12), more: false }).last, null);
+  assert.deepEqual(readPage("stock/FLOUR/3.Z-9", page(12)).items.map((it) => it.lot), ["Z-9", "F-1"]);
 });
 
 test("nothing stands behind a page without items", () => {

@@ -1,7 +1,7 @@
 import assert from "node:assert/strict";
 import test from "node:test";
 
-import { idOf, isId, plainText } from "../../page/ids.js";
+import { idBefore, idOf, isId, plainText } from "../../page/ids.js";
 
 test("an id has a capital letter first, then at most 23 capital letters, digits and -", () => {
   for (const id of ["F", "F-1", "A".repeat(24), "L-4006381333931"]) assert.ok(isId(id), id);
@@ -11,6 +11,16 @@ test("an id has a capital letter first, then at most 23 capital letters, digits 
 test("an id of parts is cut where it is too long", () => {
   assert.equal(idOf("BREAD", "B-4", 2), "BREAD-B-4-2");
   assert.equal(idOf("A".repeat(20), "BCDEF"), `${"A".repeat(20)}-BCD`);
+});
+
+test("right before an id comes the last one that is less", () => {
+  const last = (start) => start.padEnd(24, "Z"), full = `A${"-".repeat(23)}`;
+  const before = { FLOUR: last("FLOUQ"), "F-1": last("F-0"), "F-0": last("F--"), FA: last("F9"), "F-": "F", B: last("A"), A: "A", [full]: full.slice(0, 23) };
+  for (const [id, wanted] of Object.entries(before)) {
+    assert.equal(idBefore(id), wanted, id);
+    assert.ok(isId(idBefore(id)) && (id === "A" || idBefore(id) < id), id);
+  }
+  assert.equal(idBefore(`${"A".repeat(23)}B`), "A".repeat(24));
 });
 
 test("a text becomes one of plain letters, where there are such", () => {

@@ -2,13 +2,15 @@ import assert from "node:assert/strict";
 import test from "node:test";
 
 process.env.TZ = "Europe/Berlin";
-const { clock, clockOffset, day, lengthOfTime, moment, stampWord } = await import("../../page/moments.js");
+const { clock, clockOffset, day, dayOf, lengthOfTime, moment, stampWord } = await import("../../page/moments.js");
 
 test("a moment is told in the time of the machine", () => {
   assert.equal(moment(0), "1970-01-01 01:00");
   assert.equal(moment(1_772_323_199, true), "2026-03-01 00:59:59");
   assert.equal(moment(1_774_746_000), "2026-03-29 03:00");
   assert.equal(day(new Date(1_772_323_199_000)), "2026-03-01");
+  assert.equal(dayOf(1_772_323_199), "2026-03-01");
+  assert.equal(dayOf(null), "");
 });
 
 test("a clock is off by what lies outside the time of the request", () => {

@@ -1,7 +1,8 @@
 import assert from "node:assert/strict";
 import test from "node:test";
 
-import { REFUSALS, STATES, plainly } from "../../page/words.js";
+process.env.TZ = "Europe/Berlin";
+const { REFUSALS, STATES, cameInWords, keyOfPart, partInWords, placeOfPart, plainly } = await import("../../page/words.js");
 
 test("an answer that isn't what was wished for is told in plain words", () => {
   assert.equal(plainly({ status: 409, body: { name: "Held" } }), `${REFUSALS.Held} (Held)`);
@@ -16,4 +17,14 @@ test("an answer that isn't what was wished for is told in plain words", () => {
 
 test("each state that a word leads to is in the state table", () => {
   for (const moves of Object.values(STATES)) for (const state of Object.values(moves)) assert.ok(Object.hasOwn(STATES, state), state);
+});
+
+test("a part of a lot is told with the day on which it came and what bars it", () => {
+  const part = { lot: "F-1", sub: 2, stock: 1500, place: "A1", at: 86_400 * 365, barred: "" };
+  assert.equal(keyOfPart(part), "F-1/2");
+  assert.equal(placeOfPart({ ...part, place: "" }), "F-1/2 at no place");
+  assert.deepEqual([cameInWords(part), cameInWords({ ...part, at: null })], [", came 1971-01-01", ""]);
+  assert.equal(partInWords(part, "kg"), "F-1/2 at A1: 1\u202f500 kg, came 1971-01-01");
+  assert.equal(partInWords({ ...part, place: "", barred: "on hold" }, "kg"), "F-1/2 at no place: 1\u202f500 kg, came 1971-01-01, on hold");
+  assert.equal(partInWords({ ...part, at: null }, "kg"), "F-1/2 at A1: 1\u202f500 kg");
 });

@@ -116,11 +116,11 @@ class BrowserTestCase(DeskTestCase):
         ended = Program("desk", cls.mornings.parent).run("run", cls.mornings.name, told=mornings(int(time.time())))
         cls.check_set_up("the mornings", (ended.status, ended.output.count(b'"ok"')), (0, MORNINGS))
 
-    def serve(self, is_empty: bool = False) -> ServedDesk:
-        """Serves a desk of the test's own, which holds the mornings where it isn't to be empty."""
+    def serve(self, is_empty: bool = False, begun: pathlib.Path | None = None) -> ServedDesk:
+        """Serves a desk of the test's own, which begins as a file that is given, else with the mornings where it isn't to be empty."""
         file = self.folder / "plant.db"
         if not is_empty:
-            shutil.copy(self.mornings, file)
+            shutil.copy(begun or self.mornings, file)
         self.served = ServedDesk(self.desk, file)
         self.addCleanup(self.served.end)
         return self.served

@@ -15,6 +15,7 @@ function doubtOf(line, amount, before) {
 const two = (n) => String(n).padStart(2, "0");
 const clock = () => Math.floor(Date.now() / 1000);
 const day = (date) => `${date.getFullYear()}-${two(date.getMonth() + 1)}-${two(date.getDate())}`;
+const dayOf = (seconds) => (seconds === null ? "" : day(new Date(seconds * 1000)));
 function moment(seconds, isExact) {
   const date = new Date(seconds * 1000);
   return `${day(date)} ${two(date.getHours())}:${two(date.getMinutes())}${isExact ? ":" + two(date.getSeconds()) : ""}`;
@@ -28,6 +29,13 @@ function lengthOfTime(seconds) {
 const stampWord = () => clock().toString(36).toUpperCase();
 const isId = (text) => /^[A-Z][A-Z0-9-]{0,23}$/.test(text);
 const idOf = (...parts) => parts.join("-").slice(0, 24);
+const IN_ORDER = "-0123456789ABCDEFGHIJKLMNOPQRSTUVWXYZ";
+function idBefore(id) {
+  const start = id.slice(0, -1), last = IN_ORDER.indexOf(id.at(-1));
+  if (last === 0) return start;
+  const before = (start + IN_ORDER[last - 1]).padEnd(24, "Z");
+  return isId(before) ? before : id;
+}
 const LETTERS = { "\u00e4": "ae", "\u00f6": "oe", "\u00fc": "ue", "\u00c4": "Ae", "\u00d6": "Oe", "\u00dc": "Ue", "\u00df": "ss", "\u00e6": "ae",
   "\u00c6": "Ae", "\u00f8": "oe", "\u00d8": "Oe", "\u00e5": "aa", "\u00c5": "Aa", "\u0142": "l", "\u0141": "L", "\u0131": "i", "\u20ac": "EUR",
   "\u2013": "-", "\u2019": "'", "\u201e": "\"", "\u201c": "\"", "\u201d": "\"", "\u00b0": " deg" };
@@ -75,9 +83,10 @@ const MATERIAL = ["Material", (it) => it.def], WHEN = ["When", (it) => moment(it
 const COLUMNS = {
   orders: ["order", "state", "due", "priority", "recipe", "version", "size"],
   batches: ["batch", "order", "state", "attempt", ["Phases done", (it) => it.next - 1], "phases", ["Next phase", (it) => it.phase], "closed"],
-  materials: ["class", MATERIAL, "name", "unit"],
+  materials: ["class", MATERIAL, "name", "unit", "lots", ["Free", (it) => it.usable], ["On hold", (it) => it.held], "recalled"],
   stands: ["place", "lot", ["Part", (it) => it.no], MATERIAL, ["Amount", (it) => it.stock], "unit", ["On hold", (it) => it.held], "recalled", "seen"],
-  lots: ["lot", MATERIAL, ["Part", (it) => it.no], "place", "stock", "unit", ["On hold", (it) => it.held], "recalled"],
+  lots: ["lot", MATERIAL, ["Part", (it) => it.no], "place", "stock", "unit", ["On hold", (it) => it.held], "recalled", ["Came", (it) => dayOf(it.at)], "by", "note",
+    ["Number", (it) => it.seq]],
   ledger: [["Number", (it) => it.seq], "line", WHEN, "by", ["What", (it) => it.kind], AMOUNT, "unit", "lot", ["Part", (it) => it.sub], ["To lot", (it) => it.to],
     ["To part", (it) => it.to_sub], "batch", "note"],
   holds: ["lot", "hold", WHEN, "by", "note"],
@@ -103,21 +112,20 @@ const LISTS = {
   orders_by_due: ["orders", (it) => `${it.due}.${it.order}`],
   batches: ["batches", (it) => it.batch],
   closed_batches: ["batches", (it) => it.batch],
-  lots: ["lots"],
+  stock: ["lots", (it) => `${it.seq ?? 0}.${it.lot}`],
+  stocks: ["stocks", (it) => it.def],
   holds: ["holds", (it) => it.hold],
   all_holds: ["holds", (it) => `${it.lot}.${it.hold}`],
   recalls: ["recalls", (it) => it.recall],
   lifted_recalls: ["recalls", (it) => it.recall],
   classes: ["classes", (it) => it.class],
-  definitions: ["definitions", (it) => it.def],
   recipes: ["recipes", (it) => `${it.recipe}.${it.version}`],
   movements: ["movements", (it) => `${it.seq}.${it.line}`],
 };
 const PAGE = 100;
 function readPage(path, page) {
   const [member, cursor] = LISTS[path.split("/")[0]], items = page[member];
-  const last = cursor ? (items.length ? cursor(items.at(-1)) : null) : page.last;
-  return { items, last: page.more ? last : null };
+  return { items, last: page.more && items.length ? cursor(items.at(-1)) : null };
 }
 const LINES_HINT = "One to a line: in MATERIAL AMOUNT, out MATERIAL AMOUNT, par NAME VALUE, phase UNIT OPERATION PHASE.";
 const LINES_EXAMPLE = "in FLOUR 200\nout DOUGH 300\npar TEMP 20 C\nphase MIX BLEND STIR";
@@ -175,6 +183,10 @@ function readTotal(line) {
   const [kind, def, , , , booked] = line.split(" ");
   return { kind, def, booked: Number(booked) };
 }
+const keyOfPart = (it) => `${it.lot}/${it.sub}`;
+const placeOfPart = (it) => `${keyOfPart(it)} at ${it.place || "no place"}`;
+const cameInWords = (it) => (it.at === null ? "" : `, came ${dayOf(it.at)}`);
+const partInWords = (it, unit) => `${placeOfPart(it)}: ${grouped(it.stock)} ${unit}${cameInWords(it)}${it.barred ? `, ${it.barred}` : ""}`;
 const REFUSALS = {
   BadForm: "The desk can't read that. Look for a value that breaks its rule.",
   MomentBack: "The desk's last booking is later than its machine's clock. Look at that clock.",
@@ -503,14 +515,13 @@ async function found(path) {
 }
 async function list(path, wanted) {
   const all = [];
-  let behind = "", pages = 0;
+  let behind = "";
   do {
     const { items, last } = readPage(path, await asked(`/v1/lists/${path}${behind}`));
     all.push(...items);
     all.more = last !== null;
     behind = "/" + last;
-    pages += 1;
-  } while (all.more && all.length < wanted && pages < wanted / 10);
+  } while (all.more && all.length < wanted);
   return all;
 }
 const wantedItems = new Map();
@@ -559,7 +570,6 @@ const desk = {
   orders: (state, wanted) => list("orders_by_due/" + state, wanted),
   batches: (wanted) => list("batches", wanted),
   closedBatches: (wanted) => list("closed_batches", wanted),
-  lots: (def, wanted) => list("lots/" + def, wanted),
   holds: (lot, wanted) => list("holds/" + lot, wanted),
   async lastCommands(count) {
     const behind = this.seq > count ? "/" + (this.seq - count) : "";
@@ -568,19 +578,26 @@ const desk = {
   allHolds: (wanted) => list("all_holds", wanted),
   recalls: (wanted) => list("recalls", wanted),
   liftedRecalls: (wanted) => list("lifted_recalls", wanted),
-  definitions: (group, wanted) => list("definitions/" + group, wanted),
   recipes: (state, wanted) => list("recipes/" + state, wanted),
   movements: (lot, wanted) => list("movements/" + lot, wanted),
+  stock: (def, wanted) => list("stock/" + def, wanted),
+  stocks: (group, wanted) => list("stocks/" + group, wanted),
+  async stockOf(def) {
+    const known = await this.definition(def), isMeant = (it) => it.def === def;
+    if (!known) return null;
+    const first = (await this.stocks(known.class, PAGE)).find(isMeant);
+    return first || (await list(`stocks/${known.class}/${idBefore(def)}`, 1)).find(isMeant) || null;
+  },
   async materials() {
     const all = [];
-    for (const { class: id } of await list("classes", Infinity)) all.push(...(await this.definitions(id, Infinity)).map((it) => ({ class: id, ...it })));
+    for (const { class: id } of await list("classes", Infinity)) all.push(...(await this.stocks(id, Infinity)).map((it) => ({ class: id, ...it })));
     return all;
   },
   async classes() {
     const classes = await list("classes", want("classes"));
     const known = [];
     for (const it of classes) {
-      known.push({ id: it.class, name: it.name, definitions: await this.definitions(it.class, want("definitions " + it.class)) });
+      known.push({ id: it.class, name: it.name, stocks: await this.stocks(it.class, want("stocks " + it.class)) });
     }
     known.more = classes.more;
     return known;
@@ -700,13 +717,24 @@ const csvButton = (list, name, read) => button("CSV", async () => {
   }
 }, null, { "aria-label": `CSV of ${name}`, title: "Save the list for a spreadsheet" });
 const partsOfLot = (lot) => lot.sublots.filter((it) => it.stock > 0).map((it) => ({ lot: lot.lot, sub: it.no, stock: it.stock, place: it.place,
-  barred: lot.held ? "on hold" : lot.recalled ? "recalled" : "" }));
-const keyOfPart = (it) => `${it.lot}/${it.sub}`;
-const words = (it, unit) => `${keyOfPart(it)} at ${it.place || "no place"}: ${grouped(it.stock)} ${unit}${it.barred ? `, ${it.barred}` : ""}`;
+  at: lot.at, barred: lot.held ? "on hold" : lot.recalled ? "recalled" : "" }));
+async function partsToOffer(def) {
+  let lots, parts, wanted = 0;
+  do {
+    lots = await desk.stock(def, wanted += PAGE);
+    parts = lots.flatMap(partsOfLot);
+  } while (lots.more && parts.every((it) => it.barred));
+  return Object.assign(parts.sort((a, b) => Boolean(a.barred) - Boolean(b.barred)), { more: lots.more });
+}
+async function wholeLot(id) {
+  const lot = id && await desk.foundLot(id);
+  if (!lot) return null;
+  const { recalled } = await desk.lotNode(id), [first] = await desk.movements(id, 1);
+  return { ...lot, recalled, at: first ? first.at : null };
+}
 async function lotNow(id) {
   await desk.look();
-  const lot = id && await desk.foundLot(id);
-  return lot && { ...lot, recalled: (await desk.lotNode(id)).recalled };
+  return wholeLot(id);
 }
 async function partsNamed(code, { def, mayBeBarred }) {
   const { lot: id, sub } = lotOf(code), lot = await lotNow(id);
@@ -729,7 +757,7 @@ class LotChoice {
     this.wrong = h("p", { class: "wrong", role: "alert" });
     this.offer(field.parts || []);
     this.element = h("div", { class: "lot" }, h("label", {}, field.label, this.input),
-      h("label", {}, "Or one of those in stock", this.list), this.said, this.wrong);
+      h("label", {}, `Or one of those in stock, the oldest first${field.parts?.more ? "; younger ones are scanned or typed" : ""}`, this.list), this.said, this.wrong);
     this.draw();
   }
   isSettled() {
@@ -739,12 +767,12 @@ class LotChoice {
   offer(parts) {
     for (const it of parts.filter((part) => !this.known.has(keyOfPart(part)))) {
       this.known.set(keyOfPart(it), it);
-      this.list.append(h("option", { value: keyOfPart(it), disabled: Boolean(it.barred) && !this.field.mayBeBarred }, words(it, this.field.unit)));
+      this.list.append(h("option", { value: keyOfPart(it), disabled: Boolean(it.barred) && !this.field.mayBeBarred }, partInWords(it, this.field.unit)));
     }
   }
   draw() {
     this.list.parentNode.hidden = this.known.size < (this.field.part ? 2 : 1);
-    this.said.textContent = this.part ? words(this.part, this.field.unit) : "";
+    this.said.textContent = this.part ? partInWords(this.part, this.field.unit) : "";
     this.list.value = this.part ? keyOfPart(this.part) : "";
     this.input.required = !this.part && !this.field.isOptional;
   }
@@ -1088,4 +1116,4 @@ function bookingForm(title, fields, label, take, more) {
 "##;
 
 /// Its entity tag.
-pub const SCRIPT_TAG: &str = "\"56ea83fa6d211d8c383a68e3fcaf6db5\"";
+pub const SCRIPT_TAG: &str = "\"a34834ecdf46da6e9286582018bbc670\"";

@@ -98,7 +98,8 @@ td.do { text-align: right; } td.do > div { display: inline-flex; flex-wrap: wrap
 main.list > .listed td.do button { white-space: normal; }
 td.id, .id { font-weight: 600; overflow-wrap: normal; white-space: nowrap; }
 td.id a, .id a { color: inherit; text-decoration: none; } td.id a:hover, .id a:hover { text-decoration: underline; }
-td.when { white-space: nowrap; }
+td.when { white-space: nowrap; } td .under { font-weight: 400; font-size: 13px; color: var(--soft); white-space: normal; }
+td.num .pill { margin-top: 3px; } .stocks td.id { width: 100%; white-space: normal; overflow-wrap: anywhere; }
 .record th.num:first-child { width: 6em; } .over { color: var(--bad); font-weight: 600; } .stamp .when { white-space: nowrap; }
 .printed, .sign { display: none; } td:has(> span > input[type=checkbox]) { width: 3.5em; }
 tr.on > td { background: var(--chosen); }
@@ -240,4 +241,4 @@ svg .word { fill: var(--bad); font-weight: 600; font-size: 10px; }
 "##;
 
 /// Its entity tag.
-pub const STYLE_TAG: &str = "\"a4f9c8a63bf75e3404672a6be2c96dff\"";
+pub const STYLE_TAG: &str = "\"c0e439ad2b92a989bcb9bb9f23c8ccea\"";

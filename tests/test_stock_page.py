@@ -1,0 +1,238 @@
+"""Stock at the page, in a browser: what is there is seen and offered, the oldest first, whatever was used up or is barred before it."""
+from __future__ import annotations
+
+import json
+import pathlib
+import time
+
+from tests.support import Json
+from tests.support.browser import Tab
+from tests.support.pages import BrowserTestCase
+from tests.support.program import Program
+
+FORM = "document.querySelector('dialog[open]')"
+
+# How many lots of flour are used up, how many lots of yeast are in stock, how many of these are on hold, and how many materials a class has.
+USED_UP, LOTS, HELD, MATERIALS = 300, 210, 101, 101
+
+# The lots of flour in stock, with the days since each came, its amount and its place: the older one is, the later is its id.
+FLOUR = (("Z-9", 40, 100, "W1"), ("M-1", 20, 200, "W2"), ("B-9", 1, 50, ""))
+
+# The parts that a form offers, those that may be taken, and their words.
+OFFERED = f"[...{FORM}.querySelectorAll('[name=from-list] option')].map((it) => it.value)"
+FREE = f"[...{FORM}.querySelectorAll('[name=from-list] option:not([disabled])')].map((it) => it.value)"
+WORDS = f"[...{FORM}.querySelectorAll('[name=from-list] option')].map((it) => it.label.replaceAll('\\u202f', ' '))"
+
+# The rows of lots that are shown.
+ROWS = "[...document.querySelectorAll('.stack [data-row]')].map((it) => it.dataset.row)"
+
+
+def day(days: int) -> str:
+    """Returns the day that was so many days ago."""
+    return time.strftime("%Y-%m-%d", time.localtime(NOW - 86_400 * days))
+
+
+def command(days: int, do: str, **fields: Json) -> bytes:
+    """Returns the line of a command of so many days ago."""
+    return json.dumps({"at": NOW - 86_400 * days, "by": "carl", "do": do, **fields}).encode() + b"\n"
+
+
+def definition(name: str, group: str, unit: str) -> bytes:
+    return command(70, "add_definition", **{"def": name, "class": group}, name=f"the {name}", unit=unit)
+
+
+def receive(days: int, lot: str, name: str, amount: int, place: str = "", **more: Json) -> bytes:
+    return command(days, "receive", lot=lot, **{"def": name}, amount=amount, place=place, **more)
+
+
+def planned() -> list[bytes]:
+    """Returns the commands of the materials, and of a batch of dough, which is started."""
+    lines = [
+        {"kind": "in", "def": "FLOUR", "qty": 200}, {"kind": "in", "def": "YEAST", "qty": 21}, {"kind": "out", "def": "DOUGH", "qty": 300},
+        {"kind": "phase", "unit": "MIX", "oper": "BLEND", "phase": "STIR"},
+    ]
+    order = {"order": "O-1", "recipe": "DOUGH", "version": 1, "size": 300, "due": "2030-03-01", "priority": 5}
+    return [
+        *(command(70, "add_class", **{"class": it}, name="") for it in ("GOODS", "MANY", "RAW")),
+        definition("FLOUR", "RAW", "kg"), definition("YEAST", "RAW", "g"), definition("DOUGH", "GOODS", "kg"),
+        *(definition(f"P-{it:03}", "MANY", "pcs") for it in range(MATERIALS)),
+        command(70, "add_recipe", recipe="DOUGH", version=1, product="DOUGH", base=300, min=100, max=900, title="Dough", lines=lines),
+        command(70, "approve", recipe="DOUGH", version=1),
+        command(70, "import_orders", orders=[order]),
+        command(70, "release", order="O-1", batch="B-1"),
+        command(70, "batch", batch="B-1", word="start"),
+    ]
+
+
+def stocked() -> bytes:
+    """Returns the commands of a desk of many lots: those of flour but the last ones are used up, and most of the yeast is on hold."""
+    told = planned()
+    for it in range(USED_UP):
+        told += [receive(60, f"A-{it:03}", "FLOUR", 1), command(60, "scrap", lot=f"A-{it:03}", sub=0, amount=1)]
+    yeast = [f"K-{LOTS - it:03}" for it in range(LOTS)]
+    told += [receive(50, it, "YEAST", 7) for it in yeast]
+    told += [command(50, "hold", lot=it, hold="H-1") for it in yeast[:HELD]]
+    told += [command(50, "recall", recall="RC-1", lot=it) for it in yeast[-1:]]
+    told += [receive(days, lot, "FLOUR", amount, place, note="from the mill") for lot, days, amount, place in FLOUR]
+    told += [receive(1, "P-1", f"P-{MATERIALS - 1:03}", 5)]
+    return b"".join(told)
+
+
+NOW = int(time.time())
+
+
+class Stock(BrowserTestCase):
+    """What the page shows and offers of a stock of many lots."""
+
+    IS_LONG = True
+
+    # The file of that desk.
+    stocked: pathlib.Path
+
+    @classmethod
+    def setUpClass(cls) -> None:
+        super().setUpClass()
+        cls.stocked = cls.class_folder() / "stocked.db"
+        told = stocked()
+        ended = Program("desk", cls.stocked.parent).run("run", cls.stocked.name, told=told)
+        cls.check_set_up("the lots", (ended.status, ended.output.count(b'"ok"')), (0, told.count(b"\n")))
+
+    def open_stocked(self, place: str) -> Tab:
+        """Opens a view of that desk."""
+        self.serve(begun=self.stocked)
+        return self.open(place)
+
+    def open_consume(self, tab: Tab, name: str) -> None:
+        """Opens the form by which a material is consumed."""
+        tab.click("Consume", row=f"in {name}")
+        tab.has(f"Consume {name} in B-1", FORM)
+
+    def choose(self, tab: Tab, lot: str) -> None:
+        """Types a lot into the form that is open, and waits until it is chosen."""
+        tab.fill("from", lot)
+        tab.key("Enter")
+        tab.has(f"{lot.upper().partition('/')[0]}/0 at", f"{FORM}.querySelector('.said')")
+
+    def press(self, tab: Tab) -> None:
+        """Presses the button of the form that is open."""
+        tab.run(f"{FORM}.querySelector('.end button:last-child').focus()")
+        tab.key("Enter")
+
+    def text(self, tab: Tab, row: str) -> str:
+        """Returns the text of a row."""
+        return tab.text(f"document.querySelector('[data-row=\"{row}\"]')")
+
+    def end(self, tab: Tab) -> None:
+        """Checks that the page met no error."""
+        self.check("what the console tells of errors", tab.errors(), [])
+
+    def all_lots(self, name: str) -> list[Json]:
+        """Returns the lots of a material that have stock, by the list of all of its lots."""
+        lots, behind = list[Json](), ""
+        while True:
+            page = self.served.ask(f"/lists/lots/{name}{behind}")
+            lots += page["lots"]
+            if not page["more"]:
+                return lots
+            behind = f"/{page['last']}"
+
+    def test_stock_behind_used_up_lots_is_offered_and_consumed(self) -> None:
+        tab = self.open_stocked("shift/B-1")
+        tab.has("350 kg", "document.querySelector('[data-row=\"in FLOUR\"]')")
+        self.open_consume(tab, "FLOUR")
+        words = [f"{lot}/0 at {place or 'no place'}: {amount} kg, came {day(days)}" for lot, days, amount, place in FLOUR]
+        self.check("what is offered", tab.run(WORDS), ["none of these", *words])
+        tab.fill("from-list", "Z-9/0")
+        self.check("what is chosen", tab.text(f"{FORM}.querySelector('.said')"), words[0])
+        self.check("the amount", tab.value("amount"), "100")
+        self.press(tab)
+        tab.has("100 kg of Z-9 consumed.")
+        tab.until("!dialog.open")
+        self.check("what is left of it", self.served.ask("/lots/Z-9")["stock"], 0)
+        tab.has("250 kg", "document.querySelector('[data-row=\"in FLOUR\"]')")
+        self.open_consume(tab, "FLOUR")
+        self.check("what is offered then", tab.run(OFFERED), ["", "M-1/0", "B-9/0"])
+        tab.key("Escape")
+        self.served.told(at=self.served.ask("/moment")["at"], by="dora", do="hold", lot="M-1", hold="H-1")
+        self.open_consume(tab, "FLOUR")
+        self.check("what is offered once the oldest is on hold", tab.run(OFFERED), ["", "B-9/0", "M-1/0"])
+        tab.key("Escape")
+        tab.has("50 kg", "document.querySelector('[data-row=\"in FLOUR\"] .over')")
+        self.end(tab)
+
+    def test_lot_that_is_scanned_or_typed_says_when_it_came(self) -> None:
+        tab = self.open_stocked("shift/B-1")
+        tab.scan("B-9")
+        tab.has(f"B-9/0 at no place: 50 kg, came {day(1)}", f"{FORM}.querySelector('.said')")
+        tab.scan("A-007")
+        tab.has("There is nothing in lot A-007.", FORM)
+        tab.key("Escape")
+        tab.run("location.hash = 'warehouse/FLOUR'")
+        tab.click("Scrap", row="M-1/0")
+        tab.has(f"M-1/0 at W2: 200 kg, came {day(20)}", f"{FORM}.querySelector('.said')")
+        self.end(tab)
+
+    def test_free_lots_are_offered_behind_a_page_that_is_on_hold(self) -> None:
+        tab = self.open_stocked("shift/B-1")
+        self.open_consume(tab, "YEAST")
+        yeast = [f"K-{LOTS - it:03}/0" for it in range(LOTS)]
+        self.check("what is offered", tab.run(OFFERED), ["", *yeast[HELD:200], *yeast[:HELD]])
+        free = yeast[HELD:200]
+        self.check("what may be taken", tab.run(FREE), ["", *free])
+        tab.has("the oldest first; younger ones are scanned or typed", FORM)
+        self.choose(tab, "k-002")
+        self.choose(tab, free[0])
+        tab.fill("amount", 7)
+        self.press(tab)
+        tab.has(f"7 g of {free[0][:-2]} consumed.")
+        self.end(tab)
+
+    def test_free_of_a_material_is_all_that_is_there(self) -> None:
+        tab = self.open_stocked("warehouse/YEAST")
+        lots = self.all_lots("YEAST")
+        free = sum(it["stock"] for it in lots if not it["held"] and not it["recalled"])
+        held, recalled = (sum(it["stock"] for it in lots if it[part]) for part in ("held", "recalled"))
+        self.check("the amounts", (len(lots), free, held, recalled), (LOTS, 7 * (LOTS - HELD - 1), 7 * HELD, 7))
+        for text in (f"Free\n{free} g", f"On hold\n{held} g", f"Recalled\n{recalled} g", f"Lots with stock\n{LOTS}"):
+            tab.has(text, "document.querySelector('.facts')")
+        told = f"YEAST the YEAST {LOTS} {free} g {held} g on hold {recalled} g recalled"
+        self.check("the material in the list", self.text(tab, "YEAST").split(), told.split())
+        rows = [f"K-{LOTS - it:03}/0" for it in range(LOTS)]
+        self.check("the lots that are shown", tab.run(ROWS), rows[:100])
+        tab.click("1\u202f000 more", within="document.querySelector('.stack')")
+        tab.until(f"document.querySelector('[data-row=\"{rows[-1]}\"]') !== null", "the last lot")
+        self.check("all lots", tab.run(ROWS), rows)
+        self.end(tab)
+
+    def test_stock_of_a_material_is_seen_that_the_list_does_not_show(self) -> None:
+        last = f"P-{MATERIALS - 1:03}"
+        tab = self.open_stocked(f"warehouse/{last}")
+        tab.has("Free\n5 pcs", "document.querySelector('.facts')")
+        self.check("rows of it in the list", tab.run(f"document.querySelectorAll('[data-row=\"{last}\"]').length"), 0)
+        self.check("its lots", tab.run(ROWS), ["P-1/0"])
+        tab.run("location.hash = 'warehouse/P-000'")
+        tab.has("There is no P-000 in stock.")
+        tab.has("Free\n0 pcs", "document.querySelector('.facts')")
+        self.end(tab)
+
+    def test_used_up_lots_are_hidden_and_found(self) -> None:
+        tab = self.open_stocked("warehouse/FLOUR")
+        self.check("the lots that are shown", tab.run(ROWS), [f"{lot}/0" for lot, *_ in FLOUR])
+        for lot, days, *_ in FLOUR:
+            self.check_true(f"the day of {lot}", day(days) in self.text(tab, f"{lot}/0"))
+        tab.has("350 kg", "document.querySelector('[data-row=FLOUR]')")
+        tab.fill("find", "a-007")
+        tab.key("Enter")
+        tab.until("location.hash === '#warehouse/FLOUR/A-007'")
+        tab.has("Nothing is left of it.")
+        self.end(tab)
+
+    def test_views_of_stock_are_not_too_wide(self) -> None:
+        self.serve(begun=self.stocked)
+        for width in (390, 820, 1280, 1920):
+            for place in ("warehouse", "warehouse/YEAST", "shift/B-1"):
+                tab = self.open(place, width=width)
+                self.check(f"the width of {place} at {width}", tab.run("document.documentElement.scrollWidth"), width)
+                wide = "[...document.querySelectorAll('.wide')].filter((it) => it.scrollWidth > it.clientWidth).length"
+                self.check(f"tables of {place} at {width} that are scrolled sideways", tab.run(wide), 0)
+                self.end(tab)

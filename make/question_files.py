@@ -194,17 +194,18 @@ def cursor_of(listed: Listed, name: str) -> str:
 # What reads a cursor, by the variant of its value.
 CURSORS = {
     "Id": "id_cursor", "Amount": "number_cursor", "RecipeCursor": "recipe_cursor", "DueCursor": "due_cursor", "HoldCursor": "hold_cursor",
-    "MovementCursor": "movement_cursor",
+    "MovementCursor": "movement_cursor", "BirthCursor": "birth_cursor",
 }
 
 CURSOR_TYPES = {
     "Id": "Id", "Amount": "u64", "RecipeCursor": "Cursor<Id, u16>", "DueCursor": "Cursor<Due, Id>", "HoldCursor": "Cursor<Id, Id>",
-    "MovementCursor": "Cursor<u64, u16>",
+    "MovementCursor": "Cursor<u64, u16>", "BirthCursor": "Cursor<u64, Id>",
 }
 
 CURSOR_MEANINGS = {
     "Id": "List ℕ", "Amount": "ℕ", "RecipeCursor": "Cursor (List ℕ) ℕ", "DueCursor": "Cursor (List ℕ) (List ℕ)",
     "HoldCursor": "Cursor (List ℕ) (List ℕ)", "MovementCursor": "Cursor ℕ ℕ",
+    "BirthCursor": "Cursor ℕ (List ℕ)",
 }
 
 
@@ -244,8 +245,9 @@ def made(described: Described) -> str:
     newline = "\n"
     return f'''//! The question of a kind and of the values of its members.
 ghost use Rattle.std.specs.Prelude.{{◌≡◌}};
-ghost use Rattle.{SCHEMA}.specs.QuestionValues.{{about_by, around_by, due_cursor, hold_cursor}};
-ghost use Rattle.{SCHEMA}.specs.QuestionValues.{{id_cursor, list_by, list_of, movement_cursor}};
+ghost use Rattle.{SCHEMA}.specs.QuestionValues.{{about_by, around_by, birth_cursor, due_cursor}};
+ghost use Rattle.{SCHEMA}.specs.QuestionValues.{{hold_cursor, id_cursor, list_by, list_of}};
+ghost use Rattle.{SCHEMA}.specs.QuestionValues.{{movement_cursor}};
 ghost use Rattle.{SCHEMA}.specs.QuestionValues.{{number_cursor, question_by, recipe_cursor}};
 ghost use Rattle.{SCHEMA}.specs.QuestionValues.{{whole_list}};
 

@@ -48,6 +48,7 @@ CURSORS = {
     "due": Member("above", "AfterDue", "DueCursor"),
     "hold": Member("above", "AfterHold", "HoldCursor"),
     "movement": Member("above", "AfterMovement", "MovementCursor"),
+    "birth": Member("above", "AfterBirth", "BirthCursor"),
 }
 
 
@@ -140,6 +141,8 @@ QUESTIONS: list[typing.Union[Topic, Around, Listed]] = [
     Listed("recipes", "The versions of recipes in a state.", of="recipe_state", by="recipe"),
     Listed("movements", "The ledger of a lot.", of="lot", by="movement"),
     Listed("commands", "The commands that had references.", by="number"),
+    Listed("stock", "The lots of a definition that have stock, the oldest first.", of="def", by="birth"),
+    Listed("stocks", "What there is of the definitions of a class.", of="class"),
 ]
 
 

@@ -96,6 +96,10 @@ MOVEMENT = exact(
     to=or_null(ID), to_sub=or_null(SUB),
 )
 LOTS_AT = rows(exact(def_=ID, held=BOOL, lot=ID, recalled=BOOL, stock=COUNT, sublots=SUBLOTS))
+STOCKED_LOT = exact(
+    at=or_null(MOMENT), by=or_null(TEXT), held=BOOL, lot=ID, note=or_null(TEXT), recalled=BOOL, seq=or_null(SEQ), stock=AMOUNT, sublots=SUBLOTS,
+)
+DEFINITION_STOCK = exact(def_=ID, held=COUNT, lots=COUNT, name=TEXT, recalled=COUNT, unit=UNIT, usable=COUNT)
 NODE_ROW = exact(def_=ID, held=BOOL, lot=ID, recalled=BOOL, stock=COUNT, unit=UNIT)
 EDGES = exact(edges=rows(exact(amount=COUNT, from_=one_of(LOT, BATCH), to=one_of(LOT, BATCH))), nodes=rows(one_of(NODE_ROW, BATCH)))
 CHECKED = one_of(
@@ -145,6 +149,8 @@ def answers(states_of_orders: Schema, states_of_recipes: Schema, commands: Itera
         "recipes": page("recipes", RECIPE_ROW),
         "movements": page("movements", MOVEMENT),
         "commands": page("commands", one_of(exact(at=MOMENT, by=TEXT, do=words(*commands), note=TEXT, ref=ID, seq=SEQ), exact(ref=ID, seq=SEQ))),
+        "stock": page("lots", STOCKED_LOT),
+        "stocks": page("stocks", DEFINITION_STOCK),
     }
 
 

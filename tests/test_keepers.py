@@ -46,6 +46,10 @@ QUESTIONS = [
     '{"ask":"recipes","state":"approved","above":"%s.1"}',
     '{"ask":"movements","lot":"%s"}',
     '{"ask":"movements","lot":"%s","above":"9.1"}',
+    '{"ask":"stock","def":"%s"}',
+    '{"ask":"stock","def":"DOUGH","above":"17.%s"}',
+    '{"ask":"stocks","class":"%s"}',
+    '{"ask":"stocks","class":"RAW","above":"%s"}',
 ]
 
 # What is asked of nothing.
@@ -109,9 +113,11 @@ class Questions(KeeperTestCase):
         self.check("the keeper of lists", self.lists.run(told=told), (1, answers, b""))
 
     def check_migrated_file(self, questions: Sequence[str], answers: Sequence[bytes]) -> None:
-        """Takes the file back to the first schema, and asks what was known there: it has no recalls, so that none reaches a lot, and no receipts."""
+        """Takes the file back to the first schema, and asks what was known there: it has no recalls, so that none reaches a lot or counts in a sum,
+        and no receipts."""
         sqlite.changed(self.folder / "twenty.db", sqlite.TO_SCHEMA_1)
-        lasting = [(question, answer) for question, answer in zip(questions, answers) if "recall" not in question and '"commands"' not in question]
+        gone = ("recall", '"commands"', '"stocks"')
+        lasting = [(question, answer) for question, answer in zip(questions, answers) if not any(it in question for it in gone)]
         told = "".join(question + "\n" for question, _ in lasting).encode()
         wanted = b"".join(answer.replace(b'"recalled":true', b'"recalled":false') for _, answer in lasting)
         self.check_run("the file raised from the first schema", ["run", "twenty.db"], (1, wanted, b""), told)

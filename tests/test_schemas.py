@@ -38,7 +38,8 @@ VALUES = [
     "", "A", "a", "1", "-", "A-1", "A_1", "1A", "A" * 24, "A" * 25, "A\n", " ", "~", "~" * 8, "x" * 9, " " * 60, " " * 61, "\u00e4", "\t", "kg",
     "k g", "2027-03-01", "2027-02-29", "2028-02-29", "2000-02-29", "2099-12-31", "2100-01-01", "1999-12-31", "2027-04-31", "2027-13-01", "2027-3-1",
     "2027-03-01.O-1", "2027-02-29.O-1", "2027-03-01.", "A.1", "A.001", "A.1000", "A.", ".1", "A.B", "a.B", "A.B.C", "1.1", "1.A", "0" * 16 + ".0",
-    "0" * 17 + ".0", "1.1000", "start", "done", "Start", "open", "lifted", "draft", "approved", "in", "out", "par", "phase", "desk", "receive",
+    "0" * 17 + ".0", "0" * 16 + ".A", "0" * 17 + ".A", "1.a", "1.1000", "start", "done", "Start", "open", "lifted", "draft", "approved", "in", "out",
+    "par", "phase", "desk", "receive",
     0, 1, 9, 10, 128, 129, 999, 1000, 10**12, 253_402_300_799, 253_402_300_800, 10**15, 10**15 + 1, 2**64, -1, 0.5, True, False, None, [], {}, [1],
 ]  # fmt: skip
 
@@ -46,6 +47,7 @@ VALUES = [
 SAMPLES = {
     "id": "X-1", "text": "any", "unit": "kg", "due": "2027-03-01", "amount": 5, "moment": 100, "batch_word": "start", "order_state": "open",
     "recipe_state": "draft", "recipe_cursor": "X-1.1", "due_cursor": "2027-03-01.X-1", "hold_cursor": "X-1.X-2", "movement_cursor": "1.1",
+    "birth_cursor": "1.X-1",
 }  # fmt: skip
 
 # Lists of commands that are well formed as a whole.
@@ -220,7 +222,7 @@ PLACES = {
     "version": ["1", "001", "9", "1000", "A"],
     "recall": ["RC-1", "RC-2", "X-9", "x"],
     "state": ["open", "cancelled", "released", "finished", "draft", "approved", "withdrawn", "done"],
-    "above": ["A", "A.1", "2000-01-01.A", "A.A", "0.0", "1", "x"],
+    "above": ["A", "A.1", "2000-01-01.A", "A.A", "0.0", "0.A", "1", "x"],
 }
 
 HOST = "Host: 127.0.0.1"

@@ -44,7 +44,7 @@ NAME = "a" * 60
 LISTS = {
     "orders": "state", "batches": None, "lots": "def", "holds": "lot", "recalls": None, "definitions": "class", "recipes": "state",
     "movements": "lot", "closed_batches": None, "lifted_recalls": None, "classes": None, "all_holds": None, "orders_by_due": "state",
-    "commands": None,
+    "commands": None, "stock": "def", "stocks": "class",
 }
 
 REUSED = b'{"name":"RefReused","refused":31}\n'

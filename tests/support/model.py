@@ -14,7 +14,7 @@ from collections.abc import Callable, Collection, Iterable, Iterator, Mapping, S
 
 from tests.support import Json
 from tests.support.commands import (
-    GOODS, MOST, add_recipe, approve, compact, consume, import_orders, merge, phase_done, produce, recall, receive, release, say, settle, split,
+    GOODS, MOST, add_recipe, approve, compact, consume, hold, import_orders, merge, phase_done, produce, recall, receive, release, say, settle, split,
 )
 from tests.support.sessions import Session
 from tests.support.sqlite import Node, reached
@@ -240,6 +240,7 @@ class Genealogy:
     def __init__(self, name: str, numbers: random.Random) -> None:
         self.chance = numbers
         self.stock: dict[str, int] = {}
+        self.births: dict[str, int] = {}
         self.edges: dict[Node, list[Node]] = {}
         self.amounts: dict[tuple[Node, Node], int] = {}
         self.nodes = [(BATCH, f"B-{it}") for it in range(BATCHES)]
@@ -252,6 +253,7 @@ class Genealogy:
         """Adds a lot that came of these nodes, of each by as much, and returns its id: the first ones have the ids of the batches."""
         lot = f"B-{len(self.stock)}" if len(self.stock) < BATCHES else f"L-{len(self.stock)}"
         self.stock[lot] = amount
+        self.births[lot] = self.session.count() + 1
         self.nodes.append((LOT, lot))
         for it in sources:
             self.lead(it, (LOT, lot), amount // len(sources))
@@ -308,15 +310,39 @@ class Genealogy:
                 self.session.asked(compact({"ask": word, **asked}), compact({"nodes": nodes_told(found - {(kind, name)})}))
                 self.session.asked(compact({"ask": f"{word}_edges", **asked}), compact(self.genealogy(found)))
             self.session.asked(compact({"ask": "stands", **asked}), compact({"lots": self.standing(reached(self.edges, (kind, name)))}))
-        self.recall(self.chance.sample(sorted(self.stock), 4))
+        self.ask_stock(self.recall(self.chance.sample(sorted(self.stock), 4)), self.chance.sample(sorted(self.stock), 3))
         return self.session
 
-    def recall(self, lots: Iterable[str]) -> None:
-        """Recalls lots, and asks what each recall reaches."""
+    def recall(self, lots: Iterable[str]) -> set[Node]:
+        """Recalls lots, asks what each recall reaches, and returns what all reach."""
+        blocked: set[Node] = set()
         for number, lot in enumerate(lots):
-            name, nodes = f"RC-{number}", nodes_told(reached(self.edges, (LOT, lot)))
+            found = reached(self.edges, (LOT, lot))
+            blocked |= found
+            name, nodes = f"RC-{number}", nodes_told(found)
             self.session.accepted(recall(lot, name))
             self.session.asked(f'{{"ask":"recall","recall":"{name}"}}', compact({"lot": lot, "nodes": nodes, "recall": name, "state": "open"}))
+        return blocked
+
+    def ask_stock(self, blocked: Collection[Node], held: Collection[str]) -> None:
+        """Holds lots, asks for all lots with stock by the bookings that made them, behind each of them, and for the sums of what they have."""
+        self.session.accepted(*map(hold, held))
+        lots = sorted((seq, lot) for lot, seq in self.births.items() if self.stock[lot])
+        made = {"at": 100, "by": "", "note": ""}
+        rows: list[dict[str, Json]] = [{
+            **made, "held": lot in held, "lot": lot, "recalled": (LOT, lot) in blocked, "seq": seq, "stock": self.stock[lot],
+            "sublots": [{"no": 0, "place": "", "stock": self.stock[lot]}],
+        } for seq, lot in lots]
+        for count in range(len(rows) + 1):
+            above = {"above": "%d.%s" % lots[count - 1]} if count else {}
+            self.session.asked(compact({"ask": "stock", "def": "SUGAR", **above}), compact({"lots": rows[count:], "more": False}))
+        sums = {
+            "held": sum(it["stock"] for it in rows if it["held"]),
+            "recalled": sum(it["stock"] for it in rows if it["recalled"]),
+            "usable": sum(it["stock"] for it in rows if not it["held"] and not it["recalled"]),
+        }
+        told = {**sums, "def": "SUGAR", "lots": len(rows), "name": "", "unit": "g"}
+        self.session.asked('{"ask":"stocks","class":"RAW"}', compact({"more": False, "stocks": [told]}))
 
     def known(self, lot: str) -> dict[str, Json]:
         return {"def": "SUGAR", "held": False, "lot": lot, "stock": self.stock[lot]}

@@ -42,3 +42,5 @@ place_of_asked (asked.List list.Definitions) = 25
 place_of_asked (asked.List list.Recipes) = 26
 place_of_asked (asked.List list.Movements) = 27
 place_of_asked (asked.List list.Commands) = 28
+place_of_asked (asked.List list.Stock) = 29
+place_of_asked (asked.List list.Stocks) = 30

@@ -38,5 +38,7 @@ pub(crate) fn question_words() -> &'static [&'static str]
         "recipes",
         "movements",
         "commands",
+        "stock",
+        "stocks",
     ]
 }

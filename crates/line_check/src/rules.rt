@@ -33,6 +33,9 @@ const HOLD_CURSOR: &str = "^[A-Z][A-Z0-9-]{0,23}[.][A-Z][A-Z0-9-]{0,23}$";
 /// A place in a ledger.
 const MOVEMENT_CURSOR: &str = "^[0-9]{1,16}[.][0-9]{1,3}$";
 
+/// A place in a list of lots by the bookings that made them.
+const BIRTH_CURSOR: &str = "^[0-9]{1,16}[.][A-Z][A-Z0-9-]{0,23}$";
+
 /// The words for a batch.
 const BATCH_WORDS: [&str; 8] = [
     "start", "hold", "restart", "stop", "abort", "reset", "pause", "resume",
@@ -45,7 +48,7 @@ const ORDER_STATES: [&str; 4] = ["open", "cancelled", "released", "finished"];
 const RECIPE_STATES: [&str; 3] = ["draft", "approved", "withdrawn"];
 
 /// The rules that have a definition of their own, to which members refer.
-pub(crate) const DEFINED: [MemberRule; 13] = [
+pub(crate) const DEFINED: [MemberRule; 14] = [
     MemberRule::Id,
     MemberRule::Text,
     MemberRule::Unit,
@@ -59,6 +62,7 @@ pub(crate) const DEFINED: [MemberRule; 13] = [
     MemberRule::DueCursor,
     MemberRule::HoldCursor,
     MemberRule::MovementCursor,
+    MemberRule::BirthCursor,
 ];
 
 /// The name of a rule's definition, `None` where it has none.
@@ -77,6 +81,7 @@ pub(crate) fn name_of(rule: MemberRule) -> Option<&'static str> {
         MemberRule::DueCursor => Some("due_cursor"),
         MemberRule::HoldCursor => Some("hold_cursor"),
         MemberRule::MovementCursor => Some("movement_cursor"),
+        MemberRule::BirthCursor => Some("birth_cursor"),
         MemberRule::Number(_, _) | MemberRule::Small(_, _) => None,
         MemberRule::Command | MemberRule::Question | MemberRule::Kind => None,
         MemberRule::List | MemberRule::Object => None,
@@ -115,6 +120,7 @@ pub(crate) fn rule_value(alloc: Global, rule: MemberRule) -> Result<Value, Alloc
         MemberRule::DueCursor => pattern_value(alloc, says, DUE_CURSOR),
         MemberRule::HoldCursor => pattern_value(alloc, says, HOLD_CURSOR),
         MemberRule::MovementCursor => pattern_value(alloc, says, MOVEMENT_CURSOR),
+        MemberRule::BirthCursor => pattern_value(alloc, says, BIRTH_CURSOR),
         MemberRule::Amount => range_value(alloc, says, 1, GREATEST_AMOUNT),
         MemberRule::Moment => range_value(alloc, says, 0, GREATEST_MOMENT),
         MemberRule::Number(least, greatest) => {

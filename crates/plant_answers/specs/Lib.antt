@@ -11,7 +11,10 @@ pub mod AnswerLaws
 pub mod KnownLots
 pub mod LotAnswers
 pub mod ListAnswers
+pub mod StandingLots
 pub mod RecallAnswers
+pub mod Stock
+pub mod StockOrder
 pub mod Traces
 pub mod RecipeAnswers
 pub use Answering.{IsFoundOf, IsRowOf}

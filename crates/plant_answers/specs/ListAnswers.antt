@@ -1,14 +1,14 @@
 -- What is answered of a list.
-use Rattle.std.specs.Prelude.{ℕ, ◌-◌, true, false, List, Option, Some, None, length, map, nat_lt, option_map, slice_get, if◌then◌else◌, filter_map}
+use Rattle.std.specs.Prelude.{ℕ, ◌-◌, true, false, List, Option, Some, None, length, map, option_map, slice_get, filter_map}
 use Rattle.plant_base.specs.{State, class_at, control_lines_of, definition_at, lot_at, BatchRow, Lot, Receipt, RecipeLine, Refusal}
 use Rattle.plant_base.specs.declared.refusal.Refusal.TheVariants.{UnknownClass, UnknownDefinition, UnknownLot}
 use Rattle.plant_base.specs.declared.rows.RecipeLine.TheVariants.{In, Out, Parameter, Phase}
-use Rattle.plant_view.specs.{is_blocked}
 use Rattle.plant_questions.specs.{page_of, orders_in, orders_by_due, receipts_by_number, batches_in, lots_of, holds_on, recalls_in, classes_after, definitions_in, recipes_in, ledger_of, all_holds, ListQuestion, Page}
 use Rattle.plant_questions.specs.declared.list_question.ListQuestion.TheVariants as list
 use Rattle.plant_answers.specs.CommandHeads.{head_of}
-use Rattle.plant_answers.specs.LotAnswers.{lot_answer}
-use Rattle.plant_questions.specs.{Answer, BookedCommand, Listed, LotPage, OpenBatch, StandingLot}
+pub use Rattle.plant_answers.specs.StandingLots.{if_stocked, standing_lot, stocked_lot}
+use Rattle.plant_answers.specs.Stock.{stock_page, stocks_page}
+use Rattle.plant_questions.specs.{Answer, BookedCommand, Listed, LotPage, OpenBatch}
 use Rattle.plant_questions.specs.declared.listed.Listed.TheVariants as listed
 use Rattle.plant_questions.specs.declared.question.Answer.TheVariants as A
 
@@ -36,16 +36,6 @@ batch_page s page = record { rows = map (open_batch s) page.rows; has_more = pag
 
 -- ---- lots
 
-abbrev pub standing_lot : State → Lot → StandingLot
-standing_lot s l = record { known = lot_answer s l; recalled = is_blocked s l.id }
-
-abbrev pub if_stocked : StandingLot → Option StandingLot
-if_stocked a = if nat_lt 0 a.known.stock then Some a else None
-
--- what is known of a lot, where it has stock
-abbrev pub stocked_lot : State → Lot → Option StandingLot
-stocked_lot s l = if_stocked (standing_lot s l)
-
 abbrev pub lot_page : State → Page Lot → LotPage
 lot_page s page = record { lots = filter_map (stocked_lot s) page.rows; last = option_map (λ l. l.id) (slice_get page.rows (length page.rows - 1)); has_more = page.has_more }
 
@@ -70,6 +60,8 @@ unknown_of s (list.Lots def cursor) = unless_there (definition_at s def) Unknown
 unknown_of s (list.Holds lot cursor) = unless_there (lot_at s lot) UnknownLot
 unknown_of s (list.Definitions class cursor) = unless_there (class_at s class) UnknownClass
 unknown_of s (list.Movements lot cursor) = unless_there (lot_at s lot) UnknownLot
+unknown_of s (list.Stock def cursor) = unless_there (definition_at s def) UnknownDefinition
+unknown_of s (list.Stocks class cursor) = unless_there (class_at s class) UnknownClass
 unknown_of s _ = None
 
 -- the page: what comes after the cursor, or the beginning where none is given
@@ -88,6 +80,8 @@ listed_of s (list.Definitions class cursor) = listed.Definitions (page_of (defin
 listed_of s (list.Recipes state cursor) = listed.Recipes (page_of (recipes_in s state cursor))
 listed_of s (list.Movements lot cursor) = listed.Ledger (page_of (ledger_of s lot cursor))
 listed_of s (list.Commands cursor) = listed.Commands (command_page (page_of (receipts_by_number s cursor)))
+listed_of s (list.Stock def cursor) = listed.Stock (stock_page s def cursor)
+listed_of s (list.Stocks class cursor) = listed.Stocks (stocks_page s class cursor)
 
 abbrev pub unless_unknown : Option Refusal → Listed → Answer
 unless_unknown (Some refusal) rows = A.Unknown refusal

@@ -5,7 +5,7 @@ use Rattle.plant_trace.specs.{node_cmp, Direction, Node}
 use Rattle.plant_trace.specs.declared.direction.Direction.TheVariants.{Forward}
 use Rattle.plant_trace.specs.declared.node.Node.TheVariants as node
 use Rattle.plant_answers.specs.Traces.{trace_of}
-use Rattle.plant_answers.specs.ListAnswers.{stocked_lot}
+use Rattle.plant_answers.specs.StandingLots.{stocked_lot}
 use Rattle.plant_questions.specs.{Answer, StandingLot}
 use Rattle.plant_questions.specs.declared.question.Answer.TheVariants as A
 

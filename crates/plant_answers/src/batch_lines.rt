@@ -108,7 +108,7 @@ fn booked_in(line: RecipeLine, consumed: &[Booking], produced: &[Booking]) -> u6
     }
 }
 
-fn in_64_bits(number: u128) -> u64
+pub(crate) fn in_64_bits(number: u128) -> u64
     ensures { result ≡ in_64_bits number }
 {
     u64::try_from(number).unwrap_or(u64::MAX)

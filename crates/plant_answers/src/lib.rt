@@ -19,7 +19,9 @@ mod open_batches;
 mod recalls;
 mod recipe_answers;
 mod standing;
+mod stock;
 mod stocked_lots;
+mod stocks;
 mod traces;
 
 pub use answering::answer;

@@ -6,7 +6,9 @@ ghost use Rattle.plant_answers.specs.ListAnswers.{answer_list, listed_of, unknow
 
 use crate::commands::command_page;
 use crate::open_batches::batch_page;
+use crate::stock::stock_page;
 use crate::stocked_lots::lot_page;
+use crate::stocks::stocks_page;
 use plant_base::Refusal;
 use plant_questions::{Answer, ListQuestion, Listed, Worklists, all_holds};
 use plant_view::{View, ViewFault, lookup};
@@ -37,7 +39,7 @@ fn unknown_of<V: View>(
         (IfOk result (λ refusal. refusal ≡ unknown_of (V.state view.old) list)) }
 {
     match list {
-        ListQuestion::Lots(def, _) => {
+        ListQuestion::Lots(def, _) | ListQuestion::Stock(def, _) => {
             let known = lookup::definition(view, def)?;
             Ok(unless_there(known, Refusal::UnknownDefinition))
         }
@@ -45,7 +47,7 @@ fn unknown_of<V: View>(
             let known = lookup::lot(view, lot)?;
             Ok(unless_there(known, Refusal::UnknownLot))
         }
-        ListQuestion::Definitions(class, _) => {
+        ListQuestion::Definitions(class, _) | ListQuestion::Stocks(class, _) => {
             let known = lookup::class(view, class)?;
             Ok(unless_there(known, Refusal::UnknownClass))
         }
@@ -110,5 +112,11 @@ fn listed_of<V: Worklists>(
             Ok(Listed::Ledger(view.ledger_of(lot, cursor).map_err(ViewFault::View)?))
         }
         ListQuestion::Commands(cursor) => Ok(Listed::Commands(command_page(alloc, view, cursor)?)),
+        ListQuestion::Stock(def, cursor) => {
+            Ok(Listed::Stock(stock_page(alloc, view, def, cursor)?))
+        }
+        ListQuestion::Stocks(class, cursor) => {
+            Ok(Listed::Stocks(stocks_page(alloc, view, class, cursor)?))
+        }
     }
 }

@@ -7,7 +7,7 @@ ghost use Rattle.plant_questions.specs.{in_order};
 
 use crate::batches::batch_row;
 use crate::keys::copy_of;
-use crate::lots::{movements_into, stocked};
+use crate::lots::{left_in, movements_into, stocked};
 use crate::view::ListsView;
 use plant_base::{
     Batch, BatchEvent, BatchRow, Class, ControlLine, Definition, Due, Hold, Id, Job, JobState, Lot,
@@ -172,6 +172,13 @@ impl<'a> Worklists for ListsView<'a> {
         let places = sublots_beyond(lists.alloc, &lists.places, cursor)?;
         let rows = stocked(lists.alloc, places.as_slice(), &lists.movements)?;
         Ok(first_page(rows))
+    }
+
+    // The stock of each sublot is counted by all movements.
+    fn sublots_in_stock(&mut self) -> Result<Vec<Sublot>, AllocError> {
+        let lists = self.lists;
+        let rows = stocked(lists.alloc, &lists.places, &lists.movements)?;
+        left_in(lists.alloc, rows.as_slice())
     }
 
     fn holds_after(&mut self, cursor: Option<Id>) -> Result<Page<Hold>, AllocError> {

@@ -105,6 +105,18 @@ pub no_number : target_of (codes "/v1/lists/commands/0") ≡ None
 unfolding matchit_on_literals found_in digits_of
 no_number = refl
 
+pub further_stock : target_of (codes "/v1/lists/stock/FLOUR/12.F-1") ≡ Some (target.Question (Q.List (list.Stock (codes "FLOUR") (Some (record { first = 12; second = codes "F-1" })))) Json)
+unfolding matchit_on_literals found_in digits_of
+further_stock = refl
+
+pub stock_behind_an_id : target_of (codes "/v1/lists/stock/FLOUR/F-1") ≡ None
+unfolding matchit_on_literals found_in digits_of
+stock_behind_an_id = refl
+
+pub stocks : target_of (codes "/v1/lists/stocks/RAW") ≡ Some (target.Question (Q.List (list.Stocks (codes "RAW") None)) Json)
+unfolding matchit_on_literals found_in
+stocks = refl
+
 -- the web page has no route: which profile has it, and who may ask for it, is judged elsewhere
 pub page : target_of (codes "/") ≡ None
 unfolding matchit_on_literals found_in

@@ -203,5 +203,21 @@ pub(crate) fn routes() -> &'static [(&'static str, Route)]
             "/v1/lists/commands/{above}",
             Route::Question(QuestionKind::List(ListKind::Commands)),
         ),
+        (
+            "/v1/lists/stock/{def}",
+            Route::Question(QuestionKind::List(ListKind::Stock)),
+        ),
+        (
+            "/v1/lists/stock/{def}/{above}",
+            Route::Question(QuestionKind::List(ListKind::Stock)),
+        ),
+        (
+            "/v1/lists/stocks/{class}",
+            Route::Question(QuestionKind::List(ListKind::Stocks)),
+        ),
+        (
+            "/v1/lists/stocks/{class}/{above}",
+            Route::Question(QuestionKind::List(ListKind::Stocks)),
+        ),
     ]
 }

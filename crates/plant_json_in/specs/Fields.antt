@@ -44,6 +44,7 @@ field_of_text rule.RecipeCursor text = option_map field.RecipeCursor (cursor_in 
 field_of_text rule.DueCursor text = option_map field.DueCursor (cursor_in (only is_due) (only is_id) text)
 field_of_text rule.HoldCursor text = option_map field.HoldCursor (cursor_in (only is_id) (only is_id) text)
 field_of_text rule.MovementCursor text = option_map field.MovementCursor (cursor_in (digits_of 16) (digits_of 3) text)
+field_of_text rule.BirthCursor text = option_map field.BirthCursor (cursor_in (digits_of 16) (only is_id) text)
 field_of_text rule.Command text = chosen (command_kind text)
 field_of_text rule.Question text = chosen (asked_kind text)
 field_of_text rule.Kind text = chosen (line_kind text)

@@ -56,6 +56,7 @@ entry_of m.AfterRecipe = (codes "above", rule.RecipeCursor)
 entry_of m.AfterDue = (codes "above", rule.DueCursor)
 entry_of m.AfterHold = (codes "above", rule.HoldCursor)
 entry_of m.AfterMovement = (codes "above", rule.MovementCursor)
+entry_of m.AfterBirth = (codes "above", rule.BirthCursor)
 entry_of m.AfterNumber = (codes "above", rule.Amount)
 entry_of m.Command = (codes "command", rule.Object)
 
@@ -74,6 +75,7 @@ is_needed m.AfterRecipe = false
 is_needed m.AfterDue = false
 is_needed m.AfterHold = false
 is_needed m.AfterMovement = false
+is_needed m.AfterBirth = false
 is_needed m.AfterNumber = false
 is_needed _ = true
 
@@ -97,6 +99,7 @@ rule_text rule.RecipeCursor = codes "a recipe and a version of at most 3 digits,
 rule_text rule.DueCursor = codes "a due date and an order, with a dot between them"
 rule_text rule.HoldCursor = codes "a lot and a hold, with a dot between them"
 rule_text rule.MovementCursor = codes "a number of at most 16 digits and a line of at most 3, with a dot between them"
+rule_text rule.BirthCursor = codes "a number of at most 16 digits and a lot, with a dot between them"
 rule_text rule.Command = codes "the word of a command"
 rule_text rule.Question = codes "the word of a question"
 rule_text rule.Kind = codes "one of in, out, par and phase"

@@ -51,6 +51,11 @@ movement_cursor field.Absent = Some None
 movement_cursor (field.MovementCursor cursor) = Some (Some cursor)
 movement_cursor _ = None
 
+abbrev pub birth_cursor : Field → Option (Option (Cursor ℕ (List ℕ)))
+birth_cursor field.Absent = Some None
+birth_cursor (field.BirthCursor cursor) = Some (Some cursor)
+birth_cursor _ = None
+
 abbrev pub about_by : Topic → List Field → Option Question
 about_by topic.Desk ([]) = Some Q.Desk
 about_by topic.Lot (field.Id lot ∷ []) = Some (Q.Lot lot)
@@ -90,6 +95,8 @@ list_of list.Holds (field.Id lot) cursor = option_map (L.Holds lot) (id_cursor c
 list_of list.Definitions (field.Id class) cursor = option_map (L.Definitions class) (id_cursor cursor)
 list_of list.Recipes (field.RecipeState state) cursor = option_map (L.Recipes state) (recipe_cursor cursor)
 list_of list.Movements (field.Id lot) cursor = option_map (L.Movements lot) (movement_cursor cursor)
+list_of list.Stock (field.Id def) cursor = option_map (L.Stock def) (birth_cursor cursor)
+list_of list.Stocks (field.Id class) cursor = option_map (L.Stocks class) (id_cursor cursor)
 list_of _ of cursor = None
 
 abbrev pub list_by : ListKind → List Field → Option ListQuestion

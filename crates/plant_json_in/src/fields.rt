@@ -54,6 +54,8 @@ pub enum Field {
     HoldCursor(Cursor<Id, Id>),
     /// A cursor in a ledger.
     MovementCursor(Cursor<u64, u16>),
+    /// A cursor in a list of lots by the bookings that made them.
+    BirthCursor(Cursor<u64, Id>),
     /// A word that chose the object's shape.
     Chosen,
     /// A list is there, whose rows are read after the other members.
@@ -191,6 +193,7 @@ fn field_of_text(rule: MemberRule, text: &str) -> Option<Field>
         MemberRule::DueCursor => Some(Field::DueCursor(Cursor::read(text)?)),
         MemberRule::HoldCursor => Some(Field::HoldCursor(Cursor::read(text)?)),
         MemberRule::MovementCursor => Some(Field::MovementCursor(Cursor::read(text)?)),
+        MemberRule::BirthCursor => Some(Field::BirthCursor(Cursor::read(text)?)),
         MemberRule::Command => chosen(command_kind(text)),
         MemberRule::Question => chosen(asked_kind(text)),
         MemberRule::Kind => chosen(line_kind(text)),

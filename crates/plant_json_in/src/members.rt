@@ -41,6 +41,8 @@ pub enum MemberRule {
     HoldCursor,
     /// A cursor in a ledger.
     MovementCursor,
+    /// A cursor in a list of lots by the bookings that made them.
+    BirthCursor,
     /// The word of a command.
     Command,
     /// The word of a question.
@@ -95,6 +97,9 @@ impl fmt::Display for MemberRule {
             MemberRule::HoldCursor => f.write_str("a lot and a hold, with a dot between them"),
             MemberRule::MovementCursor => f.write_str(
                 "a number of at most 16 digits and a line of at most 3, with a dot between them",
+            ),
+            MemberRule::BirthCursor => f.write_str(
+                "a number of at most 16 digits and a lot, with a dot between them",
             ),
             MemberRule::Command => f.write_str("the word of a command"),
             MemberRule::Question => f.write_str("the word of a question"),
@@ -204,6 +209,8 @@ pub enum Member {
     AfterHold,
     /// The cursor that the movements of a page come after, which may be left out.
     AfterMovement,
+    /// The cursor that the lots of a page by the bookings that made them come after, which may be left out.
+    AfterBirth,
     /// The number that the commands of a page come after, which may be left out.
     AfterNumber,
     /// The command that is to be checked.
@@ -265,6 +272,7 @@ impl Member {
             Member::AfterDue => ("above", MemberRule::DueCursor),
             Member::AfterHold => ("above", MemberRule::HoldCursor),
             Member::AfterMovement => ("above", MemberRule::MovementCursor),
+            Member::AfterBirth => ("above", MemberRule::BirthCursor),
             Member::AfterNumber => ("above", MemberRule::Amount),
             Member::Command => ("command", MemberRule::Object),
         }
@@ -291,7 +299,8 @@ impl Member {
         match self {
             Member::Note | Member::Reference => false,
             Member::Above | Member::AfterRecipe | Member::AfterHold => false,
-            Member::AfterMovement | Member::AfterDue | Member::AfterNumber => false,
+            Member::AfterMovement | Member::AfterBirth => false,
+            Member::AfterDue | Member::AfterNumber => false,
             _ => true,
         }
     }

@@ -5,8 +5,8 @@ ghost use Rattle.plant_json_in.specs.QuestionTables.{asked_kind, question_member
 ghost use Rattle.plant_json_in.specs.Tables.{most_members};
 
 use crate::members::Member::{
-    self, Above, AfterDue, AfterHold, AfterMovement, AfterNumber, AfterRecipe, Batch, Class,
-    Definition, Lot, Order, Recall, Recipe, RecipeState, State, Version,
+    self, Above, AfterBirth, AfterDue, AfterHold, AfterMovement, AfterNumber, AfterRecipe, Batch,
+    Class, Definition, Lot, Order, Recall, Recipe, RecipeState, State, Version,
 };
 
 /// What is asked about: one thing, or the desk itself.
@@ -85,6 +85,10 @@ pub enum ListKind {
     Movements,
     /// The commands that had references.
     Commands,
+    /// The lots of a definition that have stock, the oldest first.
+    Stock,
+    /// What there is of the definitions of a class.
+    Stocks,
 }
 
 /// Which question is asked: its members follow from it.
@@ -146,6 +150,8 @@ pub fn asked_kind(word: &str) -> Option<AskedKind>
         "recipes" => Some(AskedKind::List(ListKind::Recipes)),
         "movements" => Some(AskedKind::List(ListKind::Movements)),
         "commands" => Some(AskedKind::List(ListKind::Commands)),
+        "stock" => Some(AskedKind::List(ListKind::Stock)),
+        "stocks" => Some(AskedKind::List(ListKind::Stocks)),
         _ => None,
     }
 }
@@ -181,5 +187,7 @@ pub fn question_members(kind: QuestionKind) -> &'static [Member]
         QuestionKind::List(ListKind::Recipes) => &[RecipeState, AfterRecipe],
         QuestionKind::List(ListKind::Movements) => &[Lot, AfterMovement],
         QuestionKind::List(ListKind::Commands) => &[AfterNumber],
+        QuestionKind::List(ListKind::Stock) => &[Definition, AfterBirth],
+        QuestionKind::List(ListKind::Stocks) => &[Class, Above],
     }
 }

@@ -1,10 +1,11 @@
 -- A page of a table of a valid state is the first of the rows that pass.
-use Rattle.std.proofs.Common.{◌≡◌, ◌∙◌, ◌≤◌, ◌+◌, ℕ, zero, suc, Bool, false, List, [], ◌∷◌, map, filter, take, length, nat_lt, Option, Some, refl, sym, ap, subst, arith, IsSorted, IsPermutation, is_lt, Ordering, Less, Equal, Greater}
+use Rattle.std.proofs.Common.{◌≡◌, ◌∙◌, ◌≤◌, ◌+◌, ℕ, zero, suc, Bool, true, false, List, [], ◌∷◌, map, filter, take, length, nat_lt, Option, Some, refl, sym, ap, subst, arith, IsSorted, IsPermutation, is_lt, Ordering, Less, Equal, Greater}
 use Rattle.std.specs.List.{AllByRecursion}
 use Rattle.std.specs.List.Sorted.{IsStrictlySortedBy}
 use Rattle.std.specs.Cmp.{IsTotalOrder}
 use Rattle.std.specs.Ordering.{ordering_reverse}
 use Rattle.std.proofs.lemmas.Bool.{false≢true}
+use Rattle.std.proofs.lemmas.Bool.Decides.{nat_tests}
 use Rattle.std.proofs.lemmas.Cmp.{then_total, on_total}
 use Rattle.std.proofs.lemmas.List.{length-map}
 use Rattle.std.proofs.lemmas.List.Kept.{IsStrictlySortedBy-filter}
@@ -17,7 +18,7 @@ use Rattle.sqlite_trees.proofs.ListLemmas.{IsPermutation-filter, all-permutation
 use Rattle.plant_base.specs.{put}
 use Rattle.sql_tables.specs.{TableDef, columns_of, HasStoredRows}
 use Rattle.sql_queries.proofs.RowsUpToOrder.{one_tree}
-use Rattle.sql_queries.specs.{is_beyond, stored_order}
+use Rattle.sql_queries.specs.{IsPage, is_beyond, stored_order}
 use Rattle.plant_tables.proofs.RowChangeIsTableChange.{all_filter}
 use Rattle.plant_tables_columns.specs.{all_from}
 use Rattle.plant_tables_columns.proofs.OptionalValues.{some_same}
@@ -75,14 +76,20 @@ all_take P zero xs all = tt
 all_take P (suc n) [] all = tt
 all_take P (suc n) (x ∷ xs) all = (all.0, all_take P n xs all.1)
 
+take_all : {X : Type 0} (n : ℕ) (xs : List X) → nat_lt n (length xs) ≡ false → take n xs ≡ xs
+take_all zero [] e = refl
+take_all zero (x ∷ xs) e = let yes : nat_lt 0 (length (x ∷ xs)) ≡ true = grind (arith, nat_tests) in absurd (false≢true (sym e ∙ yes))
+take_all (suc n) [] e = refl
+take_all (suc n) (x ∷ xs) e = ap (λ ys. x ∷ ys) (take_all n xs (let still : nat_lt n (length xs) ≡ false = grind (arith, nat_tests) in still))
+
 module _ {R : Type 0} (row_from : Row → Option R) (written : R → Row) (P : R → Type 0) (again : (r : R) → P r → row_from (written r) ≡ Some r) (table_def : TableDef) (by : List ℕ) (order : R → R → Ordering)
     (by_columns : (a b : R) → order a b ≡ stored_order by (written a) (written b))
     (db : Database) (rs : List R) (represents : HasStoredRows db table_def (map written rs)) (sorted : IsStrictlySortedBy order rs) (all : AllByRecursion P rs)
     (places : List ℕ) (next : ℕ) (values : Row) (p : R → Bool) (tests : (r : R) → is_beyond places next values (written r) ≡ p r) where
-  -- the rows of a page in the order of their list are the first of those that pass, as they were written
-  pub page_again : (page : Page R) → IsPaged db table_def by row_from places next values page → page ≡ page_of (filter p rs)
-  page_again page is =
-      let paged = is.paged in
+  -- rows that were read up to a number are the first of those that pass, as they were written
+  read_again : (most : ℕ) (stored : List Row) (has_more : Bool) (rows : List R) → IsPage db table_def by places next values most stored has_more → all_from row_from stored ≡ Some rows
+      → (rows ≡ take most (filter p rs)) × (has_more ≡ nat_lt most (length (filter p rs)))
+  read_again most stored has_more rows paged read =
       let key = stored_order by in
       let total = stored_total by in
       let here = map (columns_of table_def) (db.trees represents.tree) in
@@ -96,11 +103,23 @@ module _ {R : Type 0} (row_from : Row → Option R) (written : R → Row) (P : R
       let put_back : in_order key paged.whole ≡ list = again_in_order key total list paged.whole strict turned in
       let long : length (in_order key paged.whole) ≡ length paged.whole = ap length put_back ∙ length_permutation paged.whole list moved in
       let one : paged.whole ≡ list = sym (stays_in_order key total paged.whole paged.sorted long) ∙ put_back in
-      let cut : is.stored ≡ map written (take page_size (filter p rs)) = paged.cut ∙ ap (take page_size) one ∙ take_mapped written page_size (filter p rs) in
-      let reported : all_from row_from is.stored ≡ Some (map (λ r. r) (take page_size (filter p rs))) = ap (all_from row_from) cut ∙ all_again row_from written (λ r. r) P again (take page_size (filter p rs)) (all_take P page_size (filter p rs) (all_filter P p rs all)) in
-      let rows_are : page.rows ≡ take page_size (filter p rs) = some_same page.rows (map (λ r. r) (take page_size (filter p rs))) (sym is.read ∙ reported) ∙ map_same (take page_size (filter p rs)) in
-      let more_is : page.has_more ≡ nat_lt page_size (length (filter p rs)) = paged.reported ∙ ap (λ l. nat_lt page_size (length l)) one ∙ ap (nat_lt page_size) (length-map (filter p rs) written) in
-      λ i. record { rows = rows_are i; has_more = more_is i }
+      let cut : stored ≡ map written (take most (filter p rs)) = paged.cut ∙ ap (take most) one ∙ take_mapped written most (filter p rs) in
+      let reported : all_from row_from stored ≡ Some (map (λ r. r) (take most (filter p rs))) = ap (all_from row_from) cut ∙ all_again row_from written (λ r. r) P again (take most (filter p rs)) (all_take P most (filter p rs) (all_filter P p rs all)) in
+      let rows_are : rows ≡ take most (filter p rs) = some_same rows (map (λ r. r) (take most (filter p rs))) (sym read ∙ reported) ∙ map_same (take most (filter p rs)) in
+      let more_is : has_more ≡ nat_lt most (length (filter p rs)) = paged.reported ∙ ap (λ l. nat_lt most (length l)) one ∙ ap (nat_lt most) (length-map (filter p rs) written) in
+      (rows_are, more_is)
+
+  -- the rows of a page in the order of their list are the first of those that pass
+  pub page_again : (page : Page R) → IsPaged db table_def by row_from places next values page → page ≡ page_of (filter p rs)
+  page_again page is =
+      let both = read_again page_size is.stored page.has_more page.rows is.paged is.read in
+      λ i. record { rows = both.0 i; has_more = both.1 i }
+
+  -- those of which no more are behind are all that pass
+  pub whole_again : (most : ℕ) (stored : List Row) (rows : List R) → IsPage db table_def by places next values most stored false → all_from row_from stored ≡ Some rows → rows ≡ filter p rs
+  whole_again most stored rows paged read =
+      let both = read_again most stored false rows paged read in
+      both.0 ∙ take_all most (filter p rs) (sym both.1)
 
 -- ---- a page in another order than that of the list
 

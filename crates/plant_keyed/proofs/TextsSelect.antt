@@ -50,6 +50,12 @@ pub holds_after : SelectsPage hold_table (first_of hold_table.keys) [] 1 (codes 
 unfolding everything
 holds_after = record { readable = refl; compared = refl; bounded = refl; ordered = refl; parameters = codes "?1" ∷ codes "?2" ∷ []; written = refl }
 
+-- ---- all rows with more than an amount
+
+pub sublots_above : SelectsPage sublot_table (first_of sublot_table.keys) [] 4 (codes "SELECT lot, no, place, stock FROM sublot WHERE stock > ?1 ORDER BY lot, no LIMIT ?2")
+unfolding everything
+sublots_above = record { readable = refl; compared = refl; bounded = refl; ordered = refl; parameters = codes "?1" ∷ codes "?2" ∷ []; written = refl }
+
 -- ---- pages of lists whose keys are of two values
 
 pub recipes_in_state_at : SelectsPage recipe_table (first_of recipe_table.keys) (8 ∷ 1 ∷ []) 2 (codes "SELECT id, version, product, base, low, high, title, state FROM recipe WHERE state = ?1 AND id = ?2 AND version > ?3 ORDER BY id, version LIMIT ?4")

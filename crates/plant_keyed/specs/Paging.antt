@@ -1,5 +1,5 @@
 -- A page of the desk's rows.
-use Rattle.std.specs.Prelude.{◌≡◌, ◌+◌, ℕ, true, List, [], ◌∷◌, Option, Some}
+use Rattle.std.specs.Prelude.{◌≡◌, ◌+◌, ℕ, false, true, List, [], ◌∷◌, Option, Some}
 use Rattle.std.specs.Set.{sorted_merge}
 use Rattle.std.specs.declared.cmp.Ordering.{Ordering}
 use Rattle.sqlite.specs.Effect.{Database}
@@ -15,6 +15,16 @@ pub record IsPaged (db : Database) (table_def : TableDef) (by : List ℕ) {R : T
   pub stored : List Row
   pub paged : IsPage db table_def by places next values page_size stored page.has_more
   pub read : all_from row_from stored ≡ Some page.rows
+
+-- no more rows are read at once
+abbrev pub row_limit : ℕ
+row_limit = 1000000000
+
+-- These rows of the desk were read of all the table's rows with a value above this one in a column.
+pub record AreAbove (db : Database) (table_def : TableDef) (by : List ℕ) {R : Type 0} (row_from : Row → Option R) (next : ℕ) (values : Row) (rows : List R) : Type 0 where
+  pub stored : List Row
+  pub all : IsPage db table_def by [] next values row_limit stored false
+  pub read : all_from row_from stored ≡ Some rows
 
 -- The page is that of two lists in order as one, of which these are the first pages.
 pub record IsOfBoth {R : Type 0} (order : R → R → Ordering) (is_first is_second : Page R → Type 0) (page : Page R) : Type 0 where

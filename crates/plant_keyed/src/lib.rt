@@ -13,6 +13,7 @@ mod marks;
 mod movements;
 mod pages;
 mod receipts;
+mod stocked;
 mod texts;
 mod view;
 mod worklists;

@@ -35,6 +35,11 @@ pub(crate) const SUBLOTS_AFTER: &str =
 pub(crate) const HOLDS_AFTER: &str =
     "SELECT lot, id, at, by_who, note FROM hold WHERE lot > ?1 ORDER BY lot, id LIMIT ?2";
 
+// ---- all rows with more than an amount, as far as a limit goes
+
+pub(crate) const SUBLOTS_ABOVE: &str =
+    "SELECT lot, no, place, stock FROM sublot WHERE stock > ?1 ORDER BY lot, no LIMIT ?2";
+
 // ---- pages of lists whose keys are of two values: what the list is of, and a cursor; by each of the two texts, the rows
 // with the first value of the cursor and after its second, and those after its first
 

@@ -169,6 +169,10 @@ impl<'a, S: Alter> Worklists for Keyed<'a, S> {
         self.page_after(&SUBLOT, texts::SUBLOTS_AFTER, &cursor)
     }
 
+    fn sublots_in_stock(&mut self) -> Result<Vec<Sublot>, StoreFault> {
+        self.all_above(&SUBLOT, texts::SUBLOTS_ABOVE, 0)
+    }
+
     fn holds_after(&mut self, cursor: Option<Id>) -> Result<Page<Hold>, StoreFault> {
         self.page_after(&HOLD, texts::HOLDS_AFTER, &cursor)
     }

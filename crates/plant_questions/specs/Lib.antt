@@ -12,7 +12,7 @@ pub use Prefetching.{AreRead, IsValidHoldPrefetch, IsValidLotPrefetch, IsValidSu
 pub use Pages.{page_of, page_size}
 pub use Cursors.{cursor_in, cursor_of, is_dot}
 pub use Sorting.{in_order}
-pub use Worklists.{agree, all_holds, batches_in, classes_after, definitions_in, due_after, due_order, holds_after, holds_on, is_after, is_batch_in, is_definition_in, is_due_in, is_hold_after, is_hold_on, is_in_ledger, is_lot_of, is_movement_after, is_number_after, is_order_in, is_recall_in, ledger_of, lot_made, lots_after, lots_of, movement_after, movements_into, number_after, number_order, orders_by_due, orders_in, other_lot, recalls_in, receipts_by_number, recipe_after, recipes_in, sublots_after, text_after}
+pub use Worklists.{agree, all_holds, batches_in, classes_after, definitions_in, due_after, due_order, holds_after, holds_on, is_after, is_batch_in, is_definition_in, is_due_in, is_hold_after, is_hold_on, is_in_ledger, is_lot_of, is_movement_after, is_number_after, is_order_in, is_recall_in, ledger_of, lot_made, lots_after, lots_of, movement_after, movements_into, number_after, number_order, orders_by_due, orders_in, other_lot, recalls_in, receipts_by_number, recipe_after, recipes_in, sublots_after, sublots_in_stock, text_after}
 pub use declared.cursors.Cursor.{Cursor}
 pub use declared.list_question.ListQuestion.{ListQuestion}
 pub use declared.page.Page.{Page}
@@ -25,9 +25,11 @@ pub use declared.genealogy.LotNode.{LotNode}
 pub use declared.genealogy.NodeAnswer.{NodeAnswer}
 pub use declared.listed.BookedCommand.{BookedCommand}
 pub use declared.listed.CommandHead.{CommandHead}
+pub use declared.listed.DefinitionStock.{DefinitionStock}
 pub use declared.listed.Listed.{Listed}
 pub use declared.listed.LotPage.{LotPage}
 pub use declared.listed.OpenBatch.{OpenBatch}
+pub use declared.listed.StockedLot.{StockedLot}
 pub use declared.question.Answer.{Answer}
 pub use declared.question.BatchLines.{BatchLines}
 pub use declared.question.BatchView.{BatchView}

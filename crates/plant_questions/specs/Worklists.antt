@@ -1,5 +1,5 @@
 -- Which rows of a state each list means, in the order of their keys.
-use Rattle.std.specs.Prelude.{ℕ, Bool, not, ◌&&◌, ◌||◌, if◌then◌else◌, List, [], Option, Some, None, filter, map}
+use Rattle.std.specs.Prelude.{ℕ, Bool, not, ◌&&◌, ◌||◌, if◌then◌else◌, nat_lt, List, [], Option, Some, None, filter, map}
 use Rattle.std.specs.Ordering.{is_gt, nat_cmp, ordering_then}
 use Rattle.std.specs.declared.cmp.Ordering.{Ordering}
 use Rattle.plant_base.specs.{is_open, State, id_cmp, numbered_cmp, same, job_state_name, recipe_state_name, BatchRow, Class, Definition, Hold, Job, JobState, Lot, Movement, MovementKind, Recall, Receipt, Recipe, RecipeState, Sublot}
@@ -85,6 +85,10 @@ lots_after s cursor = filter (λ l. is_after cursor l.id) s.lots
 
 abbrev pub sublots_after : State → Option (List ℕ) → List Sublot
 sublots_after s cursor = filter (λ r. is_after cursor r.lot) (map (sublot_row s.movements) s.places)
+
+-- the sublots that have stock
+abbrev pub sublots_in_stock : State → List Sublot
+sublots_in_stock s = filter (λ r. nat_lt 0 r.stock) (map (sublot_row s.movements) s.places)
 
 abbrev pub holds_after : State → Option (List ℕ) → List Hold
 holds_after s cursor = filter (λ h. is_after cursor h.lot) s.holds

@@ -39,7 +39,9 @@ pub use hold_pages::all_holds;
 pub use key_order::HasKeyOrder;
 pub use keys::{ByDue, ByNumber};
 pub use list_question::ListQuestion;
-pub use listed::{BookedCommand, CommandHead, Listed, LotPage, OpenBatch};
+pub use listed::{
+    BookedCommand, CommandHead, DefinitionStock, Listed, LotPage, OpenBatch, StockedLot,
+};
 pub use lot_prefetch::{prefetched_is_held, prefetched_lot, prefetched_sublots};
 pub use merging::merge_pages;
 pub use movements::{movements_into, other_lot};

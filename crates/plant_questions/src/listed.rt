@@ -33,6 +33,34 @@ pub enum Listed {
     Recipes(Page<Recipe>),
     /// The ledger of a lot.
     Ledger(Page<Movement>),
+    /// The lots of a definition that have stock, the oldest first.
+    Stock(Page<StockedLot>),
+    /// What there is of definitions of a class.
+    Stocks(Page<DefinitionStock>),
+}
+
+/// A lot that has stock, and the booking that made it.
+#[derive(Drop)]
+pub struct StockedLot {
+    /// What is known of the lot.
+    pub standing: StandingLot,
+    /// The first movement of its ledger; `None` where it has none, as in no valid state.
+    pub born: Option<Movement>,
+}
+
+/// What there is of a definition, in its unit. An amount is 2^64 - 1 where it would be more, as in no desk that a file can hold.
+#[derive(Clone, Copy)]
+pub struct DefinitionStock {
+    /// The definition.
+    pub definition: Definition,
+    /// How many of its lots have stock.
+    pub lots: usize,
+    /// The amount of those that are neither held nor recalled.
+    pub usable: u64,
+    /// The amount of those that are held.
+    pub held: u64,
+    /// The amount of those that open recalls reach, held or not.
+    pub recalled: u64,
 }
 
 /// A command that had a reference, as its receipt has it.

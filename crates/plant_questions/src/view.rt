@@ -20,6 +20,7 @@ pub trait Worklists: View {
     ghost use Rattle.plant_questions.specs.Worklists.{recipes_in, ledger_of, movements_into};
     ghost use Rattle.plant_questions.specs.Worklists.{orders_by_due, receipts_by_number};
     ghost use Rattle.plant_questions.specs.Worklists.{lots_after, sublots_after, holds_after};
+    ghost use Rattle.plant_questions.specs.Worklists.{sublots_in_stock};
     ghost use Rattle.plant_view.specs.DecisionInvariant.{DecisionInvariant};
 
     /// The orders in a state, by their ids.
@@ -119,6 +120,12 @@ pub trait Worklists: View {
         ensures { ReadOnly Self.Edges self.old self.new
             (DecisionInvariant (Self.state self.old)
             → IfOk result (λ page. page ≡ page_of (sublots_after (Self.state self.old) cursor))) };
+
+    /// The sublots that have stock, of all lots, by lot and number. They are right where the state is consistent.
+    fn sublots_in_stock(&mut self) -> Result<Vec<Sublot>, Self::Fault>
+        ensures { ReadOnly Self.Edges self.old self.new
+            (DecisionInvariant (Self.state self.old)
+            → IfOk result (λ rows. rows.items ≡ sublots_in_stock (Self.state self.old))) };
 
     /// The holds of the lots that come after one, by lot and id.
     fn holds_after(&mut self, cursor: Option<Id>) -> Result<Page<Hold>, Self::Fault>

@@ -1,16 +1,16 @@
 -- Answers have no floats.
-use Rattle.std.proofs.Common.{◌≡◌, List, [], ◌∷◌, map, ℕ, Bool, true, Option, Some, None, false, Result, refl, ◌∙◌, ap, IfOk}
+use Rattle.std.proofs.Common.{◌≡◌, List, [], ◌∷◌, map, ℕ, Bool, true, Option, Some, None, option_map, false, Result, refl, ◌∙◌, ap, IfOk}
 use Rattle.serde_json.specs.Data.{Data}
 use Rattle.serde_json.specs.declared.value.Value.{Value}
 use Rattle.serde_json.specs.View.{items_of, view}
 use Rattle.serde_json.specs.Written.{has_float, items_have_float, compact_text}
 use Rattle.plant_base.specs.{Lifting, Movement, Recall, RecipeLine}
 use Rattle.plant_view.specs.{batch_by, ends_of}
-use Rattle.plant_questions.specs.{BatchLines, BatchView, BookedEdge, BookedLine, Booking, CommandHead, Genealogy, Listed, LotAnswer, NodeAnswer, OpenBatch, OrderAnswer, RecallAnswer, RecipeAnswer, StandingLot}
+use Rattle.plant_questions.specs.{BatchLines, BatchView, BookedEdge, BookedLine, Booking, CommandHead, Genealogy, Listed, LotAnswer, NodeAnswer, OpenBatch, OrderAnswer, RecallAnswer, RecipeAnswer, StandingLot, StockedLot}
 use Rattle.plant_questions.specs.declared.genealogy.NodeAnswer.TheVariants as known
 use Rattle.plant_questions.specs.declared.listed.Listed.TheVariants as listed
 use Rattle.plant_base.specs.declared.rows.RecipeLine.TheVariants as line
-use Rattle.plant_text_answers.specs.{booking_data, batch_data, recall_data, node_item, edge_item, genealogy_data, node_data, trace_data, order_data, lot_data, standing_data, stands_data, order_item, batch_item, lot_item, hold_item, all_holds_item, recall_item, lifting_or_null, lifted_item, command_data, command_item, class_item, definition_item, recipe_item, movement_item, other_sub, listed_data, id_or_null, unit_or_null, number_or_null, sublot_data, recipe_line_data, recipe_line_item, booked_line_data, booked_line_item, recipe_data, batch_lines_data}
+use Rattle.plant_text_answers.specs.{booking_data, batch_data, recall_data, node_item, edge_item, genealogy_data, node_data, trace_data, order_data, lot_data, standing_data, stands_data, order_item, batch_item, lot_item, hold_item, all_holds_item, recall_item, lifting_or_null, lifted_item, command_data, command_item, class_item, definition_item, recipe_item, movement_item, other_sub, stock_item, stock_row_item, listed_data, id_or_null, unit_or_null, number_or_null, text_or_null, sublot_data, recipe_line_data, recipe_line_item, booked_line_data, booked_line_item, recipe_data, batch_lines_data}
 use Rattle.plant_trace.specs.{Node}
 use Rattle.plant_trace.specs.declared.node.Node.TheVariants.{Lot, Batch}
 use Rattle.plant_questions.specs.{other_lot}
@@ -120,6 +120,13 @@ no_float_in_number (Some n) = refl
 no_float_in_movement : (m : Movement) → has_float (movement_item m) ≡ false
 no_float_in_movement m = rw (no_float_in_id (batch_by m.kind), no_float_in_id (other_lot m.kind m.lot), no_float_in_number (other_sub m.kind)) refl
 
+no_float_in_text : (text : Option (List ℕ)) → has_float (text_or_null text) ≡ false
+no_float_in_text None = refl
+no_float_in_text (Some text) = refl
+
+no_float_in_stock : (s : StockedLot) → has_float (stock_item s) ≡ false
+no_float_in_stock s = rw (no_float_in_number (option_map (λ m. m.at) s.born), no_float_in_text (option_map (λ m. m.by) s.born), no_float_in_text (option_map (λ m. m.note) s.born), no_float_in_number (option_map (λ m. m.seq) s.born), no_float_in_rows sublot_data (λ s. refl) s.standing.known.sublots) refl
+
 pub no_float_in_listed : (l : Listed) → has_float (listed_data l) ≡ false
 no_float_in_listed (listed.Orders page) = rw (no_float_in_rows order_item (λ j. refl) page.rows) refl
 no_float_in_listed (listed.Batches page) = rw (no_float_in_rows batch_item no_float_in_open page.rows) refl
@@ -133,3 +140,5 @@ no_float_in_listed (listed.Classes page) = rw (no_float_in_rows class_item (λ c
 no_float_in_listed (listed.Definitions page) = rw (no_float_in_rows definition_item (λ d. refl) page.rows) refl
 no_float_in_listed (listed.Recipes page) = rw (no_float_in_rows recipe_item (λ r. refl) page.rows) refl
 no_float_in_listed (listed.Ledger page) = rw (no_float_in_rows movement_item no_float_in_movement page.rows) refl
+no_float_in_listed (listed.Stock page) = rw (no_float_in_rows stock_item no_float_in_stock page.rows) refl
+no_float_in_listed (listed.Stocks page) = rw (no_float_in_rows stock_row_item (λ d. refl) page.rows) refl

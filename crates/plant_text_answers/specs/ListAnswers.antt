@@ -1,15 +1,15 @@
 -- The JSON trees of pages of worklists.
-use Rattle.std.specs.Prelude.{ℕ, List, Option, Some, None, map, codes}
+use Rattle.std.specs.Prelude.{ℕ, List, Option, Some, None, map, option_map, codes}
 use Rattle.serde_json.specs.Data.{Data, null, boolean, string, array, object, member, no_members}
 use Rattle.serde_json.specs.View.{items_of}
 use Rattle.plant_base.specs.{batch_state_name, Class, Definition, Hold, Job, Lifting, Movement, MovementKind, Recall, Recipe}
 use Rattle.plant_base.specs.declared.rows.MovementKind.TheVariants as kind
 use Rattle.plant_view.specs.{batch_by}
 use Rattle.plant_questions.specs.{other_lot, Page}
-use Rattle.plant_questions.specs.{BookedCommand, CommandHead, Listed, LotPage, OpenBatch, StandingLot}
+use Rattle.plant_questions.specs.{BookedCommand, CommandHead, DefinitionStock, Listed, LotPage, OpenBatch, StandingLot, StockedLot}
 use Rattle.plant_questions.specs.declared.listed.Listed.TheVariants as listed
 use Rattle.plant_text_answers.specs.Natural.{natural}
-use Rattle.plant_text_answers.specs.Parts.{id_or_null, number_or_null, sublots_data}
+use Rattle.plant_text_answers.specs.Parts.{id_or_null, number_or_null, sublots_data, text_or_null}
 
 -- what is shown of rows, in their order
 abbrev pub rows_data : {R : Type 0} → (R → Data) → List R → Data
@@ -96,6 +96,20 @@ movement_item m = object (member (codes "amount") (natural m.amount) (member (co
     (member (codes "lot") (string m.lot) (member (codes "note") (string m.note) (member (codes "seq") (natural m.seq) (member (codes "sub") (natural m.sub)
     (member (codes "to") (id_or_null (other_lot m.kind m.lot)) (member (codes "to_sub") (number_or_null (other_sub m.kind)) no_members))))))))))))
 
+-- a lot that has stock, with the booking that made it
+abbrev pub stock_item : StockedLot → Data
+stock_item s = object (member (codes "at") (number_or_null (option_map (λ m. m.at) s.born)) (member (codes "by") (text_or_null (option_map (λ m. m.by) s.born))
+    (member (codes "held") (boolean s.standing.known.held) (member (codes "lot") (string s.standing.known.lot)
+    (member (codes "note") (text_or_null (option_map (λ m. m.note) s.born)) (member (codes "recalled") (boolean s.standing.recalled)
+    (member (codes "seq") (number_or_null (option_map (λ m. m.seq) s.born)) (member (codes "stock") (natural s.standing.known.stock)
+    (member (codes "sublots") (array (sublots_data s.standing.known.sublots)) no_members)))))))))
+
+-- what there is of a definition
+abbrev pub stock_row_item : DefinitionStock → Data
+stock_row_item d = object (member (codes "def") (string d.definition.id) (member (codes "held") (natural d.held) (member (codes "lots") (natural d.lots)
+    (member (codes "name") (string d.definition.name) (member (codes "recalled") (natural d.recalled) (member (codes "unit") (string d.definition.unit)
+    (member (codes "usable") (natural d.usable) no_members)))))))
+
 -- ---- pages
 
 abbrev pub orders_data : Page Job → Data
@@ -134,6 +148,12 @@ recipes_data page = object (member (codes "more") (boolean page.has_more) (membe
 abbrev pub ledger_data : Page Movement → Data
 ledger_data page = object (member (codes "more") (boolean page.has_more) (member (codes "movements") (rows_data movement_item page.rows) no_members))
 
+abbrev pub stock_data : Page StockedLot → Data
+stock_data page = object (member (codes "lots") (rows_data stock_item page.rows) (member (codes "more") (boolean page.has_more) no_members))
+
+abbrev pub stocks_data : Page DefinitionStock → Data
+stocks_data page = object (member (codes "more") (boolean page.has_more) (member (codes "stocks") (rows_data stock_row_item page.rows) no_members))
+
 abbrev pub listed_data : Listed → Data
 listed_data (listed.Orders page) = orders_data page
 listed_data (listed.Batches page) = batches_data page
@@ -147,3 +167,5 @@ listed_data (listed.Classes page) = classes_data page
 listed_data (listed.Definitions page) = definitions_data page
 listed_data (listed.Recipes page) = recipes_data page
 listed_data (listed.Ledger page) = ledger_data page
+listed_data (listed.Stock page) = stock_data page
+listed_data (listed.Stocks page) = stocks_data page

@@ -22,6 +22,11 @@ abbrev pub unit_or_null : Option (List ℕ) → Data
 unit_or_null None = null
 unit_or_null (Some unit) = string unit
 
+-- the text, or null where there is none
+abbrev pub text_or_null : Option (List ℕ) → Data
+text_or_null None = null
+text_or_null (Some text) = string text
+
 -- the number, or null where there is none
 abbrev pub number_or_null : Option ℕ → Data
 number_or_null None = null

@@ -77,6 +77,10 @@ fn order_value(alloc: Global, answer: &OrderAnswer) -> Result<Value, AllocError>
 /// - of one of recipes `{"more":BOOL,"recipes":[{"base":N,"max":N,"min":N,"product":ID,"recipe":ID,"title":TEXT,"version":N}]}`
 /// - of one of a ledger `{"more":BOOL,"movements":[{"amount":N,"at":N,"batch":ID or null,"by":TEXT,"kind":WORD,"line":N,"lot":ID,"note":TEXT,
 ///   "seq":N,"sub":N,"to":ID or null,"to_sub":N or null}]}`
+/// - of one of the lots of a definition that have stock `{"lots":[{"at":N or null,"by":TEXT or null,"held":BOOL,"lot":ID,"note":TEXT or null,
+///   "recalled":BOOL,"seq":N or null,"stock":N,"sublots":[{"no":N,"place":TEXT,"stock":N}]}],"more":BOOL}`
+/// - of one of what there is of definitions
+///   `{"more":BOOL,"stocks":[{"def":ID,"held":N,"lots":N,"name":TEXT,"recalled":N,"unit":UNIT,"usable":N}]}`
 /// - of an unknown id the refusal's text, as [`crate::reply_line`] gives it
 ///
 /// The only error is that memory was refused.

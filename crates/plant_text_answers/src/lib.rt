@@ -17,6 +17,7 @@ mod parts;
 mod recall_answers;
 mod recipe_answers;
 mod replies;
+mod stock_rows;
 mod totals;
 mod trace_answers;
 mod whole;

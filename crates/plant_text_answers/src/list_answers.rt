@@ -6,12 +6,15 @@ ghost use Rattle.plant_text_answers.specs.ListAnswers.{orders_data, batches_data
 ghost use Rattle.plant_text_answers.specs.ListAnswers.{holds_data, recalls_data, commands_data};
 ghost use Rattle.plant_text_answers.specs.ListAnswers.{classes_data, definitions_data};
 ghost use Rattle.plant_text_answers.specs.ListAnswers.{recipes_data, ledger_data, listed_data};
+ghost use Rattle.plant_text_answers.specs.ListAnswers.{stock_data, stocks_data};
 
 use crate::further_rows::{all_holds_value, lifted_value};
 use crate::listed_rows::Shown;
 use crate::parts::id_value;
 use plant_base::{Class, Definition, Hold, Job, Movement, Recall, Recipe};
-use plant_questions::{BookedCommand, Listed, LotPage, OpenBatch, Page};
+use plant_questions::{
+    BookedCommand, DefinitionStock, Listed, LotPage, OpenBatch, Page, StockedLot,
+};
 use serde_json::{Value, json};
 use std::alloc::{AllocError, Global};
 
@@ -98,6 +101,20 @@ fn ledger_value(alloc: Global, page: &Page<Movement>) -> Result<Value, AllocErro
     json!(in alloc; {"more": (page.has_more), "movements": rows})
 }
 
+fn stock_value(alloc: Global, page: &Page<StockedLot>) -> Result<Value, AllocError>
+    ensures { IfOk result (λ v. view v ≡ stock_data page.now) }
+{
+    let rows = rows_value(alloc, page.rows.as_slice())?;
+    json!(in alloc; {"lots": rows, "more": (page.has_more)})
+}
+
+fn stocks_value(alloc: Global, page: &Page<DefinitionStock>) -> Result<Value, AllocError>
+    ensures { IfOk result (λ v. view v ≡ stocks_data page.now) }
+{
+    let rows = rows_value(alloc, page.rows.as_slice())?;
+    json!(in alloc; {"more": (page.has_more), "stocks": rows})
+}
+
 /// What is shown of a page of a worklist.
 pub(crate) fn listed_value(alloc: Global, listed: &Listed) -> Result<Value, AllocError>
     ensures { IfOk result (λ v. view v ≡ listed_data listed.now) }
@@ -115,5 +132,7 @@ pub(crate) fn listed_value(alloc: Global, listed: &Listed) -> Result<Value, Allo
         Listed::Definitions(page) => definitions_value(alloc, page),
         Listed::Recipes(page) => recipes_value(alloc, page),
         Listed::Ledger(page) => ledger_value(alloc, page),
+        Listed::Stock(page) => stock_value(alloc, page),
+        Listed::Stocks(page) => stocks_value(alloc, page),
     }
 }

@@ -143,11 +143,11 @@ fn batch_of(kind: MovementKind) -> Option<Id>
 }
 
 /// The sublot that a movement brings its amount to from another one.
-fn other_sub(kind: MovementKind) -> Option<u16>
+fn other_sub(kind: MovementKind) -> Option<u64>
     ensures { result ≡ other_sub kind }
 {
     match kind {
-        MovementKind::Divided { to } => Some(to),
+        MovementKind::Divided { to } => Some(u64::from(to)),
         MovementKind::Split { .. } | MovementKind::Merged { .. } => Some(0),
         _ => None,
     }

@@ -2,10 +2,10 @@
 ghost use Rattle.std.specs.Prelude.{◌≡◌, IfOk};
 ghost use Rattle.serde_json.specs.View.{view};
 ghost use Rattle.plant_text_answers.specs.Parts.{sublot_data, id_or_null, unit_or_null};
-ghost use Rattle.plant_text_answers.specs.Parts.{number_or_null};
+ghost use Rattle.plant_text_answers.specs.Parts.{number_or_null, text_or_null};
 
 use crate::listed_rows::Shown;
-use plant_base::{Id, Sublot, Unit};
+use plant_base::{Id, Sublot, Text, Unit};
 use serde_json::{Value, json};
 use std::alloc::{AllocError, Global};
 
@@ -37,8 +37,18 @@ pub(crate) fn unit_value(alloc: Global, unit: Option<Unit>) -> Result<Value, All
     }
 }
 
+/// A text, null where there is none.
+pub(crate) fn text_value(alloc: Global, text: Option<Text>) -> Result<Value, AllocError>
+    ensures { IfOk result (λ v. view v ≡ text_or_null text) }
+{
+    match text {
+        None => Ok(Value::Null),
+        Some(text) => json!(in alloc; (text.as_str())),
+    }
+}
+
 /// A number, null where there is none.
-pub(crate) fn number_value(alloc: Global, number: Option<u16>) -> Result<Value, AllocError>
+pub(crate) fn number_value(alloc: Global, number: Option<u64>) -> Result<Value, AllocError>
     ensures { IfOk result (λ v. view v ≡ number_or_null number) }
 {
     match number {

@@ -36,3 +36,5 @@ returns _ (asked.List list.Definitions) = refl
 returns _ (asked.List list.Recipes) = refl
 returns _ (asked.List list.Movements) = refl
 returns _ (asked.List list.Commands) = refl
+returns _ (asked.List list.Stock) = refl
+returns _ (asked.List list.Stocks) = refl

@@ -1,0 +1,16 @@
+-- What is known of a lot, and whether an open recall reaches it.
+use Rattle.std.specs.Prelude.{Option, Some, None, nat_lt, if◌then◌else◌}
+use Rattle.plant_base.specs.{State, Lot}
+use Rattle.plant_view.specs.{is_blocked}
+use Rattle.plant_questions.specs.{StandingLot}
+use Rattle.plant_answers.specs.LotAnswers.{lot_answer}
+
+abbrev pub standing_lot : State → Lot → StandingLot
+standing_lot s l = record { known = lot_answer s l; recalled = is_blocked s l.id }
+
+abbrev pub if_stocked : StandingLot → Option StandingLot
+if_stocked a = if nat_lt 0 a.known.stock then Some a else None
+
+-- what is known of a lot, where it has stock
+abbrev pub stocked_lot : State → Lot → Option StandingLot
+stocked_lot s l = if_stocked (standing_lot s l)

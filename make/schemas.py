@@ -89,7 +89,11 @@ BATCH_LINE = one_of(exact(asked=COUNT, booked=COUNT, def_=ID, kind=GOODS, unit=o
 ORDER = {"due": DUE, "order": ID, "priority": PRIORITY, "recipe": ID, "size": AMOUNT, "version": VERSION}
 HELD = {"at": MOMENT, "by": TEXT, "hold": ID, "note": TEXT}
 RECALLED = {"at": MOMENT, "by": TEXT, "lot": ID, "note": TEXT, "recall": ID}
-BATCH_ROW = exact(attempt=ATTEMPT, batch=ID, next=NEXT, order=ID, phase=or_null(ID), phases=PHASES, state=words(*STATES_OF_BATCHES))
+PLANNED = exact(due=DUE, priority=PRIORITY, product=ID, recipe=ID, size=AMOUNT, title=TEXT, unit=or_null(UNIT), version=VERSION)
+BATCH_ROW = exact(
+    at=MOMENT, attempt=ATTEMPT, batch=ID, next=NEXT, order=ID, phase=or_null(ID), phase_unit=or_null(ID), phases=PHASES, planned=or_null(PLANNED),
+    state=words(*STATES_OF_BATCHES),
+)
 RECIPE_ROW = exact(base=AMOUNT, max=AMOUNT, min=AMOUNT, product=ID, recipe=ID, title=TEXT, version=VERSION)
 MOVEMENT = exact(
     amount=AMOUNT, at=MOMENT, batch=or_null(ID), by=TEXT, kind=words(*MOVEMENTS), line=COUNT, lot=ID, note=TEXT, seq=SEQ, sub=SUB,

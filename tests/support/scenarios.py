@@ -326,10 +326,12 @@ def long_batches() -> Session:
     for batch, count in {"B-000": 127, "B-001": 126, "B-050": 1, "B-098": 99, "B-099": 100, "B-100": 101, "B-102": 127}.items():
         session.accepted(say("start", batch), *[phase_done(batch, it) for it in range(1, count + 1)])
         batches[batch] = count
+    planned: Item = {"due": "2027-03-01", "priority": 5, "product": "SUGAR", "recipe": "R", "size": 1, "title": "", "unit": "g", "version": 1}
     told: list[Item] = []
     for it, (batch, count) in enumerate(batches.items()):
-        rest = {"phase": None if count == 127 else f"P-{count + 1}", "phases": 127, "state": "running" if count else "idle"}
-        told.append({"attempt": 1, "batch": batch, "next": count + 1, "order": f"O-{it}", **rest})
+        rest: Item = {"phase": None if count == 127 else f"P-{count + 1}", "phases": 127, "state": "running" if count else "idle"}
+        rest.update(planned=planned, phase_unit=None if count == 127 else "U")
+        told.append({"at": 100, "attempt": 1, "batch": batch, "next": count + 1, "order": f"O-{it}", **rest})
     for at in [None, "A", *(f"B-{it:03}" for it in (0, 1, 2, 3, 49, 98, 101, 102))]:
         session.asked(question("batches", at), page("batches", [it for it in told if at is None or it["batch"] > at]))
     ask_for_orders(session, sorted(it["order"] for it in told), "released")

@@ -11,6 +11,7 @@ pub mod AnswerLaws
 pub mod KnownLots
 pub mod LotAnswers
 pub mod ListAnswers
+pub mod OpenBatches
 pub mod StandingLots
 pub mod RecallAnswers
 pub mod Stock
@@ -30,5 +31,6 @@ pub use LotAnswers.{answer_lot, lot_answer}
 pub use RecallAnswers.{answer_recall, recall_answer}
 unfoldable pub use RecallAnswers.{reached_list}
 pub use Traces.{answer_trace, ends, is_reached, missing, trace_along, trace_of}
-pub use ListAnswers.{if_stocked, open_batch, standing_lot}
+pub use ListAnswers.{if_stocked, standing_lot}
+pub use OpenBatches.{last_moment, open_batch, opened, phases_of, planned_of}
 pub use RecipeAnswers.{recipe_line}

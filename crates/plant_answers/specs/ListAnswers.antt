@@ -1,38 +1,16 @@
 -- What is answered of a list.
 use Rattle.std.specs.Prelude.{ℕ, ◌-◌, true, false, List, Option, Some, None, length, map, option_map, slice_get, filter_map}
-use Rattle.plant_base.specs.{State, class_at, control_lines_of, definition_at, lot_at, BatchRow, Lot, Receipt, RecipeLine, Refusal}
+use Rattle.plant_base.specs.{State, class_at, definition_at, lot_at, Lot, Receipt, Refusal}
 use Rattle.plant_base.specs.declared.refusal.Refusal.TheVariants.{UnknownClass, UnknownDefinition, UnknownLot}
-use Rattle.plant_base.specs.declared.rows.RecipeLine.TheVariants.{In, Out, Parameter, Phase}
 use Rattle.plant_questions.specs.{page_of, orders_in, orders_by_due, receipts_by_number, batches_in, lots_of, holds_on, recalls_in, classes_after, definitions_in, recipes_in, ledger_of, all_holds, ListQuestion, Page}
 use Rattle.plant_questions.specs.declared.list_question.ListQuestion.TheVariants as list
 use Rattle.plant_answers.specs.CommandHeads.{head_of}
 pub use Rattle.plant_answers.specs.StandingLots.{if_stocked, standing_lot, stocked_lot}
 use Rattle.plant_answers.specs.Stock.{stock_page, stocks_page}
-use Rattle.plant_questions.specs.{Answer, BookedCommand, Listed, LotPage, OpenBatch}
+use Rattle.plant_answers.specs.OpenBatches.{batch_page}
+use Rattle.plant_questions.specs.{Answer, BookedCommand, Listed, LotPage}
 use Rattle.plant_questions.specs.declared.listed.Listed.TheVariants as listed
 use Rattle.plant_questions.specs.declared.question.Answer.TheVariants as A
-
--- ---- batches
-
-abbrev pub phase_of : RecipeLine → Option (List ℕ)
-phase_of (In def amount) = None
-phase_of (Out def amount) = None
-phase_of (Parameter name value) = None
-phase_of (Phase unit_procedure operation phase) = Some phase
-
--- the phases of the control recipe of a batch, in their order
-abbrev pub phases_of : State → List ℕ → List (List ℕ)
-phases_of s batch = filter_map (λ l. phase_of l.line) (control_lines_of s batch)
-
--- the row of a batch with these phases
-abbrev pub opened : BatchRow → List (List ℕ) → OpenBatch
-opened r phases = record { row = r; phases = length phases; next_phase = slice_get phases (r.next - 1) }
-
-abbrev pub open_batch : State → BatchRow → OpenBatch
-open_batch s r = opened r (phases_of s r.batch.id)
-
-abbrev pub batch_page : State → Page BatchRow → Page OpenBatch
-batch_page s page = record { rows = map (open_batch s) page.rows; has_more = page.has_more }
 
 -- ---- lots
 

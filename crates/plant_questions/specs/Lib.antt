@@ -28,7 +28,9 @@ pub use declared.listed.CommandHead.{CommandHead}
 pub use declared.listed.DefinitionStock.{DefinitionStock}
 pub use declared.listed.Listed.{Listed}
 pub use declared.listed.LotPage.{LotPage}
+pub use declared.listed.NextPhase.{NextPhase}
 pub use declared.listed.OpenBatch.{OpenBatch}
+pub use declared.listed.PlannedBatch.{PlannedBatch}
 pub use declared.listed.StockedLot.{StockedLot}
 pub use declared.question.Answer.{Answer}
 pub use declared.question.BatchLines.{BatchLines}

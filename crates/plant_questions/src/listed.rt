@@ -3,7 +3,8 @@
 use crate::page::Page;
 use crate::question::StandingLot;
 use plant_base::{
-    BatchRow, Class, Definition, Hold, Id, Items, Job, Moment, Movement, Recall, Recipe, Text,
+    BatchRow, Class, Definition, Header, Hold, Id, Items, Job, Moment, Movement, OrderRow, Recall,
+    Recipe, Text, Unit,
 };
 
 /// A page of a worklist.
@@ -87,15 +88,39 @@ pub struct CommandHead {
     pub word: Text,
 }
 
-/// A batch in a list, and what is next in it (job response of IEC 62264-4).
+/// A batch in a list: what it is to make, and what is next in it (job response of IEC 62264-4).
 #[derive(Clone, Copy)]
 pub struct OpenBatch {
     /// The batch with its progress.
     pub row: BatchRow,
+    /// What it is to make; `None` where its order or the recipe of that isn't there, as in no valid state.
+    pub planned: Option<PlannedBatch>,
     /// How many phases its control recipe has.
     pub phases: usize,
     /// The phase that is next, nothing where all are done.
-    pub next_phase: Option<Id>,
+    pub next_phase: Option<NextPhase>,
+    /// The moment of the last of its events, that of its release where there is none.
+    pub last: Moment,
+}
+
+/// What a batch is to make.
+#[derive(Clone, Copy)]
+pub struct PlannedBatch {
+    /// The order that it was released for.
+    pub order: OrderRow,
+    /// The header of the master recipe that the order names.
+    pub header: Header,
+    /// The unit of the recipe's product; `None` where the product isn't there, as in no valid state.
+    pub unit: Option<Unit>,
+}
+
+/// A phase of a control recipe, and where it is done (IEC 61512-1, procedure).
+#[derive(Clone, Copy)]
+pub struct NextPhase {
+    /// The phase.
+    pub phase: Id,
+    /// The unit procedure that it belongs to.
+    pub unit_procedure: Id,
 }
 
 /// What there is of a definition, lot by lot.

@@ -6,11 +6,11 @@ use Rattle.serde_json.specs.View.{items_of, view}
 use Rattle.serde_json.specs.Written.{has_float, items_have_float, compact_text}
 use Rattle.plant_base.specs.{Lifting, Movement, Recall, RecipeLine}
 use Rattle.plant_view.specs.{batch_by, ends_of}
-use Rattle.plant_questions.specs.{BatchLines, BatchView, BookedEdge, BookedLine, Booking, CommandHead, Genealogy, Listed, LotAnswer, NodeAnswer, OpenBatch, OrderAnswer, RecallAnswer, RecipeAnswer, StandingLot, StockedLot}
+use Rattle.plant_questions.specs.{BatchLines, BatchView, BookedEdge, BookedLine, Booking, CommandHead, Genealogy, Listed, LotAnswer, NodeAnswer, OpenBatch, OrderAnswer, PlannedBatch, RecallAnswer, RecipeAnswer, StandingLot, StockedLot}
 use Rattle.plant_questions.specs.declared.genealogy.NodeAnswer.TheVariants as known
 use Rattle.plant_questions.specs.declared.listed.Listed.TheVariants as listed
 use Rattle.plant_base.specs.declared.rows.RecipeLine.TheVariants as line
-use Rattle.plant_text_answers.specs.{booking_data, batch_data, recall_data, node_item, edge_item, genealogy_data, node_data, trace_data, order_data, lot_data, standing_data, stands_data, order_item, batch_item, lot_item, hold_item, all_holds_item, recall_item, lifting_or_null, lifted_item, command_data, command_item, class_item, definition_item, recipe_item, movement_item, other_sub, stock_item, stock_row_item, listed_data, id_or_null, unit_or_null, number_or_null, text_or_null, sublot_data, recipe_line_data, recipe_line_item, booked_line_data, booked_line_item, recipe_data, batch_lines_data}
+use Rattle.plant_text_answers.specs.{booking_data, batch_data, recall_data, node_item, edge_item, genealogy_data, node_data, trace_data, order_data, lot_data, standing_data, stands_data, order_item, batch_item, lot_item, hold_item, all_holds_item, recall_item, lifting_or_null, lifted_item, command_data, command_item, class_item, definition_item, recipe_item, movement_item, other_sub, stock_item, stock_row_item, listed_data, id_or_null, unit_or_null, planned_or_null, number_or_null, text_or_null, sublot_data, recipe_line_data, recipe_line_item, booked_line_data, booked_line_item, recipe_data, batch_lines_data}
 use Rattle.plant_trace.specs.{Node}
 use Rattle.plant_trace.specs.declared.node.Node.TheVariants.{Lot, Batch}
 use Rattle.plant_questions.specs.{other_lot}
@@ -96,9 +96,6 @@ no_float_in_genealogy g = rw (no_float_in_rows edge_item no_float_in_edge g.edge
 
 -- ---- pages
 
-no_float_in_open : (b : OpenBatch) → has_float (batch_item b) ≡ false
-no_float_in_open b = rw (no_float_in_id b.next_phase) refl
-
 no_float_in_stocked : (s : StandingLot) → has_float (lot_item s) ≡ false
 no_float_in_stocked s = rw (no_float_in_rows sublot_data (λ s. refl) s.known.sublots) refl
 
@@ -123,6 +120,13 @@ no_float_in_movement m = rw (no_float_in_id (batch_by m.kind), no_float_in_id (o
 no_float_in_text : (text : Option (List ℕ)) → has_float (text_or_null text) ≡ false
 no_float_in_text None = refl
 no_float_in_text (Some text) = refl
+
+no_float_in_planned : (p : Option PlannedBatch) → has_float (planned_or_null p) ≡ false
+no_float_in_planned None = refl
+no_float_in_planned (Some p) = rw (no_float_in_unit p.unit) refl
+
+no_float_in_open : (b : OpenBatch) → has_float (batch_item b) ≡ false
+no_float_in_open b = rw (no_float_in_id (option_map (λ n. n.phase) b.next_phase), no_float_in_id (option_map (λ n. n.unit_procedure) b.next_phase), no_float_in_planned b.planned) refl
 
 no_float_in_stock : (s : StockedLot) → has_float (stock_item s) ≡ false
 no_float_in_stock s = rw (no_float_in_number (option_map (λ m. m.at) s.born), no_float_in_text (option_map (λ m. m.by) s.born), no_float_in_text (option_map (λ m. m.note) s.born), no_float_in_number (option_map (λ m. m.seq) s.born), no_float_in_rows sublot_data (λ s. refl) s.standing.known.sublots) refl

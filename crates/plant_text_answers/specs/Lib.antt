@@ -14,7 +14,7 @@ pub use Answers.{order_data}
 unfoldable pub use Answers.{text_of_answer}
 pub use BatchAnswers.{batch_data, booking_data}
 pub use EdgeAnswers.{edge_item, genealogy_data, node_item}
-pub use ListAnswers.{all_holds_item, batch_item, class_item, command_data, command_item, definition_item, hold_item, lifted_item, lifting_or_null, listed_data, lot_item, movement_item, order_item, other_sub, recall_item, recipe_item, stock_item, stock_row_item}
+pub use ListAnswers.{all_holds_item, batch_item, class_item, command_data, command_item, definition_item, hold_item, lifted_item, lifting_or_null, listed_data, lot_item, movement_item, order_item, other_sub, recall_item, recipe_item, planned_or_null, stock_item, stock_row_item}
 pub use LotAnswers.{lot_data, standing_data, stands_data}
 pub use Natural.{natural}
 pub use Parts.{id_or_null, number_or_null, sublot_data, text_or_null, unit_or_null}

@@ -6,10 +6,10 @@ use Rattle.plant_base.specs.{batch_state_name, Class, Definition, Hold, Job, Lif
 use Rattle.plant_base.specs.declared.rows.MovementKind.TheVariants as kind
 use Rattle.plant_view.specs.{batch_by}
 use Rattle.plant_questions.specs.{other_lot, Page}
-use Rattle.plant_questions.specs.{BookedCommand, CommandHead, DefinitionStock, Listed, LotPage, OpenBatch, StandingLot, StockedLot}
+use Rattle.plant_questions.specs.{BookedCommand, CommandHead, DefinitionStock, Listed, LotPage, OpenBatch, PlannedBatch, StandingLot, StockedLot}
 use Rattle.plant_questions.specs.declared.listed.Listed.TheVariants as listed
 use Rattle.plant_text_answers.specs.Natural.{natural}
-use Rattle.plant_text_answers.specs.Parts.{id_or_null, number_or_null, sublots_data, text_or_null}
+use Rattle.plant_text_answers.specs.Parts.{id_or_null, number_or_null, sublots_data, text_or_null, unit_or_null}
 
 -- what is shown of rows, in their order
 abbrev pub rows_data : {R : Type 0} → (R → Data) → List R → Data
@@ -19,10 +19,21 @@ abbrev pub order_item : Job → Data
 order_item j = object (member (codes "due") (string j.order.due) (member (codes "order") (string j.order.order) (member (codes "priority") (natural j.order.priority)
     (member (codes "recipe") (string j.order.recipe) (member (codes "size") (natural j.order.size) (member (codes "version") (natural j.order.version) no_members))))))
 
+-- what a batch is to make
+abbrev pub planned_data : PlannedBatch → Data
+planned_data p = object (member (codes "due") (string p.order.due) (member (codes "priority") (natural p.order.priority) (member (codes "product") (string p.header.product)
+    (member (codes "recipe") (string p.order.recipe) (member (codes "size") (natural p.order.size) (member (codes "title") (string p.header.title)
+    (member (codes "unit") (unit_or_null p.unit) (member (codes "version") (natural p.order.version) no_members))))))))
+
+abbrev pub planned_or_null : Option PlannedBatch → Data
+planned_or_null None = null
+planned_or_null (Some p) = planned_data p
+
 abbrev pub batch_item : OpenBatch → Data
-batch_item b = object (member (codes "attempt") (natural b.row.attempt) (member (codes "batch") (string b.row.batch.id) (member (codes "next") (natural b.row.next)
-    (member (codes "order") (string b.row.batch.job) (member (codes "phase") (id_or_null b.next_phase) (member (codes "phases") (natural b.phases)
-    (member (codes "state") (string (batch_state_name b.row.state)) no_members)))))))
+batch_item b = object (member (codes "at") (natural b.last) (member (codes "attempt") (natural b.row.attempt) (member (codes "batch") (string b.row.batch.id)
+    (member (codes "next") (natural b.row.next) (member (codes "order") (string b.row.batch.job) (member (codes "phase") (id_or_null (option_map (λ n. n.phase) b.next_phase))
+    (member (codes "phase_unit") (id_or_null (option_map (λ n. n.unit_procedure) b.next_phase)) (member (codes "phases") (natural b.phases)
+    (member (codes "planned") (planned_or_null b.planned) (member (codes "state") (string (batch_state_name b.row.state)) no_members))))))))))
 
 abbrev pub lot_item : StandingLot → Data
 lot_item s = object (member (codes "held") (boolean s.known.held) (member (codes "lot") (string s.known.lot) (member (codes "recalled") (boolean s.recalled)

@@ -4,6 +4,7 @@
 
 mod answers;
 mod batch_answers;
+mod batch_rows;
 mod command_rows;
 mod edge_answers;
 mod further_rows;

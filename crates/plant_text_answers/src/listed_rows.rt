@@ -1,7 +1,7 @@
 //! What is shown of a row in a page of a worklist.
 ghost use Rattle.std.specs.Prelude.{◌≡◌};
 ghost use Rattle.plant_view.specs.{batch_by};
-ghost use Rattle.plant_text_answers.specs.ListAnswers.{order_item, batch_item, lot_item, hold_item};
+ghost use Rattle.plant_text_answers.specs.ListAnswers.{order_item, lot_item, hold_item};
 ghost use Rattle.plant_text_answers.specs.ListAnswers.{recall_item, class_item, definition_item};
 ghost use Rattle.plant_text_answers.specs.ListAnswers.{recipe_item, movement_item};
 ghost use Rattle.plant_text_answers.specs.ListAnswers.{movement_kind_name, other_sub};
@@ -9,7 +9,7 @@ ghost use Rattle.plant_text_answers.specs.ListAnswers.{movement_kind_name, other
 use crate::list_answers::rows_value;
 use crate::parts::{id_value, number_value};
 use plant_base::{Class, Definition, Hold, Id, Job, Movement, MovementKind, Recall, Recipe};
-use plant_questions::{OpenBatch, StandingLot, other_lot};
+use plant_questions::{StandingLot, other_lot};
 use serde_json::{Value, json};
 use std::alloc::{AllocError, Global};
 
@@ -35,19 +35,6 @@ impl Shown for Job {
         json!(in alloc; {
             "due": (order.due.as_str()), "order": (order.order.as_str()), "priority": (order.priority),
             "recipe": (order.recipe.as_str()), "size": (order.size.get()), "version": (order.version)
-        })
-    }
-}
-
-impl Shown for OpenBatch {
-    ghost shows = { batch_item };
-
-    fn value(&self, alloc: Global) -> Result<Value, AllocError> {
-        let row = &self.row;
-        let phase = id_value(alloc, self.next_phase)?;
-        json!(in alloc; {
-            "attempt": (row.attempt), "batch": (row.batch.id.as_str()), "next": (row.next), "order": (row.batch.job.as_str()),
-            "phase": phase, "phases": (self.phases), "state": (row.state.name())
         })
     }
 }

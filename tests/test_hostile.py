@@ -8,6 +8,8 @@ from __future__ import annotations
 
 import contextlib
 import pathlib
+import resource
+import select
 import shutil
 import socket
 import time
@@ -16,6 +18,7 @@ from collections.abc import Iterable
 from tests.support import http, sessions, sqlite
 from tests.support.cases import DeskTestCase
 from tests.support.commands import GOODS
+from tests.support.faults import limited
 from tests.support.http import ACCEPTED, ASK, COMMAND, HOST, NEW, POST, Server, answer, connected, desk_answer, got, posted, rest_of, status_answer
 from tests.support.large import LimitTestCase, fan_tables
 from tests.support.program import SECONDS
@@ -32,6 +35,12 @@ MOST_TRICKLED, TRICKLE = 20, 0.5
 # For how long a connection waits on which nothing is sent, and how many wait at most.
 SILENCE = 10
 MOST_SILENT = 64
+
+# How many files the server may have open where they are few, and how many connections it serves that drops most.
+FEW_FILES, CONNECTIONS = 24, 1000
+
+# How many pieces are read at most after an answer, and how many seconds lie between two that are sent.
+MOST_PIECES, PIECE = 64, 0.8
 
 # How many lots an answer tells that no client reads, how many seconds a write of it waits, and how many writes take a part of it at most.
 UNREAD = 30_000
@@ -293,6 +302,45 @@ class Clients(DeskTestCase):
             for one in silent:
                 one.close()
 
+    def test_server_with_few_open_files_drops_the_oldest_and_goes_on(self) -> None:
+        """Opens more silent connections than the server may have files open: it drops the oldest ones for those that come, and serves."""
+        how = limited(resource.RLIMIT_NOFILE, FEW_FILES)
+        with Server(self.desk, "few.db", CONNECTIONS, "--log", how=how) as server:
+            silent = [connected(server.port) for _ in range(2 * FEW_FILES)]
+            for number in range(FEW_FILES):
+                self.check(f"client {number} beside silent ones", server.answered(ASK), NEW)
+            self.check("the oldest is dropped", rest_of(silent[0]), b"")
+            self.check("a command", server.answered(POST), ACCEPTED)
+            self.check_true("the server goes on", server.is_running())
+            for one in silent:
+                one.close()
+
+    def test_half_a_request_holds_the_server_for_ten_seconds_and_does_nothing(self) -> None:
+        """Sends half a head, and half a body, and then nothing: the next client is served once ten seconds are over."""
+        with Server(self.desk, "half.db", 4) as server:
+            for half in (ASK[:9], POST[:-5]):
+                with connected(server.port) as slow:
+                    slow.sendall(half)
+                    began = time.monotonic()
+                    self.check(f"a client behind {half!r}", server.answered(ASK), NEW)
+                    held = time.monotonic() - began
+                    self.check_true(f"it is served within a bound, {held}", SILENCE - PAUSE < held < MOST_HELD)
+                    self.check(f"the one of {half!r}", rest_of(slow), b"")
+            self.check("its server", server.end().status, 0)
+
+    def test_client_that_stays_after_a_refusal_holds_the_server_for_a_second(self) -> None:
+        """Has clients stay open after a 404 and after a 400: each next one is served once the server has read on for a second."""
+        with Server(self.desk, ":memory:", 4) as server:
+            for request, status in ((got("/nothing"), 404), (posted("/v1/orders", b""), 400)):
+                with connected(server.port) as open_one:
+                    open_one.sendall(request)
+                    began = time.monotonic()
+                    self.check(f"a client behind one that stays after {status}", server.answered(ASK), NEW)
+                    held = time.monotonic() - began
+                    self.check_true(f"it is served within a bound, {held}", held < SILENCE / 2)
+                    self.check("its answer", rest_of(open_one), status_answer(status))
+            self.check("its server", server.end().status, 0)
+
     def test_end_of_the_last_client_is_waited_for(self) -> None:
         """Sends less than was promised, as the last client, and looks whether the server waits for the rest behind its answer."""
         for _ in range(ATTEMPTS):
@@ -333,6 +381,29 @@ class Trickling(DeskTestCase):
             lines = server.end().errors.decode().splitlines()
         self.check("its line", [it.split('"')[2].split()[0] for it in lines[1:]], ["0", "200"])
         self.check("what it left", self.desk.run("verify", "plant.db"), (0, b"good schema 4 seq 0\n", b""))
+
+
+class Endless(DeskTestCase):
+    """Clients that send on after their answer."""
+
+    IS_LONG = True
+
+    def test_client_that_sends_on_after_a_refusal_holds_the_server_for_64_pieces(self) -> None:
+        """Has a client send a piece a little sooner than each second after its 404: the next client is served after 64 of them at most."""
+        with Server(self.desk, ":memory:", 2) as server, connected(server.port) as endless:
+            endless.sendall(got("/nothing"))
+            began = time.monotonic()
+            with connected(server.port) as next_client:
+                next_client.sendall(ASK)
+                sent = 0
+                while not select.select([next_client], [], [], PIECE)[0] and sent < 2 * MOST_PIECES:
+                    with contextlib.suppress(BrokenPipeError, ConnectionResetError):
+                        endless.sendall(b"-")
+                    sent += 1
+                held = time.monotonic() - began
+                self.check("a client behind it", rest_of(next_client), NEW)
+            self.check_true(f"it is served within a bound, {held} seconds and {sent} pieces", sent <= MOST_PIECES + 2)
+            self.check("its server", server.end().status, 0)
 
 
 def trickled(connection: socket.socket, text: bytes, end: float) -> int:

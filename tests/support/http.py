@@ -9,7 +9,7 @@ import struct
 import time
 from collections.abc import Mapping
 
-from tests.support.program import SECONDS, Ended, Program, Word
+from tests.support.program import SECONDS, Ended, How, Program, Word
 
 # How often a server is started at most where another program has taken its port.
 ATTEMPTS = 3
@@ -152,13 +152,13 @@ class Server:
 
     def __init__(
         self, desk: Program, file: Word, connections: int, *options: Word,
-        env: Mapping[str, str] | None = None, port: int | None = None,
+        env: Mapping[str, str] | None = None, port: int | None = None, how: How | None = None,
     ) -> None:
         for _ in range(ATTEMPTS):
             self.ended: Ended | None = None
             self.port = port or free_port()
             words = ["serve", file, str(self.port), str(connections), *options]
-            self.process = desk.start(*words, env=env)
+            self.process = desk.start(*words, env=env, **(how or {}))
             last = time.monotonic() + SECONDS
             while self.process.poll() is None and not listens(self.port):
                 if time.monotonic() > last:

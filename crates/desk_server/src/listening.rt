@@ -1,5 +1,5 @@
 //! Connections, one after the other.
-ghost use Rattle.std.specs.Prelude.{◌≡◌, ◌≢◌, false, true, ◌<◌, ◌≤◌, length, Ok, Err, IfErr, IfOk};
+ghost use Rattle.std.specs.Prelude.{◌≡◌, ◌≢◌, [], false, true, ◌<◌, ◌≤◌, length, Ok, Err, IfErr, IfOk};
 ghost use Rattle.std.specs.Prelude.{OnErr, OnOk};
 ghost use Rattle.sqlite.specs.Held.{state};
 ghost use Rattle.sqlite.specs.State.{HasCleanDisk};
@@ -87,13 +87,19 @@ impl<'a> Connections<'a> {
 
 impl<R: Clock> Server<'_, R> {
     /// Takes a connection, where one is there, and has it wait. One that the system doesn't follow
-    /// is dropped. Returns how many were dropped, 0 or 1. `Net`: none can be taken.
+    /// is dropped. Where the system refuses one, as with too many open files, there is room made for it. Returns how many
+    /// were dropped, 0 or 1. `Net`: none can be taken, and there is no connection to be dropped for it.
     fn take_next(&self, connections: &mut Connections<'_>) -> Result<u32, ServingFault>
         requires { length connections.old.waiting.pending.items ≤ 64 }
         ensures few { IfOk result (λ done. done ≤ 1) }
         ensures net { IfErr result (λ fault. fault ≡ ServingFault.Net) }
+        ensures alone { OnErr result (connections.old.waiting.pending.items ≡ []) }
     {
-        let Some(stream) = connections.reception.take()? else {
+        let taken = match connections.reception.take() {
+            Ok(taken) => taken,
+            Err(_) => return self.make_room(connections),
+        };
+        let Some(stream) = taken else {
             return Ok(0);
         };
         let arrival = self.log.arrival();
@@ -109,6 +115,24 @@ impl<R: Clock> Server<'_, R> {
             has_bytes: false,
         });
         Ok(0)
+    }
+
+    /// Makes room for a connection that the system refuses: the oldest that waits is dropped, else the last one that has its
+    /// answer is ended. Returns how many were dropped, 0 or 1. `Net`: neither is there.
+    fn make_room(&self, connections: &mut Connections<'_>) -> Result<u32, ServingFault>
+        ensures few { IfOk result (λ done. done ≤ 1) }
+        ensures net { IfErr result (λ fault. fault ≡ ServingFault.Net) }
+        ensures alone { OnErr result (connections.old.waiting.pending.items ≡ []) }
+    {
+        if !connections.waiting.pending.is_empty() {
+            self.drop_oldest(connections);
+            return Ok(1);
+        }
+        if connections.answered.is_some() {
+            connections.keep(None);
+            return Ok(0);
+        }
+        Err(ServingFault::Net)
     }
 
     /// Drops the oldest connection that waits. No byte came on it.

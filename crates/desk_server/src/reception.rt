@@ -77,20 +77,21 @@ impl<'a> Acceptor<'a> {
         self.may_take
     }
 
-    /// Takes a connection, where one is there. `Net`: none can be taken. No other fault comes.
+    /// Takes a connection, where one is there that its client hasn't ended. `Net`: the system refuses it, and another may be
+    /// there. No other fault comes.
     pub(crate) fn take(&mut self) -> Result<Option<TcpStream>, ServingFault>
         ensures { IfErr result (λ fault. fault ≡ ServingFault.Net) }
     {
         match self.listener.accept() {
             Ok((stream, _)) => Ok(Some(stream)),
-            Err(e) => {
-                self.may_take = false;
-                if e.kind() == ErrorKind::WouldBlock {
+            Err(e) => match e.kind() {
+                ErrorKind::WouldBlock => {
+                    self.may_take = false;
                     Ok(None)
-                } else {
-                    Err(ServingFault::Net)
                 }
-            }
+                ErrorKind::ConnectionAborted | ErrorKind::Interrupted => Ok(None),
+                _ => Err(ServingFault::Net),
+            },
         }
     }
 

@@ -2,6 +2,7 @@
 
 import { capital, doubtOf, excess, grouped } from "./amounts.js";
 import { idOf } from "./ids.js";
+import { moment } from "./moments.js";
 import { isMaterial } from "./recipes.js";
 import { lotOf } from "./scans.js";
 import { MAY_CLOSE, STATES, TONES } from "./words.js";
@@ -26,21 +27,32 @@ export async function shift([id]) {
   const batches = areClosedShown ? await desk.closedBatches(want("closed")) : await desk.batches(want("batches"));
   const shown = id || (!isNarrow() && batches[0] && batches[0].batch);
   batchShown = null;
-  const rows = batches.map((it) => batchRow(it, it.batch === shown));
+  const rows = (areClosedShown ? batches : [...batches].sort(byDueDate)).map((it) => batchRow(it, it.batch === shown, areClosedShown));
   const noneOpen = "No batch is open. The planner releases an order, which makes its batch.";
-  const all = table(["Batch", "State"], rows, areClosedShown ? "No batch is closed." : noneOpen, true);
+  const all = table(["Batch", "State", "#Due"], rows, areClosedShown ? "No batch is closed." : noneOpen, true);
   const which = filterChoice("Which batches", "batches", WHICH);
   const csv = csvButton("batches", `batches-${areClosedShown ? "closed" : "open"}`, async () => (await (areClosedShown ? desk.closedBatches(Infinity)
-    : desk.batches(Infinity))).map((it) => ({ ...it, closed: areClosedShown })));
+    : desk.batches(Infinity))).map((it) => ({ ...it, ...it.planned, closed: areClosedShown })));
   const without = card("No batch", null, none("Once an order is released, its batch is started, booked and closed here."));
   const one = shown ? await batchCards(shown) : desk.seq === 0 ? firstSteps() : !isNarrow() && without;
   return ["list", listed(card("Batches", [csv, which], all, more(batches, areClosedShown ? "closed" : "batches"))), h("div", { class: "stack" }, one)];
 }
-function batchRow(batch, isShown) {
-  const next = batch.phase ? `next ${batch.phase}, ${batch.next} of ${batch.phases}` : "all phases done";
-  const small = (text) => h("div", { class: "soft small" }, text);
-  const cells = [idCell(batchLink(batch.batch), small(batch.order)), cell(pill(batch.state, TONES[batch.state]), small(next))];
+// Batches by the due dates of their orders, and of one day those of a higher priority first.
+function byDueDate({ planned: one }, { planned: other }) {
+  if (!one || !other) return Boolean(other) - Boolean(one);
+  return one.due < other.due ? -1 : one.due > other.due ? 1 : other.priority - one.priority;
+}
+function batchRow(batch, isShown, isClosed) {
+  const { planned } = batch, small = (...text) => h("div", { class: "soft small" }, ...text);
+  const next = batch.phase ? `next ${batch.phase} on ${batch.phase_unit}, ${batch.next} of ${batch.phases}` : "all phases done";
+  const cells = [idCell(batchLink(batch.batch), planned && h("div", { class: "under" }, planned.title || planned.product), small(batch.order)),
+    cell(pill(batch.state, TONES[batch.state]), small(next), small("since ", h("span", { class: "when" }, moment(batch.at)))),
+    h("td", { class: "num" }, planned && h("span", {}, isClosed ? planned.due : dueMark(planned.due), small(`${grouped(planned.size)} ${planned.unit || ""}`)))];
   return row(batch.batch, cells, "shift/" + batch.batch, isShown);
+}
+function dueMark(due) {
+  const today = desk.today();
+  return due < today ? pill(due + " late", "bad") : due === today ? pill(due + " today", "warn") : due;
 }
 async function batchCards(id) {
   const batch = await desk.batch(id);

@@ -1,4 +1,4 @@
-"""A batch at the page, in a browser: amounts above what was asked, which are booked on purpose alone, and the batch record in print."""
+"""Batches at the page, in a browser: their list, amounts above what was asked, which are booked on purpose alone, and the batch record in print."""
 from __future__ import annotations
 
 import shutil
@@ -13,6 +13,32 @@ FORM = "document.querySelector('dialog[open]')"
 # A note of 60 letters, and the longest id.
 NOTE = "scale 4 recalibrated before weighing, witnessed by erna h."
 LONGEST = "BREAD-OF-THE-NIGHT-00"
+
+
+class Worklist(BrowserTestCase):
+    """The list of batches."""
+
+    def test_batches_say_what_they_make_and_come_by_their_due_dates(self) -> None:
+        self.serve()
+        self.served.told(at=self.served.ask("/moment")["at"], by="anna", do="release", order="O-5", batch="A-1")
+        tab = self.open("shift")
+        rows = tab.run("[...document.querySelectorAll('.listed [data-row]')].map((it) => it.dataset.row)")
+        batches = {it["batch"]: it for it in self.served.ask("/lists/batches")["batches"]}
+        by_due = sorted(batches, key=lambda it: (batches[it]["planned"]["due"], -batches[it]["planned"]["priority"]))
+        self.check("the order of the batches", (rows, sorted(rows)), (by_due, ["A-1", "B-2", "B-3"]))
+        for batch, title, state, size in (("A-1", "Dough", "idle", "900 kg"), ("B-2", "Dough", "running", "600 kg"), ("B-3", "Bread", "running", "200 pcs")):
+            it = batches[batch]
+            since = time.strftime("%Y-%m-%d %H:%M", time.localtime(it["at"]))
+            where = f"next {it['phase']} on {it['phase_unit']}, {it['next']} of {it['phases']}" if it["phase"] else "all phases done"
+            due = it["planned"]["due"] + (" late" if it["planned"]["due"] < time.strftime("%Y-%m-%d") else "")
+            told = f"{batch} {title} {it['order']} {state} {where} since {since} {due} {size}"
+            self.check(f"the row of {batch}", " ".join(tab.text(f"document.querySelector('[data-row=\"{batch}\"]')").split()), told)
+        for width in (390, 820, 1280, 1920):
+            tab = self.open("shift", width=width)
+            self.check(f"the width at {width}", tab.run("document.documentElement.scrollWidth"), width)
+            wide = "[...document.querySelectorAll('.wide')].filter((it) => it.scrollWidth > it.clientWidth).length"
+            self.check(f"tables at {width} that are scrolled sideways", tab.run(wide), 0)
+        self.check("what the console tells of errors", tab.errors(), [])
 
 
 class Overbooking(BrowserTestCase):

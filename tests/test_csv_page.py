@@ -11,6 +11,9 @@ from tests.support.pages import MORNINGS, BrowserTestCase
 # Has the browser say that it is of a country whose decimals have a comma.
 GERMAN = """Object.defineProperty(navigator, "language", {value: "de-DE"});"""
 
+# The columns of batches.
+BATCHES = "Batch,Order,State,Attempt,Phases done,Phases,Next phase,Closed,On unit,Last event,Due,Priority,Recipe,Version,Title,Product,Size,Unit"
+
 # How many seconds a file may take.
 LIMIT = 60
 
@@ -59,8 +62,8 @@ class SavedLists(BrowserTestCase):
         for place, name, head, row in (
             ("planner", "orders-open", "Order,State,Due,Priority,Recipe,Version,Size", ("O-4", 6, "100")),
             ("planner", "recipes", "Recipe,Version,State,Title,Product,Base size,Least size,Greatest size", ("BREAD", 2, "approved")),
-            ("shift", "batches-open", "Batch,Order,State,Attempt,Phases done,Phases,Next phase,Closed", ("B-2", 6, "RISE")),
-            ("shift?batches=closed", "batches-closed", "Batch,Order,State,Attempt,Phases done,Phases,Next phase,Closed", ("B-1", 7, "yes")),
+            ("shift", "batches-open", BATCHES, ("B-2", 6, "RISE")),
+            ("shift?batches=closed", "batches-closed", BATCHES, ("B-1", 15, "DOUGH")),
             ("warehouse/FLOUR", "materials", "Class,Material,Name,Unit,Lots,Free,On hold,Recalled", ("GOODS", 3, "pcs")),
             ("warehouse/FLOUR", "lots-FLOUR", "Lot,Material,Part,Place,Stock,Unit,On hold,Recalled,Came,By,Note,Number", ("F-2", 11, "14")),
             ("quality", "holds", "Lot,Hold,When,By,Note", ("F-2", 4, "wet sacks")),

@@ -82,7 +82,8 @@ function rowsOf(items, columns) {
 const MATERIAL = ["Material", (it) => it.def], WHEN = ["When", (it) => moment(it.at, true)], AMOUNT = ["Amount", (it) => it.amount];
 const COLUMNS = {
   orders: ["order", "state", "due", "priority", "recipe", "version", "size"],
-  batches: ["batch", "order", "state", "attempt", ["Phases done", (it) => it.next - 1], "phases", ["Next phase", (it) => it.phase], "closed"],
+  batches: ["batch", "order", "state", "attempt", ["Phases done", (it) => it.next - 1], "phases", ["Next phase", (it) => it.phase], "closed",
+    ["On unit", (it) => it.phase_unit], ["Last event", (it) => moment(it.at, true)], "due", "priority", "recipe", "version", "title", "product", "size", "unit"],
   materials: ["class", MATERIAL, "name", "unit", "lots", ["Free", (it) => it.usable], ["On hold", (it) => it.held], "recalled"],
   stands: ["place", "lot", ["Part", (it) => it.no], MATERIAL, ["Amount", (it) => it.stock], "unit", ["On hold", (it) => it.held], "recalled", "seen"],
   lots: ["lot", MATERIAL, ["Part", (it) => it.no], "place", "stock", "unit", ["On hold", (it) => it.held], "recalled", ["Came", (it) => dayOf(it.at)], "by", "note",
@@ -1116,4 +1117,4 @@ function bookingForm(title, fields, label, take, more) {
 "##;
 
 /// Its entity tag.
-pub const SCRIPT_TAG: &str = "\"a34834ecdf46da6e9286582018bbc670\"";
+pub const SCRIPT_TAG: &str = "\"3ac12ca87c89c75540970fa639bb734f\"";

@@ -176,6 +176,8 @@ def replies() -> dict[str, Schema]:
         "reply": one_of(ref("accepted"), ref("refusal"), ref("fault")),
         "status": exact(status=words(400, 403, 404, 405, 411, 413, 431, 501)),
         "ahead": exact(ahead=number(1, 1_000_000), status=words(400)),
+        "no_reference": exact(reference=words("missing"), status=words(400)),
+        "operator": exact(operator=TEXT),
         "csv_fault": exact(csv=words(*CSV_FAULTS), row=number(0, 1001)),
     }
 
@@ -219,7 +221,7 @@ QUESTIONS = {
 # Why a request isn't answered 200.
 CAUSES = {
     400: "The head or the body isn't what it has to be",
-    403: "With --page alone: Host or Origin isn't that of a page of the desk",
+    403: "With --page: Host or Origin isn't that of a page of the desk; with --operator-field: the head doesn't name the operator, or names another one",
     404: "No such path, or what is asked for isn't there",
     405: "The path has other methods, which Allow names",
     409: "The desk refuses the command or the import",
@@ -232,6 +234,9 @@ CAUSES = {
 
 # The resources of the page, each with its media type.
 RESOURCES = {"/": "text/html; charset=utf-8", "/desk.css": "text/css", "/desk.js": "text/javascript", "/views.js": "text/javascript"}
+
+# Where a client asks who it is, with --operator-field alone.
+OPERATOR = "/v1/operator"
 
 # Fields of the head of an import.
 FIELDS: list[tuple[str, bool, str, Schema]] = [
@@ -278,9 +283,9 @@ def responses() -> dict[str, Schema]:
     for it in CAUSES:
         schema = {409: ref("refusal"), 503: ref("fault")}.get(it, ref("status"))
         found.update(refusing(it, f"of_{it}", schema))
-    found.update(refusing(400, "of_400_command", one_of(ref("status"), ref("ahead"), ref("refusal"))))
+    found.update(refusing(400, "of_400_command", one_of(ref("status"), ref("ahead"), ref("no_reference"), ref("refusal"))))
     found.update(refusing(400, "of_400_check", one_of(ref("status"), ref("ahead"))))
-    found.update(refusing(400, "of_400_orders", one_of(ref("status"), ref("ahead"), ref("csv_fault"))))
+    found.update(refusing(400, "of_400_orders", one_of(ref("status"), ref("ahead"), ref("no_reference"), ref("csv_fault"))))
     found.update(refusing(404, "of_404_question", one_of(ref("status"), ref("refusal"))))
     return found
 
@@ -341,6 +346,7 @@ def paths_of(defs: Mapping[str, Schema]) -> dict[str, Schema]:
     found = {path: asked(path, word, defs, ref(f"answer_{word}")) for path, word in questions.items()}
     text = {"type": "string"}
     found["/v1/batches/{batch}/record"] = asked("/v1/batches/{batch}/record", "batch", defs, text, "text/plain")
+    found[OPERATOR] = asked(OPERATOR, "desk", defs, ref("operator"))
     found.update({path: resource(path, kind, defs) for path, kind in RESOURCES.items()})
     fields = [{"name": name, "in": "header", "required": needed, "description": about, "schema": schema} for name, needed, about, schema in FIELDS]
     found["/v1/commands"] = posted("commands", "The command was accepted", body(ref("command")), ref("accepted"), of_400="of_400_command")
@@ -358,7 +364,7 @@ def version() -> str:
 
 def openapi_of(schema: Schema) -> Schema:
     """The description of the HTTP of a desk."""
-    about = "What `desk serve` answers on 127.0.0.1. FORMATS.md says what members mean. Paths outside /v1/ are served with --page alone."
+    about = "What `desk serve` answers on 127.0.0.1. FORMATS.md says what members mean. Paths outside /v1/ are served with --page alone, /v1/operator with --operator-field alone."
     described: Schema = with_places({
         "openapi": "3.1.0",
         "info": {"title": "Desk", "version": version(), "description": about},

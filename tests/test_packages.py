@@ -329,7 +329,7 @@ class Texts(PackageTestCase):
         self.check("PORT and COUNT", settings, [[("PORT", "8080"), ("COUNT", "1000000")]] * 2)
         for name, value in settings[0]:
             line = line.replace("${%s}" % name, value)
-        line = line.replace(" $HOSTS $LOG", "")
+        line = line.replace(" $HOSTS $BOOKS $LOG", "")
         self.check("the words of the unit", line, "/usr/bin/desk serve /var/lib/desk/%i.db 8080 1000000 --page")
         words = line.replace("/var/lib/desk/%i.db", "nowhere/plant.db").split()[1:]
         found = ran(self.tops["deb"] / "bin/desk", *words, cwd=self.folder, env=PLAIN)

@@ -25,6 +25,9 @@ DEFS = SCHEMA["$defs"]
 
 BAD_FORM = {"name": "BadForm", "refused": 1}
 
+# Options of a desk that answers who asks.
+OF_OPERATORS = ("--operator-field", "X-Operator")
+
 # So many lists in an object, one in the other, are deeper than is read.
 NESTED = 127
 
@@ -284,15 +287,15 @@ class Http(DeskTestCase):
 
     def test_each_question_is_answered_as_described(self) -> None:
         """Asks each path with all that may be in it: it is 404 by its form exactly where a parameter breaks its schema."""
-        with self.serve() as server:
+        with self.serve(*OF_OPERATORS) as server:
             for path, methods in OPENAPI["paths"].items():
                 if "get" not in methods or path in pages.resources():
                     continue
                 statuses = set()
                 for place, is_path in filled(path):
-                    status, value = self.check_answer(place, path, "get", server.answered(request("GET", place)))
+                    status, value = self.check_answer(place, path, "get", server.answered(request("GET", place, "X-Operator: anna")))
                     self.check(f"{place} is a path", value != {"status": 404}, is_path)
-                    self.check_answer(f"HEAD {place}", path, "head", server.answered(request("HEAD", place)))
+                    self.check_answer(f"HEAD {place}", path, "head", server.answered(request("HEAD", place, "X-Operator: anna")))
                     statuses.add(status)
                 self.check_true(f"{path} is answered", "200" in statuses)
 
@@ -318,11 +321,22 @@ class Http(DeskTestCase):
                 status, _ = self.check_answer(case, path, "post", answer)
                 self.check(case, status, wanted)
 
+    def test_booking_that_an_option_refuses_is_answered_as_described(self) -> None:
+        row = b"order,recipe,version,size,due,priority\nO-9,CAKE,1,500,2027-03-01,5\n"
+        good, anna = line('"do":"add_class","class":"NEW","name":""', '"at":1000,"by":"anna"'), "X-Operator: anna"
+        with self.serve("--references", *OF_OPERATORS) as server:
+            for path, text, fields in (("/v1/commands", good, ()), ("/v1/check", good, ()), ("/v1/orders", row, ("Desk-At: 1000", "Desk-By: anna"))):
+                for head, wanted in ((), "403"), ((anna,), "200" if path == "/v1/check" else "400"):
+                    status, _ = self.check_answer(path, path, "post", server.answered(posted(path, text, *fields, *head)))
+                    self.check(f"{path} {head}", status, wanted)
+            status, _ = self.check_answer("nobody", "/v1/operator", "get", server.answered(request("GET", "/v1/operator")))
+            self.check("nobody", status, "403")
+
     def test_paths_have_the_methods_that_are_described_and_no_others(self) -> None:
         source = (TOP / "crates/plant_http_requests/src/route_table.rt").read_text()
         routes = set(re.findall(r'"(/v1/[^"]*)"', source))
-        self.check("paths", set(OPENAPI["paths"]), {*routes, *pages.resources()})
-        with self.serve("--page") as server:
+        self.check("paths", set(OPENAPI["paths"]), {*routes, *pages.resources(), "/v1/operator"})
+        with self.serve("--page", *OF_OPERATORS) as server:
             for path, methods in OPENAPI["paths"].items():
                 place = next(it for it, is_path in filled(path) if is_path)
                 known = sorted(it.upper() for it in methods if it != "parameters")
@@ -333,7 +347,7 @@ class Http(DeskTestCase):
                 self.check(f"below {place}", server.answered(request("GET", f"{place}/x/y/z")).split(b" ", 2)[1], b"404")
 
     def test_broken_requests_are_answered_as_described(self) -> None:
-        with self.serve("--page") as server:
+        with self.serve("--page", *OF_OPERATORS) as server:
             for path, methods in OPENAPI["paths"].items():
                 place = next(it for it, is_path in filled(path) if is_path)
                 for method in [it for it in methods if it != "parameters"]:

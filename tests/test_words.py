@@ -46,6 +46,11 @@ WRONG_VALUES = [
     ["serve", "wrong.db", "8080", "1", "--ahead", "-1"],
     ["serve", "wrong.db", "8080", "1", "--ahead", "1000001"],
     ["serve", "wrong.db", "8080", "1", "--ahead", "x"],
+    ["serve", "wrong.db", "8080", "1", "--references", "yes"],
+    ["serve", "wrong.db", "8080", "1", "--operator-field"],
+    ["serve", "wrong.db", "8080", "1", "--operator-field", ""],
+    ["serve", "wrong.db", "8080", "1", "--operator-field", "A" * 61],
+    ["serve", "wrong.db", "8080", "1", "--operator-field", "A", "--operator-field", "B"],
     ["import", "wrong.db", "--at", "x"],
     ["import", "wrong.db", "--at", "253402300800"],
     ["import", "wrong.db", "--at", "1", "--by", "a" * 61],
@@ -56,6 +61,9 @@ WRONG_VALUES = [
 
 # The rule of a name of a host.
 HOST = b"NAME of --host is 1 to 60 of a to z, 0 to 9, - and ., the first no - and no .; 8 of them at most, and only with --page"
+
+# The rule of the name of a field.
+FIELD = b"NAME of --operator-field is 1 to 60 of A to Z, a to z, 0 to 9 and -"
 
 # The rule that is told where clap takes the words and a value breaks it: that of the first such value.
 BROKEN_RULES = [
@@ -69,6 +77,8 @@ BROKEN_RULES = [
     (["serve", "wrong.db", "8080", "1", "--page", "--host", ".a"], HOST),
     (["serve", "wrong.db", "8080", "1", "--page", "--host", "a:80"], HOST),
     (["serve", "wrong.db", "8080", "1", "--page", "--host", "a/b"], HOST),
+    (["serve", "wrong.db", "8080", "1", "--operator-field", "X-Operator:"], FIELD),
+    (["serve", "wrong.db", "8080", "1", "--operator-field", "X_Operator"], FIELD),
 ]
 
 # What connections send, and how each is noted behind its moment.

@@ -8,7 +8,7 @@ use Rattle.sqlite.specs.State as store
 use Rattle.sqlite.specs.State.{HasCleanDisk}
 use Rattle.plant_base.specs.{State}
 use Rattle.plant_desk_store.specs.{HasCrashStates, IsDurablyAt, Represents}
-use Rattle.plant_http_requests.specs.{Profile, Terms}
+use Rattle.plant_http_requests.specs.{field_of, Profile, Terms}
 use Rattle.plant_http_requests.specs.declared.profile.Profile.TheVariants as profile
 use Rattle.desk_file.specs.{WasDone}
 use Rattle.desk_cli.specs.{names_of, Serving, Work}
@@ -25,9 +25,10 @@ IsProfileOf None (profile.Page hosts) = ⊥
 IsProfileOf (Some hosts) profile.Open = ⊥
 IsProfileOf (Some hosts) (profile.Page names) = names.now ≡ names_of hosts
 
--- The terms by which requests are judged, whatever the time of each: that profile, and as far ahead as is said.
+-- The terms by which requests are judged, whatever the time of each: that profile, that field and those references, and as far ahead as is said.
 abbrev pub IsTermsOf : Serving → Terms → Type 0
-IsTermsOf serving terms = IsProfileOf serving.page terms.profile × (terms.most_ahead ≡ serving.most_ahead)
+IsTermsOf serving terms = IsProfileOf serving.page terms.profile × (field_of terms ≡ serving.operator_field)
+    × (terms.needs_references ≡ serving.needs_references) × (terms.most_ahead ≡ serving.most_ahead)
 
 -- A desk over a store has served at most so many connections from this state on, by these terms: it is where their jobs led, shut or not.
 abbrev pub HasServedFrom : Terms → ℕ → State → store.State → Bool → Type 0

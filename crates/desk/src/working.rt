@@ -1,5 +1,5 @@
 //! What is done over an opened store.
-ghost use Rattle.std.specs.Prelude.{◌≡◌, false, Err, IfErr, OnErr, OnOk};
+ghost use Rattle.std.specs.Prelude.{◌≡◌, false, Err, IfErr, OnErr, OnOk, option_copied};
 ghost use Rattle.sqlite.specs.Effect.{Database};
 ghost use Rattle.sqlite.specs.Held.{state};
 ghost use Rattle.sqlite.specs.State.{HasCleanDisk};
@@ -13,6 +13,7 @@ ghost use Rattle.plant_http_requests.specs.{Terms};
 use desk_cli::{Hosts, Serving, Work};
 use desk_program::{Performed, ProgramFault, adopt, perform_task, performed_of};
 use desk_server::{AccessLog, ServingFault, listen_at, local_at, serve_listener};
+use plant_base::Text;
 use plant_desk_store::Desk;
 use plant_http_requests::{Profile, Terms};
 use sqlite::{Alter, Connection};
@@ -113,12 +114,24 @@ fn profile_of(page: &Option<Hosts>) -> Profile<'_>
     }
 }
 
+/// The bytes of the name of a field.
+fn field_of(operator_field: &Option<Text>) -> Option<&[u8]>
+    ensures { option_copied result ≡ operator_field.now }
+{
+    match operator_field {
+        Some(name) => Some(name.as_bytes()),
+        None => None,
+    }
+}
+
 /// By what requests are judged, but for the time of each.
 fn terms_of(serving: &Serving) -> Terms<'_>
     ensures { IsTermsOf serving.now result }
 {
     Terms {
         profile: profile_of(&serving.page),
+        operator_field: field_of(&serving.operator_field),
+        needs_references: serving.needs_references,
         most_ahead: serving.most_ahead,
         now: None,
     }

@@ -103,97 +103,133 @@ serve_port_taken : (name file : Text) → begins_with_dash file ≡ false → fa
 unfolding clap_on_literals
 serve_port_taken name file h = rw (not_dashes file h, not_long file h, not_short file h) (refl {a = []})
 
-serve_port_rows : (name file : Text) → begins_with_dash file ≡ false → subcommand_of the_program (name ∷ codes "serve" ∷ file ∷ codes "8080" ∷ codes "1000" ∷ []) ≡ Some (codes "serve", rows_of_serve file (unset (codes "log") ∷ unset (codes "page") ∷ []))
+serve_port_rows : (name file : Text) → begins_with_dash file ≡ false → subcommand_of the_program (name ∷ codes "serve" ∷ file ∷ codes "8080" ∷ codes "1000" ∷ []) ≡ Some (codes "serve", rows_of_serve file (unset (codes "log") ∷ unset (codes "page") ∷ unset (codes "references") ∷ []))
 unfolding clap_on_literals
-serve_port_rows name file h = rw (not_dashes file h, not_long file h, not_short file h) (refl {a = Some (codes "serve", rows_of_serve file (unset (codes "log") ∷ unset (codes "page") ∷ []))})
+serve_port_rows name file h = rw (not_dashes file h, not_long file h, not_short file h) (refl {a = Some (codes "serve", rows_of_serve file (unset (codes "log") ∷ unset (codes "page") ∷ unset (codes "references") ∷ []))})
 
-serve_port : (name file : Text) → begins_with_dash file ≡ false → Mean (name ∷ codes "serve" ∷ file ∷ codes "8080" ∷ codes "1000" ∷ []) (file, work.Serve (record { port = 8080; count = 1000; is_logged = false; page = None; most_ahead = None }))
+serve_port : (name file : Text) → begins_with_dash file ≡ false → Mean (name ∷ codes "serve" ∷ file ∷ codes "8080" ∷ codes "1000" ∷ []) (file, work.Serve (record { port = 8080; count = 1000; is_logged = false; page = None; most_ahead = None; needs_references = false; operator_field = None }))
 unfolding work_in number_in
-serve_port name file h = by_rows (name ∷ codes "serve" ∷ file ∷ codes "8080" ∷ codes "1000" ∷ []) (rows_of_serve file (unset (codes "log") ∷ unset (codes "page") ∷ [])) (file, work.Serve (record { port = 8080; count = 1000; is_logged = false; page = None; most_ahead = None })) (serve_port_taken name file h) (serve_port_rows name file h) refl
+serve_port name file h = by_rows (name ∷ codes "serve" ∷ file ∷ codes "8080" ∷ codes "1000" ∷ []) (rows_of_serve file (unset (codes "log") ∷ unset (codes "page") ∷ unset (codes "references") ∷ [])) (file, work.Serve (record { port = 8080; count = 1000; is_logged = false; page = None; most_ahead = None; needs_references = false; operator_field = None })) (serve_port_taken name file h) (serve_port_rows name file h) refl
 
 serve_logged_taken : (name file : Text) → begins_with_dash file ≡ false → fault_of the_program (name ∷ codes "serve" ∷ file ∷ codes "8080" ∷ codes "1000" ∷ codes "--log" ∷ []) ≡ []
 unfolding clap_on_literals
 serve_logged_taken name file h = rw (not_dashes file h, not_long file h, not_short file h) (refl {a = []})
 
-serve_logged_rows : (name file : Text) → begins_with_dash file ≡ false → subcommand_of the_program (name ∷ codes "serve" ∷ file ∷ codes "8080" ∷ codes "1000" ∷ codes "--log" ∷ []) ≡ Some (codes "serve", rows_of_serve file (given (codes "log") (codes "true" ∷ []) ∷ unset (codes "page") ∷ []))
+serve_logged_rows : (name file : Text) → begins_with_dash file ≡ false → subcommand_of the_program (name ∷ codes "serve" ∷ file ∷ codes "8080" ∷ codes "1000" ∷ codes "--log" ∷ []) ≡ Some (codes "serve", rows_of_serve file (given (codes "log") (codes "true" ∷ []) ∷ unset (codes "page") ∷ unset (codes "references") ∷ []))
 unfolding clap_on_literals
-serve_logged_rows name file h = rw (not_dashes file h, not_long file h, not_short file h) (refl {a = Some (codes "serve", rows_of_serve file (given (codes "log") (codes "true" ∷ []) ∷ unset (codes "page") ∷ []))})
+serve_logged_rows name file h = rw (not_dashes file h, not_long file h, not_short file h) (refl {a = Some (codes "serve", rows_of_serve file (given (codes "log") (codes "true" ∷ []) ∷ unset (codes "page") ∷ unset (codes "references") ∷ []))})
 
-serve_logged : (name file : Text) → begins_with_dash file ≡ false → Mean (name ∷ codes "serve" ∷ file ∷ codes "8080" ∷ codes "1000" ∷ codes "--log" ∷ []) (file, work.Serve (record { port = 8080; count = 1000; is_logged = true; page = None; most_ahead = None }))
+serve_logged : (name file : Text) → begins_with_dash file ≡ false → Mean (name ∷ codes "serve" ∷ file ∷ codes "8080" ∷ codes "1000" ∷ codes "--log" ∷ []) (file, work.Serve (record { port = 8080; count = 1000; is_logged = true; page = None; most_ahead = None; needs_references = false; operator_field = None }))
 unfolding work_in number_in
-serve_logged name file h = by_rows (name ∷ codes "serve" ∷ file ∷ codes "8080" ∷ codes "1000" ∷ codes "--log" ∷ []) (rows_of_serve file (given (codes "log") (codes "true" ∷ []) ∷ unset (codes "page") ∷ [])) (file, work.Serve (record { port = 8080; count = 1000; is_logged = true; page = None; most_ahead = None })) (serve_logged_taken name file h) (serve_logged_rows name file h) refl
+serve_logged name file h = by_rows (name ∷ codes "serve" ∷ file ∷ codes "8080" ∷ codes "1000" ∷ codes "--log" ∷ []) (rows_of_serve file (given (codes "log") (codes "true" ∷ []) ∷ unset (codes "page") ∷ unset (codes "references") ∷ [])) (file, work.Serve (record { port = 8080; count = 1000; is_logged = true; page = None; most_ahead = None; needs_references = false; operator_field = None })) (serve_logged_taken name file h) (serve_logged_rows name file h) refl
 
 serve_page_taken : (name file : Text) → begins_with_dash file ≡ false → fault_of the_program (name ∷ codes "serve" ∷ file ∷ codes "8080" ∷ codes "1000" ∷ codes "--page" ∷ []) ≡ []
 unfolding clap_on_literals
 serve_page_taken name file h = rw (not_dashes file h, not_long file h, not_short file h) (refl {a = []})
 
-serve_page_rows : (name file : Text) → begins_with_dash file ≡ false → subcommand_of the_program (name ∷ codes "serve" ∷ file ∷ codes "8080" ∷ codes "1000" ∷ codes "--page" ∷ []) ≡ Some (codes "serve", rows_of_serve file (given (codes "page") (codes "true" ∷ []) ∷ unset (codes "log") ∷ []))
+serve_page_rows : (name file : Text) → begins_with_dash file ≡ false → subcommand_of the_program (name ∷ codes "serve" ∷ file ∷ codes "8080" ∷ codes "1000" ∷ codes "--page" ∷ []) ≡ Some (codes "serve", rows_of_serve file (given (codes "page") (codes "true" ∷ []) ∷ unset (codes "log") ∷ unset (codes "references") ∷ []))
 unfolding clap_on_literals
-serve_page_rows name file h = rw (not_dashes file h, not_long file h, not_short file h) (refl {a = Some (codes "serve", rows_of_serve file (given (codes "page") (codes "true" ∷ []) ∷ unset (codes "log") ∷ []))})
+serve_page_rows name file h = rw (not_dashes file h, not_long file h, not_short file h) (refl {a = Some (codes "serve", rows_of_serve file (given (codes "page") (codes "true" ∷ []) ∷ unset (codes "log") ∷ unset (codes "references") ∷ []))})
 
-serve_page : (name file : Text) → begins_with_dash file ≡ false → Mean (name ∷ codes "serve" ∷ file ∷ codes "8080" ∷ codes "1000" ∷ codes "--page" ∷ []) (file, work.Serve (record { port = 8080; count = 1000; is_logged = false; page = Some (hosts_of_names []); most_ahead = Some 300 }))
+serve_page : (name file : Text) → begins_with_dash file ≡ false → Mean (name ∷ codes "serve" ∷ file ∷ codes "8080" ∷ codes "1000" ∷ codes "--page" ∷ []) (file, work.Serve (record { port = 8080; count = 1000; is_logged = false; page = Some (hosts_of_names []); most_ahead = Some 300; needs_references = false; operator_field = None }))
 unfolding work_in number_in
-serve_page name file h = by_rows (name ∷ codes "serve" ∷ file ∷ codes "8080" ∷ codes "1000" ∷ codes "--page" ∷ []) (rows_of_serve file (given (codes "page") (codes "true" ∷ []) ∷ unset (codes "log") ∷ [])) (file, work.Serve (record { port = 8080; count = 1000; is_logged = false; page = Some (hosts_of_names []); most_ahead = Some 300 })) (serve_page_taken name file h) (serve_page_rows name file h) refl
+serve_page name file h = by_rows (name ∷ codes "serve" ∷ file ∷ codes "8080" ∷ codes "1000" ∷ codes "--page" ∷ []) (rows_of_serve file (given (codes "page") (codes "true" ∷ []) ∷ unset (codes "log") ∷ unset (codes "references") ∷ [])) (file, work.Serve (record { port = 8080; count = 1000; is_logged = false; page = Some (hosts_of_names []); most_ahead = Some 300; needs_references = false; operator_field = None })) (serve_page_taken name file h) (serve_page_rows name file h) refl
 
 serve_hosts_taken : (name file : Text) → begins_with_dash file ≡ false → fault_of the_program (name ∷ codes "serve" ∷ file ∷ codes "8080" ∷ codes "1000" ∷ codes "--page" ∷ codes "--host" ∷ codes "a.example" ∷ codes "--host" ∷ codes "b" ∷ []) ≡ []
 unfolding clap_on_literals
 serve_hosts_taken name file h = rw (not_dashes file h, not_long file h, not_short file h) (refl {a = []})
 
-serve_hosts_rows : (name file : Text) → begins_with_dash file ≡ false → subcommand_of the_program (name ∷ codes "serve" ∷ file ∷ codes "8080" ∷ codes "1000" ∷ codes "--page" ∷ codes "--host" ∷ codes "a.example" ∷ codes "--host" ∷ codes "b" ∷ []) ≡ Some (codes "serve", rows_of_serve file (given (codes "page") (codes "true" ∷ []) ∷ given (codes "host") (codes "a.example" ∷ codes "b" ∷ []) ∷ unset (codes "log") ∷ []))
+serve_hosts_rows : (name file : Text) → begins_with_dash file ≡ false → subcommand_of the_program (name ∷ codes "serve" ∷ file ∷ codes "8080" ∷ codes "1000" ∷ codes "--page" ∷ codes "--host" ∷ codes "a.example" ∷ codes "--host" ∷ codes "b" ∷ []) ≡ Some (codes "serve", rows_of_serve file (given (codes "page") (codes "true" ∷ []) ∷ given (codes "host") (codes "a.example" ∷ codes "b" ∷ []) ∷ unset (codes "log") ∷ unset (codes "references") ∷ []))
 unfolding clap_on_literals
-serve_hosts_rows name file h = rw (not_dashes file h, not_long file h, not_short file h) (refl {a = Some (codes "serve", rows_of_serve file (given (codes "page") (codes "true" ∷ []) ∷ given (codes "host") (codes "a.example" ∷ codes "b" ∷ []) ∷ unset (codes "log") ∷ []))})
+serve_hosts_rows name file h = rw (not_dashes file h, not_long file h, not_short file h) (refl {a = Some (codes "serve", rows_of_serve file (given (codes "page") (codes "true" ∷ []) ∷ given (codes "host") (codes "a.example" ∷ codes "b" ∷ []) ∷ unset (codes "log") ∷ unset (codes "references") ∷ []))})
 
-serve_hosts : (name file : Text) → begins_with_dash file ≡ false → Mean (name ∷ codes "serve" ∷ file ∷ codes "8080" ∷ codes "1000" ∷ codes "--page" ∷ codes "--host" ∷ codes "a.example" ∷ codes "--host" ∷ codes "b" ∷ []) (file, work.Serve (record { port = 8080; count = 1000; is_logged = false; page = Some (hosts_of_names (codes "a.example" ∷ codes "b" ∷ [])); most_ahead = Some 300 }))
+serve_hosts : (name file : Text) → begins_with_dash file ≡ false → Mean (name ∷ codes "serve" ∷ file ∷ codes "8080" ∷ codes "1000" ∷ codes "--page" ∷ codes "--host" ∷ codes "a.example" ∷ codes "--host" ∷ codes "b" ∷ []) (file, work.Serve (record { port = 8080; count = 1000; is_logged = false; page = Some (hosts_of_names (codes "a.example" ∷ codes "b" ∷ [])); most_ahead = Some 300; needs_references = false; operator_field = None }))
 unfolding work_in number_in
-serve_hosts name file h = by_rows (name ∷ codes "serve" ∷ file ∷ codes "8080" ∷ codes "1000" ∷ codes "--page" ∷ codes "--host" ∷ codes "a.example" ∷ codes "--host" ∷ codes "b" ∷ []) (rows_of_serve file (given (codes "page") (codes "true" ∷ []) ∷ given (codes "host") (codes "a.example" ∷ codes "b" ∷ []) ∷ unset (codes "log") ∷ [])) (file, work.Serve (record { port = 8080; count = 1000; is_logged = false; page = Some (hosts_of_names (codes "a.example" ∷ codes "b" ∷ [])); most_ahead = Some 300 })) (serve_hosts_taken name file h) (serve_hosts_rows name file h) refl
+serve_hosts name file h = by_rows (name ∷ codes "serve" ∷ file ∷ codes "8080" ∷ codes "1000" ∷ codes "--page" ∷ codes "--host" ∷ codes "a.example" ∷ codes "--host" ∷ codes "b" ∷ []) (rows_of_serve file (given (codes "page") (codes "true" ∷ []) ∷ given (codes "host") (codes "a.example" ∷ codes "b" ∷ []) ∷ unset (codes "log") ∷ unset (codes "references") ∷ [])) (file, work.Serve (record { port = 8080; count = 1000; is_logged = false; page = Some (hosts_of_names (codes "a.example" ∷ codes "b" ∷ [])); most_ahead = Some 300; needs_references = false; operator_field = None })) (serve_hosts_taken name file h) (serve_hosts_rows name file h) refl
 
 serve_ahead_taken : (name file : Text) → begins_with_dash file ≡ false → fault_of the_program (name ∷ codes "serve" ∷ file ∷ codes "8080" ∷ codes "1000" ∷ codes "--ahead" ∷ codes "60" ∷ []) ≡ []
 unfolding clap_on_literals
 serve_ahead_taken name file h = rw (not_dashes file h, not_long file h, not_short file h) (refl {a = []})
 
-serve_ahead_rows : (name file : Text) → begins_with_dash file ≡ false → subcommand_of the_program (name ∷ codes "serve" ∷ file ∷ codes "8080" ∷ codes "1000" ∷ codes "--ahead" ∷ codes "60" ∷ []) ≡ Some (codes "serve", rows_of_serve file (number (codes "ahead") (codes "60") ∷ unset (codes "log") ∷ unset (codes "page") ∷ []))
+serve_ahead_rows : (name file : Text) → begins_with_dash file ≡ false → subcommand_of the_program (name ∷ codes "serve" ∷ file ∷ codes "8080" ∷ codes "1000" ∷ codes "--ahead" ∷ codes "60" ∷ []) ≡ Some (codes "serve", rows_of_serve file (number (codes "ahead") (codes "60") ∷ unset (codes "log") ∷ unset (codes "page") ∷ unset (codes "references") ∷ []))
 unfolding clap_on_literals
-serve_ahead_rows name file h = rw (not_dashes file h, not_long file h, not_short file h) (refl {a = Some (codes "serve", rows_of_serve file (number (codes "ahead") (codes "60") ∷ unset (codes "log") ∷ unset (codes "page") ∷ []))})
+serve_ahead_rows name file h = rw (not_dashes file h, not_long file h, not_short file h) (refl {a = Some (codes "serve", rows_of_serve file (number (codes "ahead") (codes "60") ∷ unset (codes "log") ∷ unset (codes "page") ∷ unset (codes "references") ∷ []))})
 
-serve_ahead : (name file : Text) → begins_with_dash file ≡ false → Mean (name ∷ codes "serve" ∷ file ∷ codes "8080" ∷ codes "1000" ∷ codes "--ahead" ∷ codes "60" ∷ []) (file, work.Serve (record { port = 8080; count = 1000; is_logged = false; page = None; most_ahead = Some 60 }))
+serve_ahead : (name file : Text) → begins_with_dash file ≡ false → Mean (name ∷ codes "serve" ∷ file ∷ codes "8080" ∷ codes "1000" ∷ codes "--ahead" ∷ codes "60" ∷ []) (file, work.Serve (record { port = 8080; count = 1000; is_logged = false; page = None; most_ahead = Some 60; needs_references = false; operator_field = None }))
 unfolding work_in number_in
-serve_ahead name file h = by_rows (name ∷ codes "serve" ∷ file ∷ codes "8080" ∷ codes "1000" ∷ codes "--ahead" ∷ codes "60" ∷ []) (rows_of_serve file (number (codes "ahead") (codes "60") ∷ unset (codes "log") ∷ unset (codes "page") ∷ [])) (file, work.Serve (record { port = 8080; count = 1000; is_logged = false; page = None; most_ahead = Some 60 })) (serve_ahead_taken name file h) (serve_ahead_rows name file h) refl
+serve_ahead name file h = by_rows (name ∷ codes "serve" ∷ file ∷ codes "8080" ∷ codes "1000" ∷ codes "--ahead" ∷ codes "60" ∷ []) (rows_of_serve file (number (codes "ahead") (codes "60") ∷ unset (codes "log") ∷ unset (codes "page") ∷ unset (codes "references") ∷ [])) (file, work.Serve (record { port = 8080; count = 1000; is_logged = false; page = None; most_ahead = Some 60; needs_references = false; operator_field = None })) (serve_ahead_taken name file h) (serve_ahead_rows name file h) refl
 
 serve_any_ahead_taken : (name file : Text) → begins_with_dash file ≡ false → fault_of the_program (name ∷ codes "serve" ∷ file ∷ codes "8080" ∷ codes "1000" ∷ codes "--page" ∷ codes "--ahead" ∷ codes "0" ∷ []) ≡ []
 unfolding clap_on_literals
 serve_any_ahead_taken name file h = rw (not_dashes file h, not_long file h, not_short file h) (refl {a = []})
 
-serve_any_ahead_rows : (name file : Text) → begins_with_dash file ≡ false → subcommand_of the_program (name ∷ codes "serve" ∷ file ∷ codes "8080" ∷ codes "1000" ∷ codes "--page" ∷ codes "--ahead" ∷ codes "0" ∷ []) ≡ Some (codes "serve", rows_of_serve file (given (codes "page") (codes "true" ∷ []) ∷ number (codes "ahead") (codes "0") ∷ unset (codes "log") ∷ []))
+serve_any_ahead_rows : (name file : Text) → begins_with_dash file ≡ false → subcommand_of the_program (name ∷ codes "serve" ∷ file ∷ codes "8080" ∷ codes "1000" ∷ codes "--page" ∷ codes "--ahead" ∷ codes "0" ∷ []) ≡ Some (codes "serve", rows_of_serve file (given (codes "page") (codes "true" ∷ []) ∷ number (codes "ahead") (codes "0") ∷ unset (codes "log") ∷ unset (codes "references") ∷ []))
 unfolding clap_on_literals
-serve_any_ahead_rows name file h = rw (not_dashes file h, not_long file h, not_short file h) (refl {a = Some (codes "serve", rows_of_serve file (given (codes "page") (codes "true" ∷ []) ∷ number (codes "ahead") (codes "0") ∷ unset (codes "log") ∷ []))})
+serve_any_ahead_rows name file h = rw (not_dashes file h, not_long file h, not_short file h) (refl {a = Some (codes "serve", rows_of_serve file (given (codes "page") (codes "true" ∷ []) ∷ number (codes "ahead") (codes "0") ∷ unset (codes "log") ∷ unset (codes "references") ∷ []))})
 
-serve_any_ahead : (name file : Text) → begins_with_dash file ≡ false → Mean (name ∷ codes "serve" ∷ file ∷ codes "8080" ∷ codes "1000" ∷ codes "--page" ∷ codes "--ahead" ∷ codes "0" ∷ []) (file, work.Serve (record { port = 8080; count = 1000; is_logged = false; page = Some (hosts_of_names []); most_ahead = None }))
+serve_any_ahead : (name file : Text) → begins_with_dash file ≡ false → Mean (name ∷ codes "serve" ∷ file ∷ codes "8080" ∷ codes "1000" ∷ codes "--page" ∷ codes "--ahead" ∷ codes "0" ∷ []) (file, work.Serve (record { port = 8080; count = 1000; is_logged = false; page = Some (hosts_of_names []); most_ahead = None; needs_references = false; operator_field = None }))
 unfolding work_in number_in
-serve_any_ahead name file h = by_rows (name ∷ codes "serve" ∷ file ∷ codes "8080" ∷ codes "1000" ∷ codes "--page" ∷ codes "--ahead" ∷ codes "0" ∷ []) (rows_of_serve file (given (codes "page") (codes "true" ∷ []) ∷ number (codes "ahead") (codes "0") ∷ unset (codes "log") ∷ [])) (file, work.Serve (record { port = 8080; count = 1000; is_logged = false; page = Some (hosts_of_names []); most_ahead = None })) (serve_any_ahead_taken name file h) (serve_any_ahead_rows name file h) refl
+serve_any_ahead name file h = by_rows (name ∷ codes "serve" ∷ file ∷ codes "8080" ∷ codes "1000" ∷ codes "--page" ∷ codes "--ahead" ∷ codes "0" ∷ []) (rows_of_serve file (given (codes "page") (codes "true" ∷ []) ∷ number (codes "ahead") (codes "0") ∷ unset (codes "log") ∷ unset (codes "references") ∷ [])) (file, work.Serve (record { port = 8080; count = 1000; is_logged = false; page = Some (hosts_of_names []); most_ahead = None; needs_references = false; operator_field = None })) (serve_any_ahead_taken name file h) (serve_any_ahead_rows name file h) refl
 
-host_alone_rows : (name file : Text) → begins_with_dash file ≡ false → subcommand_of the_program (name ∷ codes "serve" ∷ file ∷ codes "8080" ∷ codes "1000" ∷ codes "--host" ∷ codes "a" ∷ []) ≡ Some (codes "serve", rows_of_serve file (given (codes "host") (codes "a" ∷ []) ∷ unset (codes "log") ∷ unset (codes "page") ∷ []))
+serve_references_taken : (name file : Text) → begins_with_dash file ≡ false → fault_of the_program (name ∷ codes "serve" ∷ file ∷ codes "8080" ∷ codes "1000" ∷ codes "--references" ∷ []) ≡ []
 unfolding clap_on_literals
-host_alone_rows name file h = rw (not_dashes file h, not_long file h, not_short file h) (refl {a = Some (codes "serve", rows_of_serve file (given (codes "host") (codes "a" ∷ []) ∷ unset (codes "log") ∷ unset (codes "page") ∷ []))})
+serve_references_taken name file h = rw (not_dashes file h, not_long file h, not_short file h) (refl {a = []})
+
+serve_references_rows : (name file : Text) → begins_with_dash file ≡ false → subcommand_of the_program (name ∷ codes "serve" ∷ file ∷ codes "8080" ∷ codes "1000" ∷ codes "--references" ∷ []) ≡ Some (codes "serve", rows_of_serve file (given (codes "references") (codes "true" ∷ []) ∷ unset (codes "log") ∷ unset (codes "page") ∷ []))
+unfolding clap_on_literals
+serve_references_rows name file h = rw (not_dashes file h, not_long file h, not_short file h) (refl {a = Some (codes "serve", rows_of_serve file (given (codes "references") (codes "true" ∷ []) ∷ unset (codes "log") ∷ unset (codes "page") ∷ []))})
+
+serve_references : (name file : Text) → begins_with_dash file ≡ false → Mean (name ∷ codes "serve" ∷ file ∷ codes "8080" ∷ codes "1000" ∷ codes "--references" ∷ []) (file, work.Serve (record { port = 8080; count = 1000; is_logged = false; page = None; most_ahead = None; needs_references = true; operator_field = None }))
+unfolding work_in number_in
+serve_references name file h = by_rows (name ∷ codes "serve" ∷ file ∷ codes "8080" ∷ codes "1000" ∷ codes "--references" ∷ []) (rows_of_serve file (given (codes "references") (codes "true" ∷ []) ∷ unset (codes "log") ∷ unset (codes "page") ∷ [])) (file, work.Serve (record { port = 8080; count = 1000; is_logged = false; page = None; most_ahead = None; needs_references = true; operator_field = None })) (serve_references_taken name file h) (serve_references_rows name file h) refl
+
+serve_operator_field_taken : (name file : Text) → begins_with_dash file ≡ false → fault_of the_program (name ∷ codes "serve" ∷ file ∷ codes "8080" ∷ codes "1000" ∷ codes "--operator-field" ∷ codes "X-Operator" ∷ []) ≡ []
+unfolding clap_on_literals
+serve_operator_field_taken name file h = rw (not_dashes file h, not_long file h, not_short file h) (refl {a = []})
+
+serve_operator_field_rows : (name file : Text) → begins_with_dash file ≡ false → subcommand_of the_program (name ∷ codes "serve" ∷ file ∷ codes "8080" ∷ codes "1000" ∷ codes "--operator-field" ∷ codes "X-Operator" ∷ []) ≡ Some (codes "serve", rows_of_serve file (given (codes "operator-field") (codes "X-Operator" ∷ []) ∷ unset (codes "log") ∷ unset (codes "page") ∷ unset (codes "references") ∷ []))
+unfolding clap_on_literals
+serve_operator_field_rows name file h = rw (not_dashes file h, not_long file h, not_short file h) (refl {a = Some (codes "serve", rows_of_serve file (given (codes "operator-field") (codes "X-Operator" ∷ []) ∷ unset (codes "log") ∷ unset (codes "page") ∷ unset (codes "references") ∷ []))})
+
+serve_operator_field : (name file : Text) → begins_with_dash file ≡ false → Mean (name ∷ codes "serve" ∷ file ∷ codes "8080" ∷ codes "1000" ∷ codes "--operator-field" ∷ codes "X-Operator" ∷ []) (file, work.Serve (record { port = 8080; count = 1000; is_logged = false; page = None; most_ahead = None; needs_references = false; operator_field = Some (codes "X-Operator") }))
+unfolding work_in number_in
+serve_operator_field name file h = by_rows (name ∷ codes "serve" ∷ file ∷ codes "8080" ∷ codes "1000" ∷ codes "--operator-field" ∷ codes "X-Operator" ∷ []) (rows_of_serve file (given (codes "operator-field") (codes "X-Operator" ∷ []) ∷ unset (codes "log") ∷ unset (codes "page") ∷ unset (codes "references") ∷ [])) (file, work.Serve (record { port = 8080; count = 1000; is_logged = false; page = None; most_ahead = None; needs_references = false; operator_field = Some (codes "X-Operator") })) (serve_operator_field_taken name file h) (serve_operator_field_rows name file h) refl
+
+field_with_colon_rows : (name file : Text) → begins_with_dash file ≡ false → subcommand_of the_program (name ∷ codes "serve" ∷ file ∷ codes "8080" ∷ codes "1000" ∷ codes "--operator-field" ∷ codes "X:" ∷ []) ≡ Some (codes "serve", rows_of_serve file (given (codes "operator-field") (codes "X:" ∷ []) ∷ unset (codes "log") ∷ unset (codes "page") ∷ unset (codes "references") ∷ []))
+unfolding clap_on_literals
+field_with_colon_rows name file h = rw (not_dashes file h, not_long file h, not_short file h) (refl {a = Some (codes "serve", rows_of_serve file (given (codes "operator-field") (codes "X:" ∷ []) ∷ unset (codes "log") ∷ unset (codes "page") ∷ unset (codes "references") ∷ []))})
+
+field_with_colon : (name file : Text) → begins_with_dash file ≡ false → Break (name ∷ codes "serve" ∷ file ∷ codes "8080" ∷ codes "1000" ∷ codes "--operator-field" ∷ codes "X:" ∷ []) argument.OperatorField
+unfolding work_in number_in
+field_with_colon name file h = broken_by_rows (name ∷ codes "serve" ∷ file ∷ codes "8080" ∷ codes "1000" ∷ codes "--operator-field" ∷ codes "X:" ∷ []) (rows_of_serve file (given (codes "operator-field") (codes "X:" ∷ []) ∷ unset (codes "log") ∷ unset (codes "page") ∷ unset (codes "references") ∷ [])) argument.OperatorField (field_with_colon_rows name file h) refl
+
+field_wants : (name file : Text) → begins_with_dash file ≡ false → AreWrong (name ∷ codes "serve" ∷ file ∷ codes "8080" ∷ codes "1000" ∷ codes "--operator-field" ∷ [])
+unfolding clap_on_literals
+field_wants name file h = rw (not_dashes file h, not_long file h, not_short file h) (refl {a = true})
+
+host_alone_rows : (name file : Text) → begins_with_dash file ≡ false → subcommand_of the_program (name ∷ codes "serve" ∷ file ∷ codes "8080" ∷ codes "1000" ∷ codes "--host" ∷ codes "a" ∷ []) ≡ Some (codes "serve", rows_of_serve file (given (codes "host") (codes "a" ∷ []) ∷ unset (codes "log") ∷ unset (codes "page") ∷ unset (codes "references") ∷ []))
+unfolding clap_on_literals
+host_alone_rows name file h = rw (not_dashes file h, not_long file h, not_short file h) (refl {a = Some (codes "serve", rows_of_serve file (given (codes "host") (codes "a" ∷ []) ∷ unset (codes "log") ∷ unset (codes "page") ∷ unset (codes "references") ∷ []))})
 
 host_alone : (name file : Text) → begins_with_dash file ≡ false → Break (name ∷ codes "serve" ∷ file ∷ codes "8080" ∷ codes "1000" ∷ codes "--host" ∷ codes "a" ∷ []) argument.Host
 unfolding work_in number_in
-host_alone name file h = broken_by_rows (name ∷ codes "serve" ∷ file ∷ codes "8080" ∷ codes "1000" ∷ codes "--host" ∷ codes "a" ∷ []) (rows_of_serve file (given (codes "host") (codes "a" ∷ []) ∷ unset (codes "log") ∷ unset (codes "page") ∷ [])) argument.Host (host_alone_rows name file h) refl
+host_alone name file h = broken_by_rows (name ∷ codes "serve" ∷ file ∷ codes "8080" ∷ codes "1000" ∷ codes "--host" ∷ codes "a" ∷ []) (rows_of_serve file (given (codes "host") (codes "a" ∷ []) ∷ unset (codes "log") ∷ unset (codes "page") ∷ unset (codes "references") ∷ [])) argument.Host (host_alone_rows name file h) refl
 
-host_with_port_rows : (name file : Text) → begins_with_dash file ≡ false → subcommand_of the_program (name ∷ codes "serve" ∷ file ∷ codes "8080" ∷ codes "1000" ∷ codes "--page" ∷ codes "--host" ∷ codes "a:80" ∷ []) ≡ Some (codes "serve", rows_of_serve file (given (codes "page") (codes "true" ∷ []) ∷ given (codes "host") (codes "a:80" ∷ []) ∷ unset (codes "log") ∷ []))
+host_with_port_rows : (name file : Text) → begins_with_dash file ≡ false → subcommand_of the_program (name ∷ codes "serve" ∷ file ∷ codes "8080" ∷ codes "1000" ∷ codes "--page" ∷ codes "--host" ∷ codes "a:80" ∷ []) ≡ Some (codes "serve", rows_of_serve file (given (codes "page") (codes "true" ∷ []) ∷ given (codes "host") (codes "a:80" ∷ []) ∷ unset (codes "log") ∷ unset (codes "references") ∷ []))
 unfolding clap_on_literals
-host_with_port_rows name file h = rw (not_dashes file h, not_long file h, not_short file h) (refl {a = Some (codes "serve", rows_of_serve file (given (codes "page") (codes "true" ∷ []) ∷ given (codes "host") (codes "a:80" ∷ []) ∷ unset (codes "log") ∷ []))})
+host_with_port_rows name file h = rw (not_dashes file h, not_long file h, not_short file h) (refl {a = Some (codes "serve", rows_of_serve file (given (codes "page") (codes "true" ∷ []) ∷ given (codes "host") (codes "a:80" ∷ []) ∷ unset (codes "log") ∷ unset (codes "references") ∷ []))})
 
 host_with_port : (name file : Text) → begins_with_dash file ≡ false → Break (name ∷ codes "serve" ∷ file ∷ codes "8080" ∷ codes "1000" ∷ codes "--page" ∷ codes "--host" ∷ codes "a:80" ∷ []) argument.Host
 unfolding work_in number_in
-host_with_port name file h = broken_by_rows (name ∷ codes "serve" ∷ file ∷ codes "8080" ∷ codes "1000" ∷ codes "--page" ∷ codes "--host" ∷ codes "a:80" ∷ []) (rows_of_serve file (given (codes "page") (codes "true" ∷ []) ∷ given (codes "host") (codes "a:80" ∷ []) ∷ unset (codes "log") ∷ [])) argument.Host (host_with_port_rows name file h) refl
+host_with_port name file h = broken_by_rows (name ∷ codes "serve" ∷ file ∷ codes "8080" ∷ codes "1000" ∷ codes "--page" ∷ codes "--host" ∷ codes "a:80" ∷ []) (rows_of_serve file (given (codes "page") (codes "true" ∷ []) ∷ given (codes "host") (codes "a:80" ∷ []) ∷ unset (codes "log") ∷ unset (codes "references") ∷ [])) argument.Host (host_with_port_rows name file h) refl
 
-high_host_rows : (name file : Text) → begins_with_dash file ≡ false → subcommand_of the_program (name ∷ codes "serve" ∷ file ∷ codes "8080" ∷ codes "1000" ∷ codes "--page" ∷ codes "--host" ∷ codes "A" ∷ []) ≡ Some (codes "serve", rows_of_serve file (given (codes "page") (codes "true" ∷ []) ∷ given (codes "host") (codes "A" ∷ []) ∷ unset (codes "log") ∷ []))
+high_host_rows : (name file : Text) → begins_with_dash file ≡ false → subcommand_of the_program (name ∷ codes "serve" ∷ file ∷ codes "8080" ∷ codes "1000" ∷ codes "--page" ∷ codes "--host" ∷ codes "A" ∷ []) ≡ Some (codes "serve", rows_of_serve file (given (codes "page") (codes "true" ∷ []) ∷ given (codes "host") (codes "A" ∷ []) ∷ unset (codes "log") ∷ unset (codes "references") ∷ []))
 unfolding clap_on_literals
-high_host_rows name file h = rw (not_dashes file h, not_long file h, not_short file h) (refl {a = Some (codes "serve", rows_of_serve file (given (codes "page") (codes "true" ∷ []) ∷ given (codes "host") (codes "A" ∷ []) ∷ unset (codes "log") ∷ []))})
+high_host_rows name file h = rw (not_dashes file h, not_long file h, not_short file h) (refl {a = Some (codes "serve", rows_of_serve file (given (codes "page") (codes "true" ∷ []) ∷ given (codes "host") (codes "A" ∷ []) ∷ unset (codes "log") ∷ unset (codes "references") ∷ []))})
 
 high_host : (name file : Text) → begins_with_dash file ≡ false → Break (name ∷ codes "serve" ∷ file ∷ codes "8080" ∷ codes "1000" ∷ codes "--page" ∷ codes "--host" ∷ codes "A" ∷ []) argument.Host
 unfolding work_in number_in
-high_host name file h = broken_by_rows (name ∷ codes "serve" ∷ file ∷ codes "8080" ∷ codes "1000" ∷ codes "--page" ∷ codes "--host" ∷ codes "A" ∷ []) (rows_of_serve file (given (codes "page") (codes "true" ∷ []) ∷ given (codes "host") (codes "A" ∷ []) ∷ unset (codes "log") ∷ [])) argument.Host (high_host_rows name file h) refl
+high_host name file h = broken_by_rows (name ∷ codes "serve" ∷ file ∷ codes "8080" ∷ codes "1000" ∷ codes "--page" ∷ codes "--host" ∷ codes "A" ∷ []) (rows_of_serve file (given (codes "page") (codes "true" ∷ []) ∷ given (codes "host") (codes "A" ∷ []) ∷ unset (codes "log") ∷ unset (codes "references") ∷ [])) argument.Host (high_host_rows name file h) refl
 
 host_wants : (name file : Text) → begins_with_dash file ≡ false → AreWrong (name ∷ codes "serve" ∷ file ∷ codes "8080" ∷ codes "1000" ∷ codes "--page" ∷ codes "--host" ∷ [])
 unfolding clap_on_literals
@@ -222,6 +258,10 @@ serve_words = record {
   serve_page = serve_page;
   serve_ahead = serve_ahead;
   serve_any_ahead = serve_any_ahead;
+  serve_references = serve_references;
+  serve_operator_field = serve_operator_field;
+  field_with_colon = field_with_colon;
+  field_wants = field_wants;
   serve_hosts = serve_hosts;
   host_alone = host_alone;
   host_with_port = host_with_port;

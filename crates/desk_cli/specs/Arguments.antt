@@ -17,6 +17,7 @@ name_of argument.Port = codes "port"
 name_of argument.Count = codes "count"
 name_of argument.Host = codes "host"
 name_of argument.Ahead = codes "ahead"
+name_of argument.OperatorField = codes "operator-field"
 
 abbrev pub rule_text : Argument → List ℕ
 rule_text argument.Word = codes "the word is one of init, run, import, trace, record, verify and serve"
@@ -31,6 +32,7 @@ rule_text argument.Port = codes "PORT is a whole number from 1 to 65535"
 rule_text argument.Count = codes "COUNT is a whole number from 1 to 1000000"
 rule_text argument.Host = codes "NAME of --host is 1 to 60 of a to z, 0 to 9, - and ., the first no - and no .; 8 of them at most, and only with --page"
 rule_text argument.Ahead = codes "SECONDS of --ahead is a whole number from 0 to 1000000"
+rule_text argument.OperatorField = codes "NAME of --operator-field is 1 to 60 of A to Z, a to z, 0 to 9 and -"
 
 -- the lines that refuse arguments with such a value
 abbrev pub refusal_text : Argument → List ℕ

@@ -88,6 +88,20 @@ ahead_rule = record (new_rule (codes "ahead")) {
   parser = Some (parser.Signed (pos 0) (pos greatest_ahead));
 }
 
+-- whether a command has to have a reference
+abbrev pub references_rule : Rule
+references_rule = record (new_rule (codes "references")) {
+  long = Some (codes "references");
+  action = Some SetTrue;
+}
+
+-- the field of a head that says whose commands a request may bring
+abbrev pub operator_field_rule : Rule
+operator_field_rule = record (new_rule (codes "operator-field")) {
+  long = Some (codes "operator-field");
+  value_names = 1;
+}
+
 -- ---- subcommands
 
 -- a subcommand that takes a file
@@ -107,8 +121,12 @@ record_app = with_rule (word_app (codes "record")) (required_rule (codes "batch"
 abbrev pub port_app : App
 port_app = with_rule (with_rule (with_rule (word_app (codes "serve")) port_rule) count_rule) log_rule
 
+-- the same with the arguments about the web page and the clock
+abbrev pub page_app : App
+page_app = with_rule (with_rule (with_rule port_app page_rule) host_rule) ahead_rule
+
 abbrev pub serve_app : App
-serve_app = with_rule (with_rule (with_rule port_app page_rule) host_rule) ahead_rule
+serve_app = with_rule (with_rule page_app references_rule) operator_field_rule
 
 -- the program's name alone: the subcommand `help` has no meaning of its own
 abbrev pub bare_program : App

@@ -1,6 +1,7 @@
 pub mod Arguments
 pub mod CommandLine
 pub mod Hosts
+pub mod FieldNames
 pub mod Meaning
 pub mod PlainWords
 pub mod Taken

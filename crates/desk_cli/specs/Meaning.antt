@@ -11,6 +11,7 @@ use Rattle.plant_trace.specs.{Direction}
 use Rattle.plant_trace.specs.declared.direction.Direction.TheVariants.{Back, Forward}
 use Rattle.desk_cli.specs.Arguments.{name_of, refusal_text}
 use Rattle.desk_cli.specs.CommandLine.{the_program, greatest_ahead, greatest_port, most_connections}
+use Rattle.desk_cli.specs.FieldNames.{is_field_name}
 use Rattle.desk_cli.specs.Hosts.{hosts_of, hosts_of_names}
 use Rattle.desk_cli.specs.declared.hosts.Hosts.{Hosts}
 use Rattle.desk_cli.specs.declared.argument.Argument.{Argument}
@@ -118,7 +119,16 @@ serving_in rows = do
   count ← value_in argument.Count (number_in 1 most_connections) rows
   page ← page_in rows
   ahead ← if_named argument.Ahead (number_in 0 greatest_ahead) (first_of (codes "ahead") rows)
-  Ok (record { port = port; count = count; is_logged = is_set (first_of (codes "log") rows); page = page; most_ahead = most_ahead_of (is_some page) ahead })
+  operator_field ← if_named argument.OperatorField (only is_field_name) (first_of (codes "operator-field") rows)
+  Ok (record {
+    port = port;
+    count = count;
+    is_logged = is_set (first_of (codes "log") rows);
+    page = page;
+    most_ahead = most_ahead_of (is_some page) ahead;
+    needs_references = is_set (first_of (codes "references") rows);
+    operator_field = operator_field;
+  })
 
 -- ---- subcommands
 

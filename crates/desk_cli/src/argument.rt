@@ -31,6 +31,8 @@ pub enum Argument {
     Host,
     /// How far ahead a command may be, whose range clap sees to.
     Ahead,
+    /// The name of the field of a head that says whose commands a request may bring.
+    OperatorField,
 }
 
 impl Argument {
@@ -51,6 +53,7 @@ impl Argument {
             Argument::Count => "count",
             Argument::Host => "host",
             Argument::Ahead => "ahead",
+            Argument::OperatorField => "operator-field",
         }
     }
 }
@@ -79,6 +82,9 @@ impl fmt::Display for Argument {
                 "NAME of --host is 1 to 60 of a to z, 0 to 9, - and ., the first no - and no .; 8 of them at most, and only with --page"
             }
             Argument::Ahead => "SECONDS of --ahead is a whole number from 0 to 1000000",
+            Argument::OperatorField => {
+                "NAME of --operator-field is 1 to 60 of A to Z, a to z, 0 to 9 and -"
+            }
         })
     }
 }

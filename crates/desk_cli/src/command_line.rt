@@ -4,6 +4,7 @@ ghost use Rattle.clap.specs.Words.{app_of, rule_of, shape_of, with_rule, with_su
 ghost use Rattle.desk_cli.specs.CommandLine.{ahead_rule, bare_program, import_app, count_rule, host_rule};
 ghost use Rattle.desk_cli.specs.CommandLine.{log_rule, page_rule, port_app, port_rule, record_app};
 ghost use Rattle.desk_cli.specs.CommandLine.{serve_app, the_program, trace_app, required_rule};
+ghost use Rattle.desk_cli.specs.CommandLine.{operator_field_rule, page_app, references_rule};
 ghost use Rattle.desk_cli.specs.CommandLine.{word_app, at_rule, by_rule, reference_rule};
 ghost use Rattle.desk_cli.specs.CommandLine.{with_taking, with_report_words, IsLocal};
 
@@ -117,6 +118,30 @@ fn ahead_argument<'a>(alloc: Global) -> Arg<'a>
         .value_parser(value_parser!(u32).range(0..=1_000_000))
 }
 
+/// `--references`, whether a command has to have a reference.
+fn references_argument<'a>(alloc: Global) -> Arg<'a>
+    ensures rule { rule_of result ≡ references_rule }
+    ensures local { result.global ≡ false }
+{
+    Arg::new(alloc, "references")
+        .long("references")
+        .action(ArgAction::SetTrue)
+        .help("Refuse commands and imports that have no reference")
+}
+
+/// `--operator-field NAME`, the field of a head that says whose commands a request may bring.
+fn operator_field_argument<'a>(alloc: Global) -> Arg<'a>
+    ensures rule { rule_of result ≡ operator_field_rule }
+    ensures local { result.global ≡ false }
+{
+    Arg::new(alloc, "operator-field")
+        .long("operator-field")
+        .value_name("NAME")
+        .help(
+            "Refuse commands and imports whose operator isn't the value of this field, which a proxy sets from its login",
+        )
+}
+
 /// The subcommand `name`, which takes the name of a file alone.
 fn word_command<'a>(
     alloc: Global,
@@ -222,7 +247,7 @@ fn record_command<'a>(alloc: Global) -> Result<Command<'a>, AllocError>
     .arg(batch)
 }
 
-/// The subcommand `serve` without the arguments about the web page and the clock.
+/// The subcommand `serve` without the arguments about the web page, the clock and commands.
 fn port_command<'a>(alloc: Global) -> Result<Command<'a>, AllocError>
     ensures app { IfOk result (λ c. app_of c ≡ port_app) }
     ensures local { IfOk result (λ c. IsLocal c) }
@@ -250,12 +275,22 @@ fn with_page<'a>(alloc: Global, word: Command<'a>) -> Result<Command<'a>, AllocE
         .arg(ahead_argument(alloc))
 }
 
+/// The subcommand `serve` without the arguments about commands.
+fn page_command<'a>(alloc: Global) -> Result<Command<'a>, AllocError>
+    ensures app { IfOk result (λ c. app_of c ≡ page_app) }
+    ensures local { IfOk result (λ c. IsLocal c) }
+{
+    with_page(alloc, port_command(alloc)?)
+}
+
 /// The subcommand `serve`.
 fn serve_command<'a>(alloc: Global) -> Result<Command<'a>, AllocError>
     ensures app { IfOk result (λ c. app_of c ≡ serve_app) }
     ensures local { IfOk result (λ c. IsLocal c) }
 {
-    with_page(alloc, port_command(alloc)?)
+    page_command(alloc)?
+        .arg(references_argument(alloc))?
+        .arg(operator_field_argument(alloc))
 }
 
 /// The program with no subcommand.

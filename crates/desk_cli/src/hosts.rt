@@ -49,7 +49,7 @@ fn empty_text() -> Text
 }
 
 /// A letter, in lower case, or a digit.
-fn is_letter_or_digit(b: u8) -> bool
+pub(crate) fn is_letter_or_digit(b: u8) -> bool
     ensures { result ≡ is_letter_or_digit b }
 {
     b.is_ascii_lowercase() || b.is_ascii_digit()

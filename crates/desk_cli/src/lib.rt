@@ -6,6 +6,7 @@ mod check_fault;
 mod checking;
 mod command_line;
 mod desk_checking;
+mod field_names;
 mod hosts;
 mod laws;
 mod line_checking;

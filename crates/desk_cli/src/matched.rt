@@ -9,8 +9,8 @@ use crate::argument::Argument;
 use crate::hosts::{Hosts, hosts_of};
 use crate::meaning::{Serving, Task, Words, Work};
 use crate::values::{
-    direction_at, id_at, moment_at, number_at, optional_id_at, optional_number_at, text_at,
-    value_of, values_of,
+    direction_at, id_at, moment_at, number_at, optional_field_name_at, optional_id_at,
+    optional_number_at, text_at, value_of, values_of,
 };
 use clap::ArgMatches;
 
@@ -114,12 +114,15 @@ fn serving_in(matches: &ArgMatches<'_>) -> Result<Serving, Argument>
     let count = number_at(matches, Argument::Count, 1, u64::from(MOST_CONNECTIONS))?;
     let page = page_in(matches)?;
     let ahead = optional_number_at(matches, Argument::Ahead, GREATEST_AHEAD)?;
+    let operator_field = optional_field_name_at(matches, Argument::OperatorField)?;
     Ok(Serving {
         port: port as u16,
         count: count as u32,
         is_logged: is_set(matches, "log"),
         page,
         most_ahead: most_ahead_of(page.is_some(), ahead),
+        needs_references: is_set(matches, "references"),
+        operator_field,
     })
 }
 

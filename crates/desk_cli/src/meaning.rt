@@ -69,6 +69,11 @@ pub struct Serving {
     pub page: Option<Hosts>,
     /// By how many seconds a command may be ahead of the machine's clock, 1 to 1,000,000; `None` where it may be by any.
     pub most_ahead: Option<u32>,
+    /// Whether a command that is to be executed has to have a reference.
+    pub needs_references: bool,
+    /// The name of the field of a head that says whose commands the request may bring, of letters, digits and `-`; `None` where it may bring
+    /// anyone's.
+    pub operator_field: Option<Text>,
 }
 
 /// Why the arguments give nothing to do.

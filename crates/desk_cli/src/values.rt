@@ -3,9 +3,11 @@ ghost use Rattle.std.specs.Prelude.{◌≡◌, ◌<◌, ◌^◌, ◌≤◌, IfOk
 ghost use Rattle.clap.specs.Words.{all_of, first_of, found_of, rows_of};
 ghost use Rattle.plant_base.specs.{greatest_moment, is_id, is_text, only};
 ghost use Rattle.desk_cli.specs.Arguments.{name_of};
+ghost use Rattle.desk_cli.specs.FieldNames.{is_field_name};
 ghost use Rattle.desk_cli.specs.Meaning.{direction_of, if_named, number_in, value_in};
 
 use crate::argument::Argument;
+use crate::field_names::read_field_name;
 use clap::ArgMatches;
 use plant_base::{GREATEST_MOMENT, Id, Moment, Text};
 use plant_trace::Direction;
@@ -70,6 +72,23 @@ pub(crate) fn optional_number_at(
     match value_of(matches, argument.name()) {
         Some(text) => match small_in(text, greatest) {
             Some(number) => Ok(Some(number)),
+            None => Err(argument),
+        },
+        None => Ok(None),
+    }
+}
+
+/// The name of a field that an argument is, where it is given.
+pub(crate) fn optional_field_name_at(
+    matches: &ArgMatches<'_>,
+    argument: Argument,
+) -> Result<Option<Text>, Argument>
+    ensures { result ≡ if_named argument (only is_field_name)
+        (first_of (name_of argument) (rows_of (found_of matches.now))) }
+{
+    match value_of(matches, argument.name()) {
+        Some(text) => match read_field_name(text) {
+            Some(name) => Ok(Some(name)),
             None => Err(argument),
         },
         None => Ok(None),

@@ -116,6 +116,8 @@ fn served<K: Keeper>(
         &routes,
         Terms {
             profile: Profile::Open,
+            operator_field: None,
+            needs_references: false,
             most_ahead: None,
             now: None,
         },

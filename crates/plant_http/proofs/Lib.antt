@@ -1,2 +1,3 @@
 pub mod TaskPerforms
 pub mod RequestOfInput
+mod ShortTexts

@@ -1,5 +1,5 @@
 -- What is answered to a task.
-use Rattle.std.specs.Prelude.{◌≡◌, ℕ, Bool, false, ◌||◌, List, [], ◌++◌, length, codes, decimal, string_bytes, if◌then◌else◌, ◌==◌, ◌⊎◌, Option, Some, None, Result, Ok, Err}
+use Rattle.std.specs.Prelude.{◌≡◌, ℕ, Bool, false, ◌||◌, List, [], ◌∷◌, ◌++◌, length, codes, decimal, string_bytes, if◌then◌else◌, ◌==◌, ◌⊎◌, Option, Some, None, Result, Ok, Err}
 use Rattle.httpdate.specs.Date.{date_text}
 use Rattle.httpdate.specs.declared.date.HttpDate.{HttpDate}
 use Rattle.desk_page.specs.{Resource, bytes_of, media_type_of, tag_of}
@@ -134,6 +134,22 @@ status_text status = codes "{\"status\":" ++ decimal (code_of status) ++ codes "
 abbrev pub ahead_text : ℕ → List ℕ
 ahead_text most = codes "{\"ahead\":" ++ decimal most ++ codes ",\"status\":400}"
 
+-- a byte of a text as a string of JSON has it: a quotation mark and a backslash come after a backslash
+abbrev pub escaped_byte : ℕ → List ℕ
+escaped_byte b = if (b == 34) || (b == 92) then 92 ∷ b ∷ [] else b ∷ []
+
+abbrev pub escaped : List ℕ → List ℕ
+escaped [] = []
+escaped (b ∷ text) = escaped_byte b ++ escaped text
+
+-- the operator whom a head names
+abbrev pub operator_text : List ℕ → List ℕ
+operator_text operator = codes "{\"operator\":\"" ++ escaped operator ++ codes "\"}"
+
+-- a command lacks the reference that it has to have
+abbrev pub reference_text : List ℕ
+reference_text = codes "{\"reference\":\"missing\",\"status\":400}"
+
 abbrev pub csv_text : CsvFault → List ℕ
 csv_text f = codes "{\"csv\":\"" ++ kind_name f.kind ++ codes "\",\"row\":" ++ decimal f.row ++ codes "}"
 
@@ -147,6 +163,12 @@ error_out status allow = record { status = status; allow = allow; media_type = m
 -- a fault of the keeper, or want of memory
 abbrev pub fault_out : DeskFault → Out
 fault_out f = json_out st.Unavailable (fault_text f)
+
+abbrev pub operator_out : List ℕ → Out
+operator_out operator = json_out st.Success (operator_text operator)
+
+abbrev pub reference_out : Out
+reference_out = json_out st.BadRequest reference_text
 
 abbrev pub ahead_out : ℕ → Out
 ahead_out most = json_out st.BadRequest (ahead_text most)
@@ -209,18 +231,21 @@ resource_out resource is_current =
 abbrev pub decision_out : ℕ → State → HeadDecision → Out
 decision_out k s (head.Refuse status allow silent) = error_out status allow
 decision_out k s (head.Ask question body_format silent) = answer_out body_format (answer k s question)
+decision_out k s (head.Operator operator silent) = operator_out operator
 decision_out k s (head.Resource resource is_current silent) = resource_out resource is_current
 
 -- what is answered to it by a keeper that is shut
 abbrev pub decision_shut : HeadDecision → Out
 decision_shut (head.Refuse status allow silent) = error_out status allow
 decision_shut (head.Ask question body_format silent) = fault_out fault.Shut
+decision_shut (head.Operator operator silent) = operator_out operator
 decision_shut (head.Resource resource is_current silent) = resource_out resource is_current
 
 -- whether the answer's body is left out: to a HEAD, and where the client has a resource as it is
 abbrev pub is_silent_decision : HeadDecision → Bool
 is_silent_decision (head.Refuse status allow silent) = silent
 is_silent_decision (head.Ask question body_format silent) = silent
+is_silent_decision (head.Operator operator silent) = silent
 is_silent_decision (head.Resource resource is_current silent) = is_current || silent
 
 -- what is answered to a task by a keeper of schema k that represents s
@@ -228,6 +253,8 @@ abbrev pub out_of : ℕ → State → RequestTask → Out
 out_of k s (J.Decided decision) = decision_out k s decision
 out_of k s (J.Command e) = reply_out (reply s e)
 out_of k s (J.Check c) = check_out (check_answer s c)
+out_of k s J.OtherOperator = error_out st.Forbidden NoHeader
+out_of k s J.NoReference = reference_out
 out_of k s (J.Ahead most) = ahead_out most
 out_of k s J.BadForm = reply_out (Refused BadForm)
 out_of k s (J.BadFile f) = csv_out f
@@ -238,6 +265,8 @@ abbrev pub shut_out : RequestTask → Out
 shut_out (J.Decided decision) = decision_shut decision
 shut_out (J.Command e) = fault_out fault.Shut
 shut_out (J.Check c) = checked_out (check_when_shut c)
+shut_out J.OtherOperator = error_out st.Forbidden NoHeader
+shut_out J.NoReference = reference_out
 shut_out (J.Ahead most) = ahead_out most
 shut_out J.BadForm = reply_out (Refused BadForm)
 shut_out (J.BadFile f) = csv_out f

@@ -22,6 +22,7 @@ use Rattle.plant_http.specs.declared.serve.ServeFault.TheVariants as end
 abbrev pub entry_of_decision : HeadDecision → Entry
 entry_of_decision (head.Refuse status allow silent) = nothing
 entry_of_decision (head.Ask q body_format silent) = question q
+entry_of_decision (head.Operator operator silent) = nothing
 entry_of_decision (head.Resource resource is_current silent) = nothing
 
 -- what a task is to it
@@ -29,6 +30,8 @@ abbrev pub entry_of : RequestTask → Entry
 entry_of (J.Decided decision) = entry_of_decision decision
 entry_of (J.Command e) = command e
 entry_of (J.Check c) = check c
+entry_of J.OtherOperator = nothing
+entry_of J.NoReference = nothing
 entry_of (J.Ahead most) = nothing
 entry_of J.BadForm = nothing
 entry_of (J.BadFile f) = nothing
@@ -38,6 +41,7 @@ entry_of J.MemoryError = nothing
 abbrev pub is_asked : HeadDecision → Bool
 is_asked (head.Refuse status allow silent) = false
 is_asked (head.Ask q body_format silent) = true
+is_asked (head.Operator operator silent) = false
 is_asked (head.Resource resource is_current silent) = false
 
 -- whether a fault may be answered instead of the task: the keeper is asked, or memory is taken for what a body says

@@ -1,15 +1,17 @@
 //! Answers, before they are written.
 ghost use Rattle.std.specs.Prelude.{◌≡◌, ◌⊎◌, ◌||◌, false, IfOk, string_bytes};
 ghost use Rattle.plant_base.specs.{number_of};
-ghost use Rattle.plant_http.specs.Answers.{ahead_out, body_bytes, Is, error_out, fault_out, csv_out};
+ghost use Rattle.plant_http.specs.Answers.{ahead_out, body_bytes, Is, error_out, fault_out, csv_out, operator_out, reference_out};
 ghost use Rattle.plant_http.specs.Answers.{reply_out, answer_out, text_in, refused_status};
 ghost use Rattle.plant_http.specs.Answers.{reply_status, answer_status, body_format_for, resource_status, resource_out};
 ghost use Rattle.plant_http.specs.Answers.{check_out};
 
-use crate::fixed_text::{FixedText, ahead_text, csv_text, status_text};
+use crate::fixed_text::{
+    FixedText, ahead_text, csv_text, operator_text, reference_text, status_text,
+};
 use crate::media::{MediaType, media_of};
 use desk_page::{Resource, bytes_of};
-use plant_base::Refusal;
+use plant_base::{Refusal, Text};
 use plant_http_requests::{Allow, BodyFormat, Status};
 use plant_orders::CsvFault;
 use plant_questions::{Answer as DeskAnswer, DeskFault, Reply};
@@ -109,6 +111,24 @@ pub(crate) fn fault_answer(fault: DeskFault, silent: bool) -> Response
     ensures { Is (fault_out fault) silent result }
 {
     json(Status::Unavailable, Body::Reply(fault_line(fault)), silent)
+}
+
+/// The operator whom a head names. It takes no memory.
+pub(crate) fn operator_answer(operator: &Text, silent: bool) -> Response
+    ensures { Is (operator_out operator.now) silent result }
+{
+    json(
+        Status::Success,
+        Body::Short(operator_text(operator)),
+        silent,
+    )
+}
+
+/// A command that lacks the reference that it has to have.
+pub(crate) fn reference_answer() -> Response
+    ensures { Is reference_out false result }
+{
+    json(Status::BadRequest, Body::Short(reference_text()), false)
 }
 
 /// A command that is ahead of the machine's clock by more than so many seconds.

@@ -1,7 +1,8 @@
 //! Short texts in a room of fixed size.
-ghost use Rattle.std.specs.Prelude.{◌≡◌, ◌+◌, ◌≤◌, ◌++◌, [], length, decimal};
+ghost use Rattle.std.specs.Prelude.{◌≡◌, ◌+◌, ◌*◌, ◌≤◌, ◌++◌, [], length, decimal};
 ghost use Rattle.plant_orders.specs.{kind_name};
-ghost use Rattle.plant_http.specs.Answers.{ahead_text, head_text, date_line, resource_lines, security_header_lines, validator_lines, status_text, csv_text};
+ghost use Rattle.plant_http.specs.Answers.{ahead_text, head_text, date_line, resource_lines, security_header_lines, validator_lines, status_text, csv_text, reference_text};
+ghost use Rattle.plant_http.specs.Answers.{escaped, escaped_byte, operator_text};
 
 use crate::media::{MediaType, policy, type_of};
 use crate::status::{allow_line, code_of, phrase_of};
@@ -9,6 +10,7 @@ use arrayvec::ArrayVec;
 use desk_page::{Resource, tag_of};
 use httpdate::HttpDate;
 use itoa::Buffer;
+use plant_base::Text;
 use plant_http_requests::{Allow, Status};
 use plant_orders::{CsvFault, CsvKind};
 use std::marker::Model;
@@ -122,6 +124,30 @@ impl FixedText {
         }
     }
 
+    /// Adds a byte of a text as a string of JSON has it (RFC 8259, section 7).
+    fn push_escaped_byte(&mut self, byte: u8)
+        requires { length self.old + 2 ≤ 817 }
+        ensures text { self.new ≡ self.old ++ escaped_byte byte }
+        ensures short { length self.new ≤ length self.old + 2 }
+    {
+        if byte == b'"' || byte == b'\\' {
+            self.push_bytes(&[b'\\', byte]);
+        } else {
+            self.push_bytes(&[byte]);
+        }
+    }
+
+    /// Adds a text as a string of JSON has it, but for its quotation marks.
+    fn push_escaped(&mut self, text: &[u8])
+        requires { length self.old + 2 * length text.now ≤ 817 }
+        ensures text { self.new ≡ self.old ++ escaped text.now }
+        ensures short { length self.new ≤ length self.old + 2 * length text.now }
+    {
+        for byte in text {
+            self.push_escaped_byte(*byte);
+        }
+    }
+
     /// The bytes of the text so far.
     pub(crate) fn as_bytes(&self) -> &[u8]
         ensures { result.now ≡ self.now }
@@ -157,6 +183,34 @@ pub(crate) fn head_text(
     text.push(allow_line(allow));
     text.push_resource_headers(media_type);
     text.push("\r\n");
+    text
+}
+
+/// The bytes of a text, at most 60.
+fn bytes_of_text(text: &Text) -> &[u8]
+    ensures value { result.now ≡ text.now }
+    ensures short { length result.now ≤ 60 }
+{
+    text.as_bytes()
+}
+
+/// `{"operator":TEXT}`
+pub(crate) fn operator_text(operator: &Text) -> FixedText
+    ensures { result ≡ operator_text operator.now }
+{
+    let mut text = FixedText::new();
+    text.push("{\"operator\":\"");
+    text.push_escaped(bytes_of_text(operator));
+    text.push("\"}");
+    text
+}
+
+/// `{"reference":"missing","status":400}`
+pub(crate) fn reference_text() -> FixedText
+    ensures { result ≡ reference_text }
+{
+    let mut text = FixedText::new();
+    text.push("{\"reference\":\"missing\",\"status\":400}");
     text
 }
 

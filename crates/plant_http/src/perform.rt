@@ -9,11 +9,11 @@ ghost use Rattle.plant_http_requests.specs.declared.task.RequestTask.TheVariants
 
 use crate::answer::{
     Response, ahead_answer, asked_answer, check_answer, csv_answer, error_answer, fault_answer,
-    reply_answer, resource_answer,
+    operator_answer, reference_answer, reply_answer, resource_answer,
 };
 use plant_base::{Envelope, Refusal};
 use plant_desk::Keeper;
-use plant_http_requests::{BodyFormat, HeadDecision, RequestTask};
+use plant_http_requests::{Allow, BodyFormat, HeadDecision, RequestTask, Status};
 use plant_questions::{Answer as DeskAnswer, DeskFault, Question, Reply};
 use plant_text::{CheckAnswer, ToCheck, answer_check};
 use std::alloc::Global;
@@ -122,6 +122,7 @@ fn perform_decision<K: Keeper>(alloc: Global, keeper: &mut K, decision: &HeadDec
             allow,
             silent,
         } => error_answer(*status, *allow, *silent),
+        HeadDecision::Operator { operator, silent } => operator_answer(operator, *silent),
         HeadDecision::Resource {
             resource,
             is_current,
@@ -144,6 +145,8 @@ pub(crate) fn perform<K: Keeper>(alloc: Global, keeper: &mut K, task: &RequestTa
         RequestTask::Decided(decision) => perform_decision(alloc, keeper, decision),
         RequestTask::Command(envelope) => execute(keeper, envelope),
         RequestTask::Check(to_check) => check(alloc, keeper, to_check),
+        RequestTask::OtherOperator => error_answer(Status::Forbidden, Allow::NoHeader, false),
+        RequestTask::NoReference => reference_answer(),
         RequestTask::Ahead(most) => ahead_answer(*most),
         RequestTask::BadForm => reply_answer(&Reply::Refused(Refusal::BadForm)),
         RequestTask::BadFile(fault) => csv_answer(*fault),

@@ -94,8 +94,8 @@ fn answer_task<W: Write, K: Keeper>(
 /// command whose body ended early isn't executed. The answer is written after the keeper's reply, and between an executed command and the end of its answer no memory is
 /// taken. Only a keeper's fault and want of memory for what a body says or for an answer's text are answered 503.
 ///
-/// The terms say which requests are served, whether the page is, and how far a command may be ahead of the machine's clock: one that is
-/// further ahead is answered 400 before the keeper is asked. No keeper is asked for a resource of the page: one that is shut serves it too.
+/// The terms say which requests are served, whether the page is, whose commands a request may bring, whether they need references, and how far they
+/// may be ahead of the machine's clock: another one is answered 403 or 400 before the keeper is asked. No keeper is asked for a resource of the page: one that is shut serves it too.
 ///
 /// What is written depends on the bytes of the input and not on the pieces in which they come, but for `Endless`.
 ///

@@ -1,5 +1,5 @@
--- What bodies ask for, and that an input asks for one thing.
-use Rattle.std.proofs.Common.{◌≡◌, ℕ, Bool, true, false, List, [], drop, take, Option, Some, None, Result, Ok, Err, refl, sym, subst, ap, ◌∙◌, nat_lt, IfOk, IsErrOf, ◌↔◌, MatchBool}
+-- What bodies say, and that an input asks for one thing.
+use Rattle.std.proofs.Common.{◌≡◌, ℕ, Bool, true, false, List, [], drop, take, Option, Some, None, Result, Ok, Err, refl, sym, ap, ◌∙◌, nat_lt, IfOk, IsErrOf, ◌↔◌, MatchBool}
 use Rattle.std.specs.Prelude.{◌∷◌, codes, if◌then◌else◌, is_some}
 use Rattle.std.specs.Result.{result_ok}
 use Rattle.serde_json.specs.Data.{Data}
@@ -16,7 +16,7 @@ use Rattle.plant_text.specs.declared.read.Line.TheVariants as L
 use Rattle.plant_text.specs.declared.LineFault.TheVariants as line
 use Rattle.plant_http_requests.specs.declared.reading.HeadEnd.{HeadEnd}
 use Rattle.plant_http_requests.specs.declared.reading.HeadEnd.TheVariants as end
-use Rattle.plant_http_requests.specs.{end_of_head, field_lines, Parsed, fails, command_task, command_of, file_task, fault_task_of, ahead_or, body_task, body_says, in_time, moment_of, overrun, is_of_body, Reads, EndTask, TaskOf, parsed_step, finish}
+use Rattle.plant_http_requests.specs.{end_of_head, field_lines, Parsed, fails, command_task, command_of, file_task, fault_task_of, body_says, is_of_body, Reads, EndTask, TaskOf, parsed_step, finish}
 use Rattle.plant_json_in.specs.{Around, AskedKind, Field, NodeKind, fields_of, node_in, question_in, FormatError, ShapeError, ◌>>=◌, object}
 use Rattle.plant_json_in.specs.declared.format_errors.FormatError.TheVariants as format_error
 use Rattle.plant_json_in.specs.declared.format_errors.ShapeError.TheVariants as shape_error
@@ -29,7 +29,6 @@ use Rattle.plant_http_requests.specs.declared.task.BodyKind.TheVariants as conte
 use Rattle.plant_http_requests.specs.declared.task.RequestTask.{RequestTask}
 use Rattle.plant_http_requests.specs.declared.task.RequestTask.TheVariants as J
 use Rattle.plant_http_requests.specs.declared.task.HeadStep.{HeadStep}
-use Rattle.plant_http_requests.specs.declared.profile.Profile.{Profile}
 use Rattle.plant_http_requests.specs.declared.profile.Terms.{Terms}
 use Rattle.plant_http_requests.specs.declared.status.Status.TheVariants.{HeadTooLarge}
 
@@ -111,43 +110,9 @@ by_reading : (r : Result Data FormatError) (e : Envelope) → Same (result_ok (r
 by_reading (Ok d) e = by_object (is_some (as_object d)) d e
 by_reading (Err p) e = no_command None p e refl
 
-alike : (body : List ℕ) (e : Envelope) → (body_says content.Command body ≡ J.Command e) ↔ (body_says content.Check body ≡ J.Check (to_check.Command e))
+pub alike : (body : List ℕ) (e : Envelope) → (body_says content.Command body ≡ J.Command e) ↔ (body_says content.Check body ≡ J.Check (to_check.Command e))
 unfolding line_says text_checked
 alike body e = by_reading (value_in body) e
-
--- ---- a command that is in time
-
--- what was read is what the body asks for, want of memory aside
-in_time_of_body : (o : Option ℕ) (task : RequestTask) → is_of_body task ≡ true → is_of_body (ahead_or o task) ≡ true
-in_time_of_body None task h = h
-in_time_of_body (Some most) task h = refl
-
-itself : (o : Option ℕ) (task : RequestTask) → Reads task task → Reads (ahead_or o task) (ahead_or o task)
-itself None task h = h
-itself (Some most) task h = refl
-
-pub in_time_reads : (terms : Terms) (task said : RequestTask) → Reads task said → Reads (in_time terms task) (in_time terms said)
-in_time_reads terms J.MemoryError said h = in_time_of_body (overrun (moment_of said) terms.now terms.most_ahead) said h
-in_time_reads terms (J.Command e) said h = subst (λ (s : RequestTask). Reads (in_time terms (J.Command e)) (in_time terms s)) h (itself _ (J.Command e) refl)
-in_time_reads terms (J.Check c) said h = subst (λ (s : RequestTask). Reads (in_time terms (J.Check c)) (in_time terms s)) h (itself _ (J.Check c) refl)
-in_time_reads terms (J.Decided decision) said h = ap (in_time terms) h
-in_time_reads terms (J.Ahead most) said h = ap (in_time terms) h
-in_time_reads terms J.BadForm said h = ap (in_time terms) h
-in_time_reads terms (J.BadFile f) said h = ap (in_time terms) h
-
-executed : (o : Option ℕ) (task : RequestTask) (e : Envelope) → ahead_or o task ≡ J.Command e → (task ≡ J.Command e) × (o ≡ None)
-executed None task e h = (h, refl)
-executed (Some most) task e h = absurd (cc)
-
-checked : (o : Option ℕ) (task : RequestTask) (e : Envelope) → ahead_or o task ≡ J.Check (to_check.Command e) → (task ≡ J.Check (to_check.Command e)) × (o ≡ None)
-checked None task e h = (h, refl)
-checked (Some most) task e h = absurd (cc)
-
-pub checked_as_executed : (terms : Terms) (body : List ℕ) (e : Envelope) → (body_task terms content.Command body ≡ J.Command e) ↔ (body_task terms content.Check body ≡ J.Check (to_check.Command e))
-checked_as_executed terms body e = (
-  λ h. let (is, free) = executed _ (body_says content.Command body) e h in rw ((alike body e).0 is) (rw (rw is at free) refl),
-  λ h. let (is, free) = checked _ (body_says content.Check body) e h in rw ((alike body e).1 is) (rw (rw is at free) refl),
-)
 
 -- ---- an input asks for one thing
 
@@ -157,19 +122,19 @@ one_head head None (Some h) a b = absurd (a h b.1 b.0)
 one_head head (Some h) None a b = absurd (b h a.1 a.0)
 one_head head (Some h) (Some k) a b = ap Some (request_unique head h k [] [] a.0 b.0).0
 
-abbrev StepBy : Profile → Bool → List ℕ → HeadStep → HeadStep → Type 0
-StepBy profile many head many_step step = MatchBool many (step ≡ many_step) ((p : Option RequestHead) × Parsed head p × (step ≡ parsed_step profile p))
+abbrev StepBy : Terms → Bool → List ℕ → HeadStep → HeadStep → Type 0
+StepBy terms many head many_step step = MatchBool many (step ≡ many_step) ((p : Option RequestHead) × Parsed head p × (step ≡ parsed_step terms p))
 
-one_step : (profile : Profile) (many : Bool) (head : List ℕ) (many_step a b : HeadStep) → StepBy profile many head many_step a → StepBy profile many head many_step b → a ≡ b
-one_step profile true head many_step a b x y = x ∙ sym y
-one_step profile false head many_step a b x y = x.2 ∙ ap (parsed_step profile) (one_head head x.0 y.0 x.1 y.1) ∙ sym y.2
+one_step : (terms : Terms) (many : Bool) (head : List ℕ) (many_step a b : HeadStep) → StepBy terms many head many_step a → StepBy terms many head many_step b → a ≡ b
+one_step terms true head many_step a b x y = x ∙ sym y
+one_step terms false head many_step a b x y = x.2 ∙ ap (parsed_step terms) (one_head head x.0 y.0 x.1 y.1) ∙ sym y.2
 
 one_at_end : (terms : Terms) (e : HeadEnd) (whole : List ℕ) (a b : Option RequestTask) → EndTask terms e whole a → EndTask terms e whole b → a ≡ b
 one_at_end terms end.Nothing whole a b x y = x ∙ sym y
 one_at_end terms end.Early whole a b x y = x ∙ sym y
 one_at_end terms end.TooLong whole a b x y = x ∙ sym y
 one_at_end terms (end.Found n) whole a b (i, x, (s, xs, xf)) (j, y, (t, yt, yf)) =
-    let same = one_step terms.profile (nat_lt 32 (field_lines (take n whole))) (take n whole) (fails HeadTooLarge false) s t xs yt in
+    let same = one_step terms (nat_lt 32 (field_lines (take n whole))) (take n whole) (fails HeadTooLarge false) s t xs yt in
     x ∙ ap Some (xf ∙ ap (λ step. finish terms step (drop n whole)) same ∙ sym yf) ∙ sym y
 
 pub one_task : (terms : Terms) (whole : List ℕ) (a b : Option RequestTask) → TaskOf terms whole a → TaskOf terms whole b → a ≡ b

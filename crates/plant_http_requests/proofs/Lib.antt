@@ -6,4 +6,6 @@ pub mod OriginScheme
 pub mod PartIsFound
 pub mod BodyIsOfInput
 pub mod InputDeterminesTask
+pub mod JudgedCommands
+pub mod ExecutedCommands
 pub mod WholeInput

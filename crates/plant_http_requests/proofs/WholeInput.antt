@@ -9,6 +9,7 @@ use Rattle.plant_http_requests.specs.declared.reading.HeadEnd.TheVariants as end
 use Rattle.plant_http_requests.proofs.BodyIsOfInput.{gone_on}
 use Rattle.plant_http_requests.proofs.HeadEnds.{known_end}
 use Rattle.plant_http_requests.specs.declared.task.BodyKind.{BodyKind}
+use Rattle.plant_http_requests.specs.declared.task.Sender.{Sender}
 use Rattle.plant_http_requests.specs.declared.task.RequestTask.{RequestTask}
 use Rattle.plant_http_requests.specs.declared.task.HeadStep.{HeadStep}
 use Rattle.plant_http_requests.specs.declared.task.HeadStep.TheVariants.{Body}
@@ -37,19 +38,19 @@ body_short whole n len k h =
     grind (arith, nat_tests, b)
 
 -- a whole body was read
-pub whole_body : (terms : Terms) (start left : Option (List ℕ)) (old new : List ℕ) (n len : ℕ) (content : BodyKind) (step : HeadStep) (task : RequestTask) → StepOf terms.profile (take n old) step → step ≡ Body len content
-    → GoesOn start left old new → n + len ≤ length new → Reads task (body_task terms content (slice_range new n (n + len)))
+pub whole_body : (terms : Terms) (start left : Option (List ℕ)) (old new : List ℕ) (n len : ℕ) (sender : Sender) (content : BodyKind) (step : HeadStep) (task : RequestTask) → StepOf terms (take n old) step → step ≡ Body len content sender
+    → GoesOn start left old new → n + len ≤ length new → Reads task (body_task terms sender content (slice_range new n (n + len)))
     → (rest : List ℕ) × Agrees start rest × HeadAsksFor terms (take n old) (drop n (old ++ rest)) task
-whole_body terms start left old new n len content step task so is g h reads =
+whole_body terms start left old new n len sender content step task so is g h reads =
     let (rest, more, agrees, whole, ended) = gone_on start left old new g in
-    let asked = body_task terms content (slice_range new n (n + len)) in
+    let asked = body_task terms sender content (slice_range new n (n + len)) in
     (rest, agrees, (asked, (step, so, rw (is, whole, body_there new more n len h, body_part new more n len h) refl), reads))
 
 -- the input ended before the whole body
-pub cut_body : (terms : Terms) (start left : Option (List ℕ)) (old new : List ℕ) (n len : ℕ) (content : BodyKind) (step : HeadStep) (task : RequestTask) → StepOf terms.profile (take n old) step → step ≡ Body len content
+pub cut_body : (terms : Terms) (start left : Option (List ℕ)) (old new : List ℕ) (n len : ℕ) (sender : Sender) (content : BodyKind) (step : HeadStep) (task : RequestTask) → StepOf terms (take n old) step → step ≡ Body len content sender
     → GoesOn start left old new → length new < n + len → IsAtEnd left → n ≤ length old → task ≡ refusal_of BadRequest false
     → (rest : List ℕ) × Agrees start rest × HeadAsksFor terms (take n old) (drop n (old ++ rest)) task
-cut_body terms start left old new n len content step task so is g short end h e =
+cut_body terms start left old new n len sender content step task so is g short end h e =
     let (rest, more, agrees, whole, ended) = gone_on start left old new g in
     let all : old ++ rest ≡ new = rw (ended end) at whole ∙ append-nil new in
     let within : n ≤ length (old ++ rest) = omega (arith, h, length-append old rest) in
@@ -61,7 +62,7 @@ some_left None = ([], tt)
 some_left (Some left) = (left, refl)
 
 -- the head alone decides
-pub by_head : (terms : Terms) (start : Option (List ℕ)) (old : List ℕ) (n : ℕ) (step : HeadStep) (task : RequestTask) → StepOf terms.profile (take n old) step → ((rest : List ℕ) → finish terms step rest ≡ task) → Reads task task
+pub by_head : (terms : Terms) (start : Option (List ℕ)) (old : List ℕ) (n : ℕ) (step : HeadStep) (task : RequestTask) → StepOf terms (take n old) step → ((rest : List ℕ) → finish terms step rest ≡ task) → Reads task task
     → (rest : List ℕ) × Agrees start rest × HeadAsksFor terms (take n old) (drop n (old ++ rest)) task
 by_head terms start old n step task so is reads =
     let (rest, agrees) = some_left start in

@@ -1,8 +1,16 @@
 -- The laws of tasks.
-use Rattle.std.specs.Prelude.{◌≡◌, ◌↔◌, ℕ, List, Option}
+use Rattle.std.specs.Prelude.{◌≡◌, ◌↔◌, ℕ, true, false, List, map, take, Option, Some, is_some}
+use Rattle.httparse.specs.Grammar.{RequestHead}
+use Rattle.httparse.specs.Spans.{name_and_value}
 use Rattle.plant_base.specs.{Envelope}
 use Rattle.plant_json_in.specs.declared.checks.ToCheck.TheVariants as to_check
+use Rattle.plant_http_requests.specs.HeadEnd.{end_of_head}
+use Rattle.plant_http_requests.specs.declared.reading.HeadEnd.TheVariants.{Found}
+use Rattle.plant_http_requests.specs.Heads.{Parsed}
+use Rattle.plant_http_requests.specs.References.{lacks_needed}
+use Rattle.plant_http_requests.specs.Senders.{field_of, operator_named}
 use Rattle.plant_http_requests.specs.Tasks.{TaskOf, body_task}
+use Rattle.plant_http_requests.specs.declared.task.Sender.{Sender}
 use Rattle.plant_http_requests.specs.declared.task.BodyKind.TheVariants as content
 use Rattle.plant_http_requests.specs.declared.task.RequestTask.{RequestTask}
 use Rattle.plant_http_requests.specs.declared.task.RequestTask.TheVariants.{Command, Check}
@@ -12,6 +20,20 @@ use Rattle.plant_http_requests.specs.declared.profile.Terms.{Terms}
 abbrev pub AnInputAsksOneThing : Type 0
 AnInputAsksOneThing = (terms : Terms) (whole : List ℕ) (a b : Option RequestTask) → TaskOf terms whole a → TaskOf terms whole b → a ≡ b
 
--- a body is checked as the command that it would be executed as, and only where it would be
+-- a body is executed as the command that it is checked as, and wherever it is checked as one, but where it lacks a reference that is needed
 abbrev pub ABodyIsCheckedAsItIsExecuted : Type 0
-ABodyIsCheckedAsItIsExecuted = (terms : Terms) (body : List ℕ) (e : Envelope) → (body_task terms content.Command body ≡ Command e) ↔ (body_task terms content.Check body ≡ Check (to_check.Command e))
+ABodyIsCheckedAsItIsExecuted = (terms : Terms) (sender : Sender) (body : List ℕ) (e : Envelope)
+    → (body_task terms sender content.Command body ≡ Command e)
+    ↔ ((body_task terms sender content.Check body ≡ Check (to_check.Command e)) × (lacks_needed terms.needs_references (Command e) ≡ false))
+
+-- where references are needed, the command that an input has executed has one
+abbrev pub AnExecutedCommandHasItsReference : Type 0
+AnExecutedCommandHasItsReference = (terms : Terms) (whole : List ℕ) (e : Envelope) → terms.needs_references ≡ true
+    → TaskOf terms whole (Some (Command e)) → is_some e.reference ≡ true
+
+-- where a field says who sends a request, the command that an input has executed is given by the operator whom its head names
+abbrev pub AnExecutedCommandIsItsSenders : Type 0
+AnExecutedCommandIsItsSenders = (terms : Terms) (whole : List ℕ) (e : Envelope) (name : List ℕ) → field_of terms ≡ Some name
+    → TaskOf terms whole (Some (Command e))
+    → (n : ℕ) × (h : RequestHead) × (end_of_head whole ≡ Found n) × Parsed (take n whole) (Some h)
+    × (operator_named name (map name_and_value h.fields) ≡ Some e.by)

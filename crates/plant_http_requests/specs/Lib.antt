@@ -7,7 +7,9 @@ pub mod Origins
 pub mod Validators
 pub mod Framing
 pub mod Heads
+pub mod Senders
 pub mod Steps
+pub mod References
 pub mod InTime
 pub mod Tasks
 pub mod Law
@@ -23,10 +25,13 @@ pub use Fields.{count_named, value_named}
 pub use Origins.{is_further_host}
 pub use Heads.{Parsed, field_lines}
 pub use Steps.{fails, refusal_of, refused}
+pub use Senders.{field_of, is_of_other, may_be, of_sender, operator_of, sender_in, sender_of}
+pub use References.{lacks_needed, lacks_reference, with_reference}
 pub use InTime.{ahead_or, in_time, moment_of, overrun}
 pub use Tasks.{AsksFor, EndTask, HeadAsksFor, HeadTask, TaskOf, Reads, ReadsSome, StepOf, body_task, body_says, command_task, command_of, fault_task_of, file_task, finish, is_of_body, most_reads, parsed_step}
 pub use declared.task.HeadDecision.{HeadDecision}
 pub use declared.task.RequestTask.{RequestTask}
+pub use declared.task.Sender.{Sender}
 pub use declared.profile.Profile.{Profile}
 pub use declared.profile.Terms.{Terms}
 pub use declared.reading.InputFault.{InputFault}

@@ -21,8 +21,12 @@ use Rattle.plant_http_requests.specs.declared.task.HeadStep.{HeadStep}
 use Rattle.plant_http_requests.specs.declared.task.HeadStep.TheVariants as S
 use Rattle.plant_http_requests.specs.declared.profile.Profile.{Profile}
 use Rattle.plant_http_requests.specs.declared.profile.Profile.TheVariants as profile
+use Rattle.plant_http_requests.specs.declared.profile.Terms.{Terms}
+use Rattle.plant_http_requests.specs.declared.task.Sender.{Sender}
+use Rattle.plant_http_requests.specs.declared.task.Sender.TheVariants.{Operator}
+use Rattle.plant_http_requests.specs.Senders.{field_of, sender_in}
 use Rattle.plant_http_requests.specs.declared.status.Status.{Status}
-use Rattle.plant_http_requests.specs.declared.status.Status.TheVariants.{NotFound, MethodNotAllowed, LengthRequired}
+use Rattle.plant_http_requests.specs.declared.status.Status.TheVariants.{Forbidden, NotFound, MethodNotAllowed, LengthRequired}
 use Rattle.plant_http_requests.specs.declared.status.Allow.{Allow}
 use Rattle.plant_http_requests.specs.declared.status.Allow.TheVariants as allow
 
@@ -43,14 +47,14 @@ abbrev pub is_head : List ℕ → Bool
 is_head method = bytes_eq method (codes "HEAD")
 
 -- a POST has a length
-abbrev pub post_step : BodyKind → Option ℕ → HeadStep
-post_step c None = fails LengthRequired false
-post_step c (Some n) = S.Body n c
+abbrev pub post_step : BodyKind → Sender → Option ℕ → HeadStep
+post_step c sender None = fails LengthRequired false
+post_step c sender (Some n) = S.Body n c sender
 
 -- a path that takes a body
-abbrev pub posted_step : BodyKind → List ℕ → Option ℕ → HeadStep
-posted_step c method length =
-    if bytes_eq method (codes "POST") then post_step c length else lacks_method allow.Post (is_head method)
+abbrev pub posted_step : BodyKind → Sender → List ℕ → Option ℕ → HeadStep
+posted_step c sender method length =
+    if bytes_eq method (codes "POST") then post_step c sender length else lacks_method allow.Post (is_head method)
 
 -- a path that is asked; a HEAD is answered as a GET, the body left out
 abbrev pub asked_step : Question → BodyFormat → List ℕ → HeadStep
@@ -64,13 +68,13 @@ content_of post.Command fs = content.Command
 content_of post.Check fs = content.Check
 content_of post.Orders fs = content.Orders (import_metadata_in fs)
 
-abbrev pub target_step : Target → List ℕ → Option ℕ → Fields → HeadStep
-target_step (target.Question question body_format) method length fs = asked_step question body_format method
-target_step (target.Post post) method length fs = posted_step (content_of post fs) method length
+abbrev pub target_step : Terms → Target → List ℕ → Option ℕ → Fields → HeadStep
+target_step terms (target.Question question body_format) method length fs = asked_step question body_format method
+target_step terms (target.Post post) method length fs = posted_step (content_of post fs) (sender_in (field_of terms) fs) method length
 
-abbrev pub found_step : Option Target → List ℕ → Option ℕ → Fields → HeadStep
-found_step None method length fs = fails NotFound (is_head method)
-found_step (Some t) method length fs = target_step t method length fs
+abbrev pub found_step : Terms → Option Target → List ℕ → Option ℕ → Fields → HeadStep
+found_step terms None method length fs = fails NotFound (is_head method)
+found_step terms (Some t) method length fs = target_step terms t method length fs
 
 -- the resources of the web page are at their paths where the profile has them
 abbrev pub resource_for : Profile → List ℕ → Option Resource
@@ -83,18 +87,38 @@ resource_step resource method fs =
     if bytes_eq method (codes "GET") || is_head method then S.Decided (head.Resource resource (is_current (tag_of resource) fs) (is_head method))
     else lacks_method allow.Get false
 
--- what a path decides that is that of a resource, or else is looked up among the routes
-abbrev pub placed_step : Option Resource → List ℕ → List ℕ → Option ℕ → Fields → HeadStep
-placed_step (Some resource) path method length fs = resource_step resource method fs
-placed_step None path method length fs = found_step (target_of path) method length fs
+-- the path at which a client asks who it is, where a field says so
+abbrev pub asks_operator : Option (List ℕ) → List ℕ → Bool
+asks_operator None path = false
+asks_operator (Some name) path = bytes_eq path (codes "/v1/operator")
 
-abbrev pub routed_step : Profile → List ℕ → List ℕ → Option ℕ → Fields → HeadStep
-routed_step profile path method length fs = placed_step (resource_for profile path) path method length fs
+abbrev pub named_step : Sender → Bool → HeadStep
+named_step (Operator operator) silent = S.Decided (head.Operator operator silent)
+named_step _ silent = fails Forbidden silent
 
-abbrev pub framed_step : Profile → Result (Option ℕ) Status → List ℕ → List ℕ → Fields → HeadStep
-framed_step profile (Err status) method path fs = fails status (is_head method)
-framed_step profile (Ok length) method path fs = routed_step profile path method length fs
+-- the operator whom the head names; a HEAD is answered as a GET, the body left out
+abbrev pub operator_step : Sender → List ℕ → HeadStep
+operator_step sender method =
+    if bytes_eq method (codes "GET") || is_head method then named_step sender (is_head method) else lacks_method allow.Get false
+
+-- what a path decides that is none of a resource
+abbrev pub unpaged_step : Terms → List ℕ → List ℕ → Option ℕ → Fields → HeadStep
+unpaged_step terms path method length fs =
+    if asks_operator (field_of terms) path then operator_step (sender_in (field_of terms) fs) method
+    else found_step terms (target_of path) method length fs
+
+-- what a path decides that is that of a resource, or else is looked up among the others
+abbrev pub placed_step : Terms → Option Resource → List ℕ → List ℕ → Option ℕ → Fields → HeadStep
+placed_step terms (Some resource) path method length fs = resource_step resource method fs
+placed_step terms None path method length fs = unpaged_step terms path method length fs
+
+abbrev pub routed_step : Terms → List ℕ → List ℕ → Option ℕ → Fields → HeadStep
+routed_step terms path method length fs = placed_step terms (resource_for terms.profile path) path method length fs
+
+abbrev pub framed_step : Terms → Result (Option ℕ) Status → List ℕ → List ℕ → Fields → HeadStep
+framed_step terms (Err status) method path fs = fails status (is_head method)
+framed_step terms (Ok length) method path fs = routed_step terms path method length fs
 
 -- what the parts of a head decide: first by its fields, then by its path, then by its method
-unfoldable pub request_step : Profile → List ℕ → List ℕ → ℕ → Fields → HeadStep
-request_step profile method path minor fs = framed_step profile (framing profile minor fs) method path fs
+unfoldable pub request_step : Terms → List ℕ → List ℕ → ℕ → Fields → HeadStep
+request_step terms method path minor fs = framed_step terms (framing terms.profile minor fs) method path fs

@@ -15,13 +15,15 @@ use Rattle.plant_http_requests.specs.declared.reading.HeadEnd.TheVariants as end
 use Rattle.plant_http_requests.specs.Heads.{field_lines, Parsed}
 use Rattle.plant_http_requests.specs.Steps.{refusal_of, fails, request_step}
 use Rattle.plant_http_requests.specs.declared.task.RequestTask.{RequestTask}
-use Rattle.plant_http_requests.specs.declared.task.RequestTask.TheVariants.{Decided, Command, Check, Ahead, BadForm, BadFile, MemoryError}
+use Rattle.plant_http_requests.specs.declared.task.RequestTask.TheVariants.{Decided, Command, Check, OtherOperator, NoReference, Ahead, BadForm, BadFile, MemoryError}
 use Rattle.plant_http_requests.specs.declared.task.BodyKind.{BodyKind}
 use Rattle.plant_http_requests.specs.declared.task.BodyKind.TheVariants as content
 use Rattle.plant_http_requests.specs.declared.task.HeadStep.{HeadStep}
 use Rattle.plant_http_requests.specs.declared.task.HeadStep.TheVariants as S
+use Rattle.plant_http_requests.specs.Senders.{of_sender}
+use Rattle.plant_http_requests.specs.References.{with_reference}
 use Rattle.plant_http_requests.specs.InTime.{in_time}
-use Rattle.plant_http_requests.specs.declared.profile.Profile.{Profile}
+use Rattle.plant_http_requests.specs.declared.task.Sender.{Sender}
 use Rattle.plant_http_requests.specs.declared.profile.Terms.{Terms}
 use Rattle.plant_http_requests.specs.declared.status.Status.TheVariants.{BadRequest, HeadTooLarge}
 
@@ -65,29 +67,29 @@ body_says content.Check body = Check (text_checked body)
 body_says (content.Orders None) body = refusal_of BadRequest false
 body_says (content.Orders (Some import_metadata)) body = file_task import_metadata (orders_of body)
 
--- what it asks for: a command that is too far ahead of the machine's clock isn't taken
-abbrev pub body_task : Terms → BodyKind → List ℕ → RequestTask
-body_task terms c body = in_time terms (body_says c body)
+-- what it asks for: a command isn't taken that is another operator's, lacks a reference or is too far ahead of the machine's clock
+abbrev pub body_task : Terms → Sender → BodyKind → List ℕ → RequestTask
+body_task terms sender c body = in_time terms (with_reference terms.needs_references (of_sender sender (body_says c body)))
 
 -- ---- heads
 
 -- what a head and the bytes after it ask for
 abbrev pub finish : Terms → HeadStep → List ℕ → RequestTask
 finish terms (S.Decided decision) rest = Decided decision
-finish terms (S.Body n c) rest = if nat_le n (length rest) then body_task terms c (take n rest) else refusal_of BadRequest false
+finish terms (S.Body n c sender) rest = if nat_le n (length rest) then body_task terms sender c (take n rest) else refusal_of BadRequest false
 
-abbrev pub parsed_step : Profile → Option RequestHead → HeadStep
-parsed_step profile None = fails BadRequest false
-parsed_step profile (Some h) = request_step profile h.method h.target h.minor (map name_and_value h.fields)
+abbrev pub parsed_step : Terms → Option RequestHead → HeadStep
+parsed_step terms None = fails BadRequest false
+parsed_step terms (Some h) = request_step terms h.method h.target h.minor (map name_and_value h.fields)
 
 -- what a head decides: its lines are counted before they are parsed
-abbrev pub StepOf : Profile → List ℕ → HeadStep → Type 0
-StepOf profile head step =
+abbrev pub StepOf : Terms → List ℕ → HeadStep → Type 0
+StepOf terms head step =
     MatchBool (nat_lt 32 (field_lines head)) (step ≡ fails HeadTooLarge false)
-    ((p : Option RequestHead) × Parsed head p × (step ≡ parsed_step profile p))
+    ((p : Option RequestHead) × Parsed head p × (step ≡ parsed_step terms p))
 
 abbrev pub HeadTask : Terms → List ℕ → List ℕ → RequestTask → Type 0
-HeadTask terms head rest task = (step : HeadStep) × StepOf terms.profile head step × (task ≡ finish terms step rest)
+HeadTask terms head rest task = (step : HeadStep) × StepOf terms head step × (task ≡ finish terms step rest)
 
 -- ---- inputs
 
@@ -108,6 +110,8 @@ abbrev pub is_of_body : RequestTask → Bool
 is_of_body (Decided decision) = false
 is_of_body (Command e) = true
 is_of_body (Check c) = true
+is_of_body OtherOperator = true
+is_of_body NoReference = true
 is_of_body (Ahead most) = true
 is_of_body BadForm = true
 is_of_body (BadFile fault) = true
@@ -119,13 +123,15 @@ Reads MemoryError task = is_of_body task ≡ true
 Reads (Decided decision) task = Decided decision ≡ task
 Reads (Command e) task = Command e ≡ task
 Reads (Check c) task = Check c ≡ task
+Reads OtherOperator task = OtherOperator ≡ task
+Reads NoReference task = NoReference ≡ task
 Reads (Ahead most) task = Ahead most ≡ task
 Reads BadForm task = BadForm ≡ task
 Reads (BadFile fault) task = BadFile fault ≡ task
 
 -- the head asks for a body of which so many bytes are too few
-abbrev pub LacksBody : Profile → List ℕ → ℕ → Type 0
-LacksBody profile head have = (size : ℕ) × (c : BodyKind) × StepOf profile head (S.Body size c) × (have < size)
+abbrev pub LacksBody : Terms → List ℕ → ℕ → Type 0
+LacksBody terms head have = (size : ℕ) × (c : BodyKind) × (sender : Sender) × StepOf terms head (S.Body size c sender) × (have < size)
 
 -- a head and the bytes after it ask for this, want of memory aside
 abbrev pub HeadAsksFor : Terms → List ℕ → List ℕ → RequestTask → Type 0

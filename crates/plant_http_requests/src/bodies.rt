@@ -8,9 +8,11 @@ ghost use Rattle.plant_http_requests.specs.Tasks.{file_task, fault_task, body_ta
 
 use crate::in_time::in_time;
 use crate::profile::Terms;
+use crate::references::with_reference;
+use crate::senders::of_sender;
 use crate::status::Status;
 use crate::steps::refusal_of;
-use crate::task::{BodyKind, RequestTask};
+use crate::task::{BodyKind, RequestTask, Sender};
 use plant_orders::{CsvFault, CsvKind, ImportMetadata, import, read_orders};
 use plant_text::{Line, LineFault, read_line, read_to_check};
 use std::alloc::Global;
@@ -72,15 +74,18 @@ fn body_says(alloc: Global, content: BodyKind, body: &[u8]) -> RequestTask
     }
 }
 
-/// What a body asks for that is there whole: what it says, unless its command is too far ahead of the machine's clock.
-#[tactic(auto, using(crate::proofs::InputDeterminesTask::in_time_reads))]
+/// What a body asks for that is there whole: what it says, unless its command is another operator's than the sender's, lacks a reference that it needs,
+/// or is too far ahead of the machine's clock. The first of these decides.
+#[tactic(auto, using(crate::proofs::JudgedCommands::judged_reads))]
 pub(crate) fn body_task(
     alloc: Global,
     terms: Terms<'_>,
+    sender: Sender,
     content: BodyKind,
     body: &[u8],
 ) -> RequestTask
-    ensures { Reads result (body_task terms.entry content body.now) }
+    ensures { Reads result (body_task terms.entry sender content body.now) }
 {
-    in_time(terms, body_says(alloc, content, body))
+    let said = of_sender(sender, body_says(alloc, content, body));
+    in_time(terms, with_reference(terms.needs_references, said))
 }

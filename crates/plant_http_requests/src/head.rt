@@ -2,7 +2,7 @@
 ghost use Rattle.plant_http_requests.specs.Tasks.{StepOf};
 
 use crate::parse::{MOST_FIELDS, has_too_many_fields, parse_head};
-use crate::profile::Profile;
+use crate::profile::Terms;
 use crate::routes::Routes;
 use crate::status::Status;
 use crate::steps::{fails, request_step};
@@ -11,8 +11,8 @@ use httparse::spans::EMPTY_HEADER_SPAN;
 
 /// What a head decides: 431 for more than 32 lines of fields, 400 where it isn't one head of HTTP/1.1, else what its parts ask
 /// for.
-pub(crate) fn step_of_head(profile: Profile<'_>, routes: &Routes, head: &[u8]) -> HeadStep
-    ensures { StepOf profile.entry head.now result }
+pub(crate) fn step_of_head(terms: Terms<'_>, routes: &Routes, head: &[u8]) -> HeadStep
+    ensures { StepOf terms.entry head.now result }
 {
     if has_too_many_fields(head) {
         return fails(Status::HeadTooLarge, false);
@@ -21,5 +21,5 @@ pub(crate) fn step_of_head(profile: Profile<'_>, routes: &Routes, head: &[u8]) -
     let Some(request) = parse_head(head, &mut fields) else {
         return fails(Status::BadRequest, false);
     };
-    request_step(profile, head, &fields[..request.headers], &request, routes)
+    request_step(terms, head, &fields[..request.headers], &request, routes)
 }

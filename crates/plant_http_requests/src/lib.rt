@@ -15,15 +15,17 @@ mod path;
 mod profile;
 mod read;
 mod reading;
+mod references;
 mod route_table;
 mod routes;
+mod senders;
 mod status;
 mod steps;
 mod task;
 mod validators;
 
 pub use head_end::head_length;
-pub use law::{check_law, task_law};
+pub use law::{check_law, reference_law, sender_law, task_law};
 pub use profile::{Profile, Terms};
 pub use read::{MOST_READS, read_task};
 pub use reading::{HeadEnd, InputFault, LONGEST_HEAD, read_head, read_to};

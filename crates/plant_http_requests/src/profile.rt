@@ -21,6 +21,10 @@ pub struct Terms<'a> {
     pub profile: Profile<'a>,
     /// By how many seconds the moment of a command may be later than `now`; `None` where it may be by any.
     pub most_ahead: Option<u32>,
+    /// The name of the field of a head that says whose commands the request may bring; `None` where it may bring anyone's.
+    pub operator_field: Option<&'a [u8]>,
+    /// Whether a command that is to be executed has to have a reference.
+    pub needs_references: bool,
     /// The machine's time when the request began to be read, in whole seconds; `None` where its clock gave none.
     pub now: Option<HttpDate>,
 }

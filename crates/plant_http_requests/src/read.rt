@@ -32,20 +32,30 @@ fn head_task<R: Read>(
     requires small { length bytes.old.items ≤ 8192 }
     ensures asks { IfOk result (λ task. (left : List ℕ) × Agrees (R.remaining reader.old) left
         × HeadAsksFor terms.entry (take n bytes.old.items) (drop n (bytes.old.items ++ left)) task) }
-    ensures lacks { OnErr result (LacksBody terms.entry.profile (take n bytes.old.items) (length (drop n bytes.old.items))) }
+    ensures lacks { OnErr result (LacksBody terms.entry (take n bytes.old.items) (length (drop n bytes.old.items))) }
     ensures endless { IsErrOf result InputFault.Endless → SpentAll reads.old
         (R.remaining reader.old) (R.remaining reader.new) }
 {
     let step = {
         let (head, _) = bytes.as_slice().split_at(n);
-        step_of_head(terms.profile, routes, head)
+        step_of_head(terms, routes, head)
     };
     match step {
         HeadStep::Decided(decision) => Ok(RequestTask::Decided(decision)),
-        HeadStep::Body { size, content } => {
+        HeadStep::Body {
+            size,
+            content,
+            sender,
+        } => {
             let want = n + size as usize;
             match read_to(reader, bytes, reads, want) {
-                Ok(true) => Ok(body_task(alloc, terms, content, &bytes.as_slice()[n..want])),
+                Ok(true) => Ok(body_task(
+                    alloc,
+                    terms,
+                    sender,
+                    content,
+                    &bytes.as_slice()[n..want],
+                )),
                 Ok(false) => Ok(refusal_of(Status::BadRequest, false)),
                 Err(fault) => Err(fault),
             }

@@ -7,7 +7,7 @@ pub enum Status {
     NotModified,
     /// 400 Bad Request (section 15.5.1): the head or the body isn't what it has to be, or ended early.
     BadRequest,
-    /// 403 Forbidden (section 15.5.4): the request names a host that isn't served, or comes of another site.
+    /// 403 Forbidden (section 15.5.4): the request names a host that isn't served, comes of another site, or brings a command that its sender may not give.
     Forbidden,
     /// 404 Not Found (section 15.5.5): there is no such path, or what is asked for isn't there.
     NotFound,

@@ -1,17 +1,18 @@
 //! What the head of a request decides.
-ghost use Rattle.std.specs.Prelude.{◌≡◌, bytes_eq, length, map, All};
+ghost use Rattle.std.specs.Prelude.{◌≡◌, bytes_eq, length, map, option_copied, All};
 ghost use Rattle.httparse.specs.Spans.{IsHeaderWithin, IsWithin, header_bytes, span_bytes};
 ghost use Rattle.plant_http_requests.specs.Steps.{refused, refusal_of, fails, lacks_method, is_head, post_step};
 ghost use Rattle.plant_http_requests.specs.Steps.{posted_step, asked_step, content_of};
 ghost use Rattle.plant_http_requests.specs.Steps.{target_step, resource_for, resource_step};
-ghost use Rattle.plant_http_requests.specs.Steps.{routed_step, request_step};
+ghost use Rattle.plant_http_requests.specs.Steps.{routed_step, request_step, asks_operator, operator_step, unpaged_step};
 
 use crate::fields::import_metadata_in;
 use crate::framing::framing;
-use crate::profile::Profile;
+use crate::profile::{Profile, Terms};
 use crate::routes::{BodyFormat, Post, Routes, Target};
+use crate::senders::sender_in;
 use crate::status::{Allow, Status};
-use crate::task::{BodyKind, HeadDecision, HeadStep, RequestTask};
+use crate::task::{BodyKind, HeadDecision, HeadStep, RequestTask, Sender};
 use crate::validators::is_current;
 use desk_page::{Resource, resource_at, tag_of};
 use http::Method;
@@ -70,12 +71,16 @@ fn is_head(method: &[u8]) -> bool
 
 /// A path that takes a body by POST.
 /// It has to name the body's length, or it is answered 411 (RFC 9112, section 6.3).
-fn posted_step(content: BodyKind, method: &[u8], size: Option<u32>) -> HeadStep
-    ensures { result ≡ posted_step content method.now size }
+fn posted_step(content: BodyKind, sender: Sender, method: &[u8], size: Option<u32>) -> HeadStep
+    ensures { result ≡ posted_step content sender method.now size }
 {
     if is_method(method, &Method::POST) {
         return match size {
-            Some(size) => HeadStep::Body { size, content },
+            Some(size) => HeadStep::Body {
+                size,
+                content,
+                sender,
+            },
             None => fails(Status::LengthRequired, false),
         };
     }
@@ -110,6 +115,7 @@ fn content_of(head: &[u8], fields: &[HeaderSpan], post: Post) -> BodyKind
 }
 
 fn target_step(
+    terms: Terms<'_>,
     head: &[u8],
     fields: &[HeaderSpan],
     target: Target,
@@ -117,11 +123,16 @@ fn target_step(
     size: Option<u32>,
 ) -> HeadStep
     requires { All (IsHeaderWithin (length head.now)) fields.now }
-    ensures { result ≡ target_step target method.now size (map (header_bytes head.now) fields.now) }
+    ensures { result ≡ target_step terms.entry target method.now size (map (header_bytes head.now) fields.now) }
 {
     match target {
         Target::Question(question, body_format) => asked_step(question, body_format, method),
-        Target::Post(post) => posted_step(content_of(head, fields, post), method, size),
+        Target::Post(post) => posted_step(
+            content_of(head, fields, post),
+            sender_in(head, fields, terms.operator_field),
+            method,
+            size,
+        ),
     }
 }
 
@@ -151,9 +162,36 @@ fn resource_step(head: &[u8], fields: &[HeaderSpan], resource: Resource, method:
     lacks_method(Allow::Get, false)
 }
 
-/// What a path and a method decide.
-fn routed_step(
-    profile: Profile<'_>,
+/// Whether a client asks at this path who it is: only where a field says so.
+fn asks_operator(operator_field: Option<&[u8]>, path: &[u8]) -> bool
+    ensures { result ≡ asks_operator (option_copied operator_field.entry) path.now }
+{
+    match operator_field {
+        Some(_) => path == b"/v1/operator".as_slice(),
+        None => false,
+    }
+}
+
+/// The operator whom a head names, by GET or by HEAD; 403 where it doesn't name one.
+fn operator_step(sender: Sender, method: &[u8]) -> HeadStep
+    ensures { result ≡ operator_step sender method.now }
+{
+    let silent = is_head(method);
+    if is_method(method, &Method::GET) || silent {
+        return match sender {
+            Sender::Operator(operator) => HeadStep::Decided(HeadDecision::Operator {
+                operator,
+                silent,
+            }),
+            _ => fails(Status::Forbidden, silent),
+        };
+    }
+    lacks_method(Allow::Get, false)
+}
+
+/// What a path decides that is none of a resource of the page, and a method.
+fn unpaged_step(
+    terms: Terms<'_>,
     head: &[u8],
     fields: &[HeaderSpan],
     routes: &Routes,
@@ -162,21 +200,40 @@ fn routed_step(
     size: Option<u32>,
 ) -> HeadStep
     requires { All (IsHeaderWithin (length head.now)) fields.now }
-    ensures { result ≡ routed_step profile.entry path.now method.now size (map (header_bytes head.now) fields.now) }
+    ensures { result ≡ unpaged_step terms.entry path.now method.now size (map (header_bytes head.now) fields.now) }
 {
-    if let Some(resource) = resource_for(profile, path) {
-        return resource_step(head, fields, resource, method);
+    if asks_operator(terms.operator_field, path) {
+        return operator_step(sender_in(head, fields, terms.operator_field), method);
     }
     match routes.find(path) {
-        Some(target) => target_step(head, fields, target, method, size),
+        Some(target) => target_step(terms, head, fields, target, method, size),
         None => fails(Status::NotFound, is_head(method)),
     }
+}
+
+/// What a path and a method decide.
+fn routed_step(
+    terms: Terms<'_>,
+    head: &[u8],
+    fields: &[HeaderSpan],
+    routes: &Routes,
+    method: &[u8],
+    path: &[u8],
+    size: Option<u32>,
+) -> HeadStep
+    requires { All (IsHeaderWithin (length head.now)) fields.now }
+    ensures { result ≡ routed_step terms.entry path.now method.now size (map (header_bytes head.now) fields.now) }
+{
+    if let Some(resource) = resource_for(terms.profile, path) {
+        return resource_step(head, fields, resource, method);
+    }
+    unpaged_step(terms, head, fields, routes, method, path, size)
 }
 
 /// What a parsed head decides.
 #[tactic(auto, unfolding(crate::specs::Steps::request_step))]
 pub(crate) fn request_step(
-    profile: Profile<'_>,
+    terms: Terms<'_>,
     head: &[u8],
     fields: &[HeaderSpan],
     request: &RequestSpans,
@@ -185,13 +242,13 @@ pub(crate) fn request_step(
     requires fields { All (IsHeaderWithin (length head.now)) fields.now }
     requires method { IsWithin (length head.now) request.now.method }
     requires path { IsWithin (length head.now) request.now.path }
-    ensures { result ≡ request_step profile.entry (span_bytes head.now request.now.method)
+    ensures { result ≡ request_step terms.entry (span_bytes head.now request.now.method)
         (span_bytes head.now request.now.path) request.now.version (map (header_bytes head.now) fields.now) }
 {
     let method = request.method.of(head);
     let path = request.path.of(head);
-    match framing(profile, head, fields, request.version) {
+    match framing(terms.profile, head, fields, request.version) {
         Err(status) => fails(status, is_head(method)),
-        Ok(size) => routed_step(profile, head, fields, routes, method, path, size),
+        Ok(size) => routed_step(terms, head, fields, routes, method, path, size),
     }
 }

@@ -1,7 +1,7 @@
 use crate::routes::BodyFormat;
 use crate::status::{Allow, Status};
 use desk_page::Resource;
-use plant_base::Envelope;
+use plant_base::{Envelope, Text};
 use plant_orders::{CsvFault, ImportMetadata};
 use plant_questions::Question;
 use plant_text::ToCheck;
@@ -27,6 +27,13 @@ pub enum HeadDecision {
         /// Whether the answer's body is left out, since the request is a HEAD.
         silent: bool,
     },
+    /// The operator whom the head names, who asks for it.
+    Operator {
+        /// The operator, whose text isn't empty.
+        operator: Text,
+        /// Whether the answer's body is left out, since the request is a HEAD.
+        silent: bool,
+    },
     /// A resource of the page for browsers.
     Resource {
         /// Which.
@@ -47,6 +54,10 @@ pub enum RequestTask {
     Command(Envelope),
     /// What is to be checked: the desk says what would become of it, and executes nothing.
     Check(ToCheck),
+    /// A command, to be executed or checked, that the request's sender may not give: it is another operator's, or the head doesn't name one operator.
+    OtherOperator,
+    /// A command, to be executed, without the reference that it has to have.
+    NoReference,
     /// A command, to be executed or checked, whose moment is later than the machine's time by more than so many seconds.
     Ahead(u32),
     /// A body that is to be a command and is none.
@@ -69,11 +80,26 @@ pub(crate) enum BodyKind {
     Orders(Option<ImportMetadata>),
 }
 
+/// Whose commands a request may bring.
+#[derive(Clone, Copy, Debug, PartialEq, Eq)]
+pub(crate) enum Sender {
+    /// Anyone's.
+    Anyone,
+    /// Those of this operator, whom the head names. It isn't empty.
+    Operator(Text),
+    /// Nobody's, since the head doesn't name one operator.
+    Nobody,
+}
+
 /// What a head decides.
 #[derive(Clone, Copy, Debug, PartialEq, Eq)]
 pub(crate) enum HeadStep {
     /// The head decides alone.
     Decided(HeadDecision),
     /// A body of so many bytes, at most 262,144, is to be read.
-    Body { size: u32, content: BodyKind },
+    Body {
+        size: u32,
+        content: BodyKind,
+        sender: Sender,
+    },
 }

@@ -1,0 +1,13 @@
+-- The name of a field of a request's head, as the arguments give it.
+use Rattle.std.specs.Prelude.{ℕ, Bool, ◌&&◌, ◌||◌, ◌==◌, nat_le, List, length}
+use Rattle.std.specs.List.{list_all}
+use Rattle.plant_base.specs.{is_text}
+use Rattle.desk_cli.specs.Hosts.{is_letter_or_digit}
+
+-- a letter, in lower or upper case, a digit or a hyphen
+abbrev pub is_field_byte : ℕ → Bool
+is_field_byte b = is_letter_or_digit b || ((nat_le 65 b && nat_le b 90) || (b == 45))
+
+-- a text of one of these or more
+abbrev pub is_field_name : List ℕ → Bool
+is_field_name text = is_text text && (nat_le 1 (length text) && list_all is_field_byte text)

@@ -13,6 +13,7 @@ import { button, notice } from "./parts.js";
 import { desk, request } from "./questions.js";
 import { show } from "./frame.js";
 import { form, say } from "./forms.js";
+import { labelOffer } from "./label.js";
 
 const REFERENCE = "ABCDEFGHIJKLMNOPQRSTUVWXYZ234567";
 const newReference = () => "WEB-" + Array.from(crypto.getRandomValues(new Uint8Array(20)), (byte) => REFERENCE[byte & 31]).join("");
@@ -71,11 +72,11 @@ export async function book(what, content) {
   const booking = { what, at: desk.now(), by: operatorName(), ref: newReference(), tab: TAB, since: clock(), desk: desk.name, ...content };
   return settle(booking, await deliver(booking));
 }
-async function settle({ what, by }, answer) {
+async function settle({ what, by, fields }, answer) {
   if (!answer) return LOST;
   if (answer.status !== 200) return plainly(answer);
   keepName(by);
-  notice("good", `${what}. Number ${grouped(answer.body.ok)}. By ${by}.`);
+  notice("good", `${what}. Number ${grouped(answer.body.ok)}. By ${by}.`, ...labelOffer(fields || {}));
   await show();
   return null;
 }

@@ -5,7 +5,7 @@ import { keyOfPart, partInWords } from "./words.js";
 import { lotOf } from "./scans.js";
 import { h } from "./elements.js";
 import { tone } from "./scanner.js";
-import { Refusal, desk } from "./questions.js";
+import { desk, whyNot } from "./questions.js";
 
 // The parts of a lot that have stock, each with when the lot came, and with what bars it from being consumed, split and merged.
 export const partsOfLot = (lot) => lot.sublots.filter((it) => it.stock > 0).map((it) => ({ lot: lot.lot, sub: it.no, stock: it.stock, place: it.place,
@@ -112,7 +112,7 @@ export class LotChoice {
   }
   async found(text) {
     let parts;
-    try { parts = await partsNamed(text, this.field); } catch (error) { parts = error instanceof Refusal ? error.message : "The desk doesn't answer."; }
+    try { parts = await partsNamed(text, this.field); } catch (error) { parts = whyNot(error); }
     if (text !== this.seen) return false;
     if (typeof parts === "string") return this.refuse(parts);
     this.offer(parts);

@@ -10,7 +10,7 @@ export function notice(tone, text, ...buttons) {
   clearTimeout(fading);
   const told = text && h("div", { class: tone, role: tone === "bad" ? "alert" : null }, h("span", {}, text), buttons);
   at("notice").replaceChildren(...(told ? [told] : []));
-  if (text && !buttons.length) fading = setTimeout(() => notice(), tone === "bad" ? 15000 : 6000);
+  if (text && (tone === "good" || !buttons.length)) fading = setTimeout(() => notice(), tone === "bad" ? 15000 : buttons.length ? 30000 : 6000);
 }
 
 export const card = (title, tools, ...body) => h("section", { class: "card" }, h("div", { class: "top" }, h("h2", { tabindex: -1 }, title), tools),

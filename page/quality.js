@@ -12,6 +12,7 @@ import { csvButton } from "./saved.js";
 import { desk, want } from "./questions.js";
 import { filterChoice, filterOf, more } from "./frame.js";
 import { idField, noteField, noted, say, whyField } from "./forms.js";
+import { showLabels } from "./label.js";
 import { bookingForm } from "./book.js";
 import { genealogyCard } from "./genealogy.js";
 import { printedLine, recordCard } from "./record.js";
@@ -66,7 +67,7 @@ async function lotCards(id) {
 function lotCard(lot, self, holds, forward) {
   const rows = holds.map((it) => row(it.hold, [idCell(it.hold), momentCell(it.at), cell(it.by), cell(it.note),
     buttonsCell(button("Take the hold off", () => unhold(lot.lot, it.hold)))]));
-  const tools = [lot.held && pill("on hold", "warn"), self.recalled && pill("recalled", "bad"), button("Hold", () => hold(lot.lot)),
+  const tools = [lot.held && pill("on hold", "warn"), self.recalled && pill("recalled", "bad"), button("Label", () => showLabels(lot.lot)), button("Hold", () => hold(lot.lot)),
     button("Recall", () => recall(lot.lot, forward), "bad")];
   return card(`Lot ${lot.lot}`, tools,
     facts(fact("Material", link("warehouse/" + lot.def, lot.def)), fact("Stock", grouped(lot.stock), " ", self.unit),

@@ -10,6 +10,7 @@ import { plainly } from "./words.js";
 export class Refusal extends Error {
   constructor(answer) { super(plainly(answer)); this.answer = answer; }
 }
+export const whyNot = (error) => (error instanceof Refusal ? error.message : "The desk doesn't answer.");
 
 const SECONDS = 40;
 let tail = Promise.resolve();

@@ -18,7 +18,7 @@ export function recordCard(batch) {
     filterChoice("Form of the record", "record", FORMS_OF_RECORD),
     csvButton("record", `record-${batch.batch}`, () => rowsOfRecord(batch.record, batch.lines.filter(isMaterial))), button("Print", () => print())];
   const content = isPlain ? h("div", { class: "body" }, h("pre", {}, batch.record.text)) : recordTables(batch);
-  const it = card(`Batch record ${batch.batch}`, tools, printedLine(), content, signatures(batch.batch));
+  const it = card(`Batch record ${batch.batch}`, tools, printedLine(), content, signatures(`batch record ${batch.batch}`));
   it.classList.add("record");
   return it;
 }
@@ -33,7 +33,7 @@ addEventListener("beforeprint", () => {
 
 // Lines to sign, on paper alone.
 const SIGNED = ["Made by", "Checked by", "Released by"];
-const signatures = (id) => h("div", { class: "sign" }, h("b", {}, `Signed of batch record ${id}`),
+export const signatures = (what) => h("div", { class: "sign" }, h("b", {}, `Signed of ${what}`),
   SIGNED.map((it) => h("div", {}, h("span", {}, it), h("span", {}, "Date"), h("span", {}, "Signature"))));
 
 function recordTables({ record, ...batch }) {

@@ -6,16 +6,17 @@ import { moment } from "./moments.js";
 import { isMaterial } from "./recipes.js";
 import { lotOf } from "./scans.js";
 import { MAY_CLOSE, STATES, TONES } from "./words.js";
-import { h } from "./elements.js";
+import { at, h } from "./elements.js";
 import {
   batchLink, button, buttonsCell, card, cell, fact, firstSteps, idCell, link, listed, lotLink, none, notice, numberCell, overCell, pill, row, table,
 } from "./parts.js";
 import { csvButton } from "./saved.js";
 import { desk, want } from "./questions.js";
-import { filterChoice, filterOf, isNarrow, more } from "./frame.js";
+import { filterChoice, filterOf, isNarrow, more, show } from "./frame.js";
 import { partsToOffer } from "./lots.js";
 import { amountField, lotField, newLotField, noteField, noted, openForm, placeField, say, selectField, textField } from "./forms.js";
 import { act, bookingForm } from "./book.js";
+import { showSheet } from "./sheet.js";
 
 const WHICH = ["open", "closed"];
 
@@ -24,10 +25,10 @@ let batchShown = null;
 
 export async function shift([id]) {
   const areClosedShown = filterOf("batches", WHICH) === "closed";
-  const batches = areClosedShown ? await desk.closedBatches(want("closed")) : await desk.batches(want("batches"));
+  const batches = areClosedShown ? await desk.closedBatches(want("closed")) : (await desk.batches(want("batches"))).sort(byDueDate);
   const shown = id || (!isNarrow() && batches[0] && batches[0].batch);
-  batchShown = null;
-  const rows = (areClosedShown ? batches : [...batches].sort(byDueDate)).map((it) => batchRow(it, it.batch === shown, areClosedShown));
+  if (!shown || batchShown?.batch !== shown) batchShown = null;
+  const rows = batches.map((it) => batchRow(it, it.batch === shown, areClosedShown));
   const noneOpen = "No batch is open. The planner releases an order, which makes its batch.";
   const all = table(["Batch", "State", "#Due"], rows, areClosedShown ? "No batch is closed." : noneOpen, true);
   const which = filterChoice("Which batches", "batches", WHICH);
@@ -67,7 +68,7 @@ function progressCard(batch) {
     fact("Size", grouped(batch.size)), fact("Attempt", batch.attempt), fact("Phases done", `${done} of ${batch.phases}`),
     batch.lines.filter((it) => it.kind === "par").map((it) => fact(it.name, it.value))];
   const tools = [pill(batch.closed ? "closed" : batch.state, batch.closed ? "" : TONES[batch.state]),
-    link("quality/batch/" + batch.batch, "Record and genealogy")];
+    link("quality/batch/" + batch.batch, "Record and genealogy"), button("Sheet", () => showSheet(batch.batch), null, { "aria-label": `Sheet of ${batch.batch}` })];
   return card(`Batch ${batch.batch}`, tools, h("div", { class: "body" }, h("div", { class: "facts" }, known), progressBar(done, batch.phases),
     h("p", { class: "soft small" }, path), h("p", { class: "row" }, moves(batch, procedure[done]))));
 }
@@ -77,21 +78,22 @@ function progressBar(done, phases) {
   bar.firstChild.style.width = `${(100 * done) / phases}%`;
   return bar;
 }
-// The buttons of what a batch can do in its state.
+// The buttons of what a batch can do in its state, and the id of that of its next phase.
+const NEXT_PHASE = "nextphase";
 function moves(batch, phase) {
   if (batch.closed) return "This batch is closed. Nothing more is booked on it.";
   const { done, ...words } = STATES[batch.state], id = batch.batch;
   const mayEnd = done && !(batch.state === "running" && phase);
   const steps = [
     batch.state === "running" && phase && { label: `Phase ${phase.phase} done`, what: `Phase ${phase.phase} of ${id} done`,
-      fields: { do: "phase_done", batch: id, phase: batch.next }, look: "main" },
+      fields: { do: "phase_done", batch: id, phase: batch.next }, look: "main", id: NEXT_PHASE },
     mayEnd && { label: `Finish: ${done}`, what: `Batch ${id} is ${done}`, fields: { do: "settle", batch: id }, look: "main" },
     ...Object.keys(words).filter((it) => !GRAVE[it] && it !== "hold").map((word) => ({ label: capital(word), what: `Batch ${id}: ${word}`,
       fields: { do: "batch", batch: id, word }, look: QUICK.includes(word) ? "main" : null })),
   ].filter(Boolean);
   return [
     MAY_CLOSE.includes(batch.state) && button("Close", () => closeBatch(id), "main"),
-    steps.map((it) => button(it.label, () => act(it.what, it.fields), it.look)),
+    steps.map((it) => button(it.label, () => act(it.what, it.fields), it.look, it.id && { id: it.id })),
     Object.keys(words).filter((it) => GRAVE[it] || it === "hold").map((word) => button(capital(word), () => move(id, word), GRAVE[word] && "bad")),
     steps.length > 0 && button("With a note\u2026", () => withNote(id, steps))];
 }
@@ -193,9 +195,13 @@ async function produce(batch, line, ...scan) {
 // Opens the form of a code that was scanned while a batch is shown: of a lot that the batch consumes, or of one that is to be produced. Gives false
 // where the code is of neither, and in words why a lot is of no use to the batch.
 export async function scanAtBatch(code, isAgain) {
+  if (!batchShown) return false;
+  if (await desk.look()) await show();
   const batch = batchShown && await desk.batch(batchShown.batch);
-  if (!batch || !takesBookings(batch)) return false;
-  const { lot: id } = lotOf(code), lot = id && await desk.foundLot(id), lines = batch.lines.filter(isMaterial);
+  if (!batch) return false;
+  const { lot: id, sub } = lotOf(code), lot = id && await desk.foundLot(id), lines = batch.lines.filter(isMaterial);
+  if (!lot && id === batch.batch && sub !== null) return pointToPhase(batch, sub);
+  if (!takesBookings(batch)) return false;
   if (lot) {
     const line = lines.find((it) => it.kind === "in" && it.def === lot.def);
     return line ? consume(batch, line, code, isAgain) : `Lot ${id} is ${lot.def}, which batch ${batch.batch} doesn't consume.`;
@@ -203,4 +209,16 @@ export async function scanAtBatch(code, isAgain) {
   const outputs = lines.filter((it) => it.kind === "out"), line = outputs.find((it) => it.booked < it.asked) || outputs[0];
   const isOther = !id || await desk.foundBatch(id) || await desk.foundOrder(id) || await desk.recall(id);
   return line && !isOther ? produce(batch, line, code, isAgain) : false;
+}
+
+// What is scanned of a phase on the batch's sheet leads the keyboard to the button of that phase, and says why where it can't.
+async function pointToPhase({ batch, next, phases, state }, number) {
+  if (number < 1 || number > phases) return `Batch ${batch} has no phase ${number}.`;
+  if (number < next) return `Phase ${number} of ${batch} is done already.`;
+  if (number > next) return `Phase ${next} of ${batch} is next, and not phase ${number}.`;
+  if (state !== "running") return `Batch ${batch} doesn't run.`;
+  if (!at(NEXT_PHASE)) await show();
+  at(NEXT_PHASE)?.focus();
+  notice("", `Phase ${number} of ${batch} is next. Nothing is booked yet: press its button, or Enter.`);
+  return true;
 }

@@ -8,7 +8,7 @@ import { nameOperator } from "./who.js";
 import { focusAgain, isWriting } from "./focus.js";
 import { listenToScans, onceAlone, tone } from "./scanner.js";
 import { button, go, notice } from "./parts.js";
-import { Refusal, desk } from "./questions.js";
+import { desk, whyNot } from "./questions.js";
 import { VIEWS, isDayOver, place, show, tellStatus } from "./frame.js";
 import { focusBehind, openDialog, openForm } from "./forms.js";
 import { drawWaiting, sending } from "./book.js";
@@ -40,7 +40,6 @@ at("finder").addEventListener("submit", async (event) => {
   notice();
   try { await find(at("find").value); } catch (error) { miss(whyNot(error)); }
 });
-const whyNot = (error) => (error instanceof Refusal ? error.message : "The desk doesn't answer.");
 
 // What was scanned goes to the form that is open, else to the batch that is shown, else it is found.
 listenToScans(async (code, isAgain, from) => {

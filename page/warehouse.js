@@ -13,6 +13,7 @@ import { desk, want } from "./questions.js";
 import { isNarrow, more, show } from "./frame.js";
 import { amountField, idField, lotField, newLotField, noteField, noted, openForm, placeField, say, selectField, textField } from "./forms.js";
 import { wholeLot } from "./lots.js";
+import { showLabels } from "./label.js";
 import { bookingForm } from "./book.js";
 
 // The parts of lots that are chosen for a merge, and their material.
@@ -92,7 +93,7 @@ function partRows(lot, known, told) {
   const marks = [lot.held && [" ", pill("on hold", "warn")], lot.recalled && [" ", pill("recalled", "bad")]];
   return lot.sublots.filter((it) => it.stock > 0).map((it) => {
     const key = `${lot.lot}/${it.no}`, part = { lot: lot.lot, sub: it.no, stock: it.stock, place: it.place, at: lot.at, barred };
-    const buttons = [button("Divide", () => divide(part, known)), button("Split", () => split(part, known), null, { disabled: isBarred }),
+    const buttons = [button("Label", () => showLabels(part.lot, part.sub)), button("Divide", () => divide(part, known)), button("Split", () => split(part, known), null, { disabled: isBarred }),
       button("Scrap", () => scrap(part, known), "bad")];
     return row(key, [cell(chooseBox(key, part, isBarred, told)), idCell(lotLink(lot.lot), marks), h("td", { class: "num" }, it.no),
       h("td", { class: "when" }, dayOf(lot.at)), cell(it.place || h("span", { class: "soft" }, "no place")), numberCell(it.stock, known.unit), buttonsCell(buttons)]);

@@ -35,6 +35,7 @@ pub const PAGE: &[u8] = br##"<!doctype html>
   <div id="stand"></div>
 </footer>
 <dialog id="dialog" aria-labelledby="title"></dialog>
+<div id="paper"></div>
 <noscript><p>This page needs JavaScript.</p></noscript>
 <script defer src="/desk.js"></script>
 <script defer src="/views.js"></script>
@@ -43,4 +44,4 @@ pub const PAGE: &[u8] = br##"<!doctype html>
 "##;
 
 /// Its entity tag.
-pub const PAGE_TAG: &str = "\"0e1675a551afeb5b4ad0b83d7c0344b5\"";
+pub const PAGE_TAG: &str = "\"5e1f6afe8682442130f2626242ddfe99\"";

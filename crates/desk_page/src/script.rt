@@ -290,6 +290,29 @@ function withCode(note, code) {
   const word = `supplier's code ${code.replace(/[^ -~]/g, "?")}`;
   return (note.includes(word) ? note : note ? `${word}; ${note}` : word).slice(0, 60);
 }
+const WORDS_OF_BARS = (
+  "212222 222122 222221 121223 121322 131222 122213 122312 132212 221213 221312 231212 112232 122132 122231 113222 123122 123221 "
+  + "223211 221132 221231 213212 223112 312131 311222 321122 321221 312212 322112 322211 212123 212321 232121 111323 131123 131321 "
+  + "112313 132113 132311 211313 231113 231311 112133 112331 132131 113123 113321 133121 313121 211331 231131 213113 213311 213131 "
+  + "311123 311321 331121 312113 312311 332111 314111 221411 431111 111224 111422 121124 121421 141122 141221 112214 112412 122114 "
+  + "122411 142112 142211 241211 221114 413111 241112 134111 111242 121142 121241 114212 124112 124211 411212 421112 421211 212141 "
+  + "214121 412121 111143 111341 131141 114113 114311 411113 411311 113141 114131 311141 411131 211412 211214 211232 2331112").split(" ");
+const START_B = 104, STOP = 106, MODULUS = 103;
+function codeWords(text) {
+  if (!/^[ -~]+$/.test(text)) return null;
+  const letters = [...text].map((it) => it.charCodeAt(0) - 32);
+  const check = letters.reduce((sum, it, k) => sum + (k + 1) * it, START_B) % MODULUS;
+  return [START_B, ...letters, check, STOP];
+}
+const QUIET = 10;
+function bars(text) {
+  const widths = codeWords(text).flatMap((it) => [...WORDS_OF_BARS[it]].map(Number));
+  let x = QUIET, path = "";
+  widths.forEach((it, k) => { if (k % 2 === 0) path += `M${x} 0h${it}v1h-${it}z`; x += it; });
+  return { path, width: x + QUIET };
+}
+const MODULES = [0.5, 0.375, 0.25];
+const moduleFor = (count, room) => MODULES.find((it) => count * it <= room) || MODULES.at(-1);
 function filled(element, attributes, children) {
   for (const [name, value] of Object.entries(attributes || {})) {
     if (value === false || value == null) continue;
@@ -434,7 +457,7 @@ function notice(tone, text, ...buttons) {
   clearTimeout(fading);
   const told = text && h("div", { class: tone, role: tone === "bad" ? "alert" : null }, h("span", {}, text), buttons);
   at("notice").replaceChildren(...(told ? [told] : []));
-  if (text && !buttons.length) fading = setTimeout(() => notice(), tone === "bad" ? 15000 : 6000);
+  if (text && (tone === "good" || !buttons.length)) fading = setTimeout(() => notice(), tone === "bad" ? 15000 : buttons.length ? 30000 : 6000);
 }
 const card = (title, tools, ...body) => h("section", { class: "card" }, h("div", { class: "top" }, h("h2", { tabindex: -1 }, title), tools),
   ...body);
@@ -485,6 +508,7 @@ function firstSteps() {
 class Refusal extends Error {
   constructor(answer) { super(plainly(answer)); this.answer = answer; }
 }
+const whyNot = (error) => (error instanceof Refusal ? error.message : "The desk doesn't answer.");
 const SECONDS = 40;
 let tail = Promise.resolve();
 function request(path, options) {
@@ -800,7 +824,7 @@ class LotChoice {
   }
   async found(text) {
     let parts;
-    try { parts = await partsNamed(text, this.field); } catch (error) { parts = error instanceof Refusal ? error.message : "The desk doesn't answer."; }
+    try { parts = await partsNamed(text, this.field); } catch (error) { parts = whyNot(error); }
     if (text !== this.seen) return false;
     if (typeof parts === "string") return this.refuse(parts);
     this.offer(parts);
@@ -1024,6 +1048,55 @@ function openDialog(content, first) {
   first.focus({ preventScroll: first.matches(".end button") });
   if (first.select) first.select();
 }
+function barcode(text, room, high) {
+  const { path, width } = bars(text), module = moduleFor(width, room);
+  return svg("svg", { class: "bars", width: `${width * module}mm`, height: `${high}mm`, viewBox: `0 0 ${width} 1`, preserveAspectRatio: "none", role: "img",
+    "aria-label": `Bar code of ${text}`, "shape-rendering": "crispEdges" }, svg("path", { d: path }));
+}
+let topOfPages = null;
+function openPaper(title, content, top = null) {
+  topOfPages = top;
+  const print = button("Print", () => globalThis.print(), "main"), away = button("Close", () => dialog.close());
+  openDialog(h("form", { method: "dialog", class: "preview" }, h("h2", { id: "title" }, title), h("div", { class: "sheets" }, content),
+    h("div", { class: "end" }, away, print)), print);
+}
+const style = () => document.styleSheets[0];
+let hasTop = false;
+function clearPaper() {
+  at("paper").replaceChildren();
+  if (hasTop) style().deleteRule(style().cssRules.length - 1);
+  hasTop = false;
+}
+addEventListener("beforeprint", () => {
+  clearPaper();
+  const shown = dialog.open && dialog.querySelector(".sheets");
+  if (!shown) return;
+  at("paper").append(...[...shown.children].map((it) => it.cloneNode(true)));
+  hasTop = topOfPages !== null;
+  if (hasTop) style().insertRule(`@page { @top-left { content: ${JSON.stringify(topOfPages)}; font: 9pt sans-serif; } }`, style().cssRules.length);
+});
+addEventListener("afterprint", clearPaper);
+const ROOM = 94, HIGH = 17, LOW = 12, SHORT = 20;
+const codeOf = ({ lot, sub }) => (sub === 0 ? lot : `${lot}/${sub}`);
+function label(part, def, { name, unit }) {
+  const known = (what, ...value) => h("div", {}, h("span", {}, what), h("b", {}, ...value));
+  const code = codeOf(part), place = part.place || "no place", isLong = [code, name, place].some((it) => it.length > SHORT);
+  return h("section", { class: isLong ? "label long" : "label" }, h("h3", {}, code), barcode(code, ROOM, isLong ? LOW : HIGH),
+    h("p", {}, h("b", {}, def), name && ` ${name}`),
+    h("div", { class: "known" }, known("Amount", `${grouped(part.stock)} ${unit}`), known("Came", dayOf(part.at)), known("Place", place)));
+}
+async function showLabels(id, sub) {
+  try {
+    const lot = await lotNow(id), parts = lot ? partsOfLot(lot).filter((it) => sub === undefined || it.sub === sub) : [];
+    if (!parts.length) return notice("bad", `There is nothing in ${sub === undefined ? "lot" : `part ${sub} of lot`} ${id}.`);
+    const known = await desk.definition(lot.def);
+    openPaper(parts.length === 1 ? `Label of ${codeOf(parts[0])}` : `${parts.length} labels of ${id}`, parts.map((it) => label(it, lot.def, known)));
+  } catch (error) { notice("bad", whyNot(error)); }
+}
+function labelOffer({ do: word, lot, new: made }) {
+  const id = { receive: lot, produce: lot, split: made, merge: made }[word];
+  return id ? [button("Label", () => showLabels(id), null, { "aria-label": `Label of ${id}` })] : [];
+}
 const REFERENCE = "ABCDEFGHIJKLMNOPQRSTUVWXYZ234567";
 const newReference = () => "WEB-" + Array.from(crypto.getRandomValues(new Uint8Array(20)), (byte) => REFERENCE[byte & 31]).join("");
 const TAB = (() => {
@@ -1070,11 +1143,11 @@ async function book(what, content) {
   const booking = { what, at: desk.now(), by: operatorName(), ref: newReference(), tab: TAB, since: clock(), desk: desk.name, ...content };
   return settle(booking, await deliver(booking));
 }
-async function settle({ what, by }, answer) {
+async function settle({ what, by, fields }, answer) {
   if (!answer) return LOST;
   if (answer.status !== 200) return plainly(answer);
   keepName(by);
-  notice("good", `${what}. Number ${grouped(answer.body.ok)}. By ${by}.`);
+  notice("good", `${what}. Number ${grouped(answer.body.ok)}. By ${by}.`, ...labelOffer(fields || {}));
   await show();
   return null;
 }
@@ -1117,4 +1190,4 @@ function bookingForm(title, fields, label, take, more) {
 "##;
 
 /// Its entity tag.
-pub const SCRIPT_TAG: &str = "\"3ac12ca87c89c75540970fa639bb734f\"";
+pub const SCRIPT_TAG: &str = "\"c683372e0ff931d3d50543f2b8421fe9\"";

@@ -62,6 +62,7 @@ footer button:hover { background: #0003; }
 
 main { max-width: 1280px; margin: 0 auto; padding: 18px 20px 54px; display: grid; gap: 18px; align-items: start; }
 @media (min-width: 980px) { main.side > .stack:first-child td.do > div { flex-wrap: nowrap; } }
+@media (min-width: 1200px) { main.list > .listed ~ * td.do > div { flex-wrap: nowrap; } }
 @media (min-width: 1500px) { main { max-width: 1860px; } main.side > .stack:last-child td.do > div { flex-wrap: nowrap; } }
 @media (min-width: 980px) {
   main.side { grid-template-columns: minmax(0, 1fr) clamp(372px, 27vw, 520px); }
@@ -90,6 +91,9 @@ th {
   text-align: left; font-size: 12.5px; color: var(--soft); font-weight: 600; padding: 4px 8px; border-bottom: 1px solid var(--line);
   white-space: nowrap;
 }
+button.sort { font-size: inherit; font-weight: inherit; border: 0; padding: 0; background: none; color: inherit; } button.sort:hover { color: var(--accent); }
+.card .filter { padding-bottom: 0; } .filter input { flex: 1 1 10em; max-width: 24em; } .filter .phone { display: none; } .needs td, .needs th { padding-inline: 0 6px; }
+.needs td:first-child, .needs th:first-child { padding-left: 0; } .needs td:last-child, .needs th:last-child { padding-right: 0; }
 td { padding: 6px 8px; border-bottom: 1px solid var(--faint); vertical-align: middle; overflow-wrap: break-word; }
 tr:last-child > td { border-bottom: 0; }
 th:first-child, td:first-child { padding-left: 16px; } th:last-child, td:last-child { padding-right: 16px; }
@@ -160,7 +164,7 @@ dialog {
 dialog::backdrop { background: #10182699; }
 dialog form { padding: 18px 20px; display: grid; grid-template-columns: 1fr 1fr; gap: 12px; } dialog form > * { grid-column: 1 / -1; }
 dialog form > .half { grid-column: auto; align-self: end; }
-dialog h2 { margin: 0; font-size: 17px; } dialog p { margin: 0; }
+dialog h2 { margin: 0; font-size: 17px; overflow-wrap: anywhere; } dialog p { margin: 0; }
 dialog dl, dialog dd { margin: 0; } dialog dt { font-weight: 600; } dialog dd { color: var(--soft); margin-bottom: 6px; }
 dialog label { display: grid; gap: 3px; font-size: 13.5px; color: var(--soft); }
 dialog label input, dialog label select, dialog label textarea { color: var(--ink); font-size: 15px; }
@@ -168,8 +172,22 @@ dialog .wrong { color: var(--bad); background: var(--bad-ground); border-radius:
 dialog .lot { display: grid; gap: 8px; } dialog .said { color: var(--good); font-weight: 600; } dialog .said:empty { display: none; }
 dialog .foreseen { color: var(--soft); margin: 0; } dialog .wrong:empty, dialog .foreseen:empty { display: none; }
 dialog .end { display: flex; justify-content: flex-end; align-items: center; gap: 8px; } dialog .as { color: var(--soft); overflow-wrap: anywhere; }
+.inputs { display: grid; gap: 12px; } .inputs h3 { margin: 0; font-size: 15px; } .inputs p { margin: 0 0 2px; }
+.inputs .part { display: flex; align-items: center; gap: 8px; padding: 4px 0; border-top: 1px solid var(--faint); color: var(--ink); }
+.inputs .part input { flex: none; } .inputs .part span { flex: 1 1 auto; min-width: 0; overflow-wrap: anywhere; } .inputs .part b { white-space: nowrap; }
 .still { background: var(--warn-ground); color: var(--warn); border-radius: 8px; padding: 10px 14px; } .still div { display: grid; gap: 8px; margin-top: 8px; }
 .still button { min-height: 50px; font-size: 17px; font-weight: 600; white-space: normal; }
+
+/* Paper: a dialog shows it, and it is printed alone. */
+#paper { display: none; } dialog:has(.sheets) { width: min(460px, 94vw); } .sheets { display: grid; gap: 12px; }
+.sheets > * { min-width: 0; } .bars { display: block; max-width: 100%; fill: #000; }
+.label { background: #fff; color: #000; border: 1px solid #888; border-radius: 6px; padding: 3mm; overflow-wrap: anywhere; font-size: 12pt; line-height: 1.25; }
+.label h3 { margin: 0 0 1mm; font-size: 22pt; line-height: 1; } .label p { margin: 1mm 0; } .label.long { font-size: 9pt; } .label.long h3 { font-size: 13pt; }
+.label .known { display: flex; flex-wrap: wrap; gap: .5mm 6mm; } .label.long .known div:last-child b { font-weight: 400; } .label .known span { font-size: 8pt; color: #333; margin-right: 1.5mm; }
+dialog:has(.sheet) { width: min(860px, 94vw); } .sheet h3 { margin: 14px 0 2px; font-size: 14px; }
+.sheet .head { display: flex; flex-wrap: wrap; gap: 8px 24px; justify-content: space-between; margin-bottom: 10px; } .sheet .bars { background: #fff; }
+.tickbox { display: inline-block; width: 5mm; height: 5mm; border: 1px solid var(--ink); vertical-align: middle; } .towrite { min-width: 30mm; width: 40%; }
+.sheet th:first-child, .sheet td:first-child { width: 4em; padding-left: 5px; }
 
 .picture { overflow-x: auto; padding: 12px 16px 8px; }
 svg text { font-size: 12px; fill: var(--ink); } svg .box { stroke: #8592a6; fill: var(--card); }
@@ -204,13 +222,14 @@ svg .word { fill: var(--bad); font-weight: 600; font-size: 10px; }
   input[type=checkbox]:checked::before { content: "\2713"; background: var(--accent); border-color: var(--accent); }
   input[type=checkbox]:disabled { opacity: .45; }
   footer { min-height: 30px; padding: 0 14px; } footer:has(button) { min-height: 50px; } .chosen { bottom: 30px; }
-  #notice:not(:empty) + #stand, #notice:empty { display: none; } #notice { width: 100%; } #notice > div { justify-content: space-between; margin: 3px -8px; }
+  #notice:not(:empty) + #stand, #notice:empty { display: none; } #notice { width: 100%; } #notice > div { flex-wrap: nowrap; justify-content: space-between; margin: 3px -8px; }
 }
 @media (max-width: 620px) {
   header { padding: 0 10px; } header > h1 { display: none; } header > .who { font-size: 0; flex-basis: 110px; } header > .who input { font-size: 15px; }
   .choice button { padding: 7px 8px; }
   header nav { width: 100%; justify-content: space-between; } header nav a { padding: 0 9px; } #back { width: 100%; }
   main { padding: 10px 10px 70px; }
+  .filter .phone { display: block; flex: 1 1 8em; } .sheet .block td { width: auto; }
   /* A row of a table stands as a block of named values. */
   table.block, .block tbody, .block tr, .block td { display: block; } .block thead { display: none; }
   .block tr { padding: 8px 16px; border-bottom: 1px solid var(--line); } .block tr:last-child { border-bottom: 0; }
@@ -222,6 +241,7 @@ svg .word { fill: var(--bad); font-weight: 600; font-size: 10px; }
   .block td[data-label=""]::before { display: none; } .block td:empty { display: none; }
   .block td.do { padding-top: 6px; } .block td.do > div { justify-content: flex-start; gap: 8px; } .block td { align-items: center; }
 }
+@page label { size: 100mm 60mm; margin: 3mm; @bottom-right { content: none; } }
 @page { size: A4; margin: 14mm 12mm 18mm; @bottom-right { content: "page " counter(page) " of " counter(pages); font: 9pt sans-serif; } }
 @media print {
   :root {
@@ -234,6 +254,11 @@ svg .word { fill: var(--bad); font-weight: 600; font-size: 10px; }
   .card .wide, pre { overflow: visible; } pre { white-space: pre-wrap; overflow-wrap: break-word; }
   table { font-size: 9pt; } th, td, th:first-child, td:first-child, th:last-child, td:last-child { padding: 3px 5px; }
   th { white-space: normal; } td.id, .id { white-space: normal; overflow-wrap: break-word; } a { color: inherit; text-decoration: none; }
+  body:has(#paper > *) > :not(#paper) { display: none !important; } #paper { display: block; }
+  .sheet th, .sheet td { border: 1px solid var(--line); } .sheet td { height: 11mm; } .sheet .towrite { width: 58mm; } .sheet .printed { padding: 0 0 8px; }
+  .sheet tr:last-child > td { border-bottom: 1px solid var(--line); }
+  .sheet .sign { padding-inline: 0; }
+  .label { page: label; border: 0; padding: 0; } .label + .label { break-before: page; }
   .printed { display: block; padding: 0 16px; color: var(--soft); }
   .sign { display: grid; gap: 14mm; padding: 14mm 16px 0; break-inside: avoid; } .sign div { display: grid; grid-template-columns: 2fr 1fr 2fr; gap: 8mm; }
   .sign span { border-top: 1px solid #000; padding-top: 2px; font-size: 9pt; }
@@ -241,4 +266,4 @@ svg .word { fill: var(--bad); font-weight: 600; font-size: 10px; }
 "##;
 
 /// Its entity tag.
-pub const STYLE_TAG: &str = "\"c0e439ad2b92a989bcb9bb9f23c8ccea\"";
+pub const STYLE_TAG: &str = "\"56dad0a5b7893030e38c23b67dad7d35\"";

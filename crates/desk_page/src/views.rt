@@ -75,7 +75,7 @@ function recordCard(batch) {
     filterChoice("Form of the record", "record", FORMS_OF_RECORD),
     csvButton("record", `record-${batch.batch}`, () => rowsOfRecord(batch.record, batch.lines.filter(isMaterial))), button("Print", () => print())];
   const content = isPlain ? h("div", { class: "body" }, h("pre", {}, batch.record.text)) : recordTables(batch);
-  const it = card(`Batch record ${batch.batch}`, tools, printedLine(), content, signatures(batch.batch));
+  const it = card(`Batch record ${batch.batch}`, tools, printedLine(), content, signatures(`batch record ${batch.batch}`));
   it.classList.add("record");
   return it;
 }
@@ -86,7 +86,7 @@ addEventListener("beforeprint", () => {
   }
 });
 const SIGNED = ["Made by", "Checked by", "Released by"];
-const signatures = (id) => h("div", { class: "sign" }, h("b", {}, `Signed of batch record ${id}`),
+const signatures = (what) => h("div", { class: "sign" }, h("b", {}, `Signed of ${what}`),
   SIGNED.map((it) => h("div", {}, h("span", {}, it), h("span", {}, "Date"), h("span", {}, "Signature"))));
 function recordTables({ record, ...batch }) {
   const number = (it) => h("td", { class: "num" }, it), stamp = (it) => [stampCell(it), cell(it.note)];
@@ -113,6 +113,38 @@ function recordFacts(batch, released) {
     fact("Released", moment(released.at, true)), fact("By", released.by), released.note && fact("Note", released.note));
 }
 const stampCell = (it) => h("td", { class: "stamp" }, h("span", {}, h("span", { class: "when" }, moment(it.at, true)), " ", it.by));
+const OF_BATCH = [90, 11], OF_PHASE = [62, 7];
+const codeOfPhase = (batch, number) => `${batch}/${number}`;
+const tickBox = () => cell(h("i", { class: "tickbox" }));
+const toWrite = () => h("td", { class: "towrite" });
+function goods(lines, names) {
+  const rows = lines.map((it) => row(`${it.kind} ${it.def}`, [tickBox(), idCell(it.def, names.get(it.def) && h("div", { class: "under" }, names.get(it.def))),
+    numberCell(it.asked, it.unit), toWrite()]));
+  return table(["Done", "Material", "#Asked", "Lots and amounts"], rows, "Nothing.");
+}
+function procedure(batch) {
+  let number = 0;
+  const line = (it) => {
+    if (it.kind === "par") return row(`par ${it.name}`, [h("td"), cell(), cell(it.name, ": ", h("b", {}, it.value)), cell(), toWrite()]);
+    number += 1;
+    return row(`phase ${number}`, [h("td", { class: "num" }, number), tickBox(), cell(h("b", {}, it.path)),
+      cell(barcode(codeOfPhase(batch.batch, number), ...OF_PHASE)), toWrite()]);
+  };
+  return table(["#No", "Done", "Phase or parameter", "Bar code", "When, by, value"], batch.lines.filter((it) => !isMaterial(it)).map(line), "");
+}
+async function showSheet(id) {
+  try {
+    const batch = await desk.batch(id), order = await desk.order(batch.order), recipe = await desk.recipe(batch.recipe, batch.version);
+    const lines = batch.lines.filter(isMaterial), names = new Map();
+    for (const it of [recipe.product, ...lines.map((line) => line.def)]) names.set(it, (await desk.definition(it))?.name || "");
+    const head = h("div", { class: "facts" }, fact("Order", order.order), fact("Product", `${recipe.product} ${names.get(recipe.product)}`),
+      fact("Size", `${grouped(batch.size)} ${recipe.unit || ""}`), fact("Recipe", `${batch.recipe} ${batch.version} ${recipe.title}`), fact("Due", order.due),
+      fact("Priority", order.priority), fact("Attempt", batch.attempt));
+    openPaper(`Sheet of ${id}`, [h("section", { class: "sheet" }, h("div", { class: "head" }, h("h2", {}, `Batch ${id}`), barcode(id, ...OF_BATCH)),
+      printedLine(), head, h("h3", {}, "Goes in"), goods(lines.filter((it) => it.kind === "in"), names), h("h3", {}, "Procedure"), procedure(batch),
+      h("h3", {}, "Comes out"), goods(lines.filter((it) => it.kind === "out"), names), signatures(`batch ${id}`))], `Batch ${id}`);
+  } catch (error) { notice("bad", whyNot(error)); }
+}
 const nameOfTicks = (of) => `ticks.${desk.name || ""}.${of}`;
 function tick(of, key, isOn) {
   const others = kept(nameOfTicks(of), []).filter((it) => it !== key);
@@ -307,10 +339,10 @@ const WHICH = ["open", "closed"];
 let batchShown = null;
 async function shift([id]) {
   const areClosedShown = filterOf("batches", WHICH) === "closed";
-  const batches = areClosedShown ? await desk.closedBatches(want("closed")) : await desk.batches(want("batches"));
+  const batches = areClosedShown ? await desk.closedBatches(want("closed")) : (await desk.batches(want("batches"))).sort(byDueDate);
   const shown = id || (!isNarrow() && batches[0] && batches[0].batch);
-  batchShown = null;
-  const rows = (areClosedShown ? batches : [...batches].sort(byDueDate)).map((it) => batchRow(it, it.batch === shown, areClosedShown));
+  if (!shown || batchShown?.batch !== shown) batchShown = null;
+  const rows = batches.map((it) => batchRow(it, it.batch === shown, areClosedShown));
   const noneOpen = "No batch is open. The planner releases an order, which makes its batch.";
   const all = table(["Batch", "State", "#Due"], rows, areClosedShown ? "No batch is closed." : noneOpen, true);
   const which = filterChoice("Which batches", "batches", WHICH);
@@ -348,7 +380,7 @@ function progressCard(batch) {
     fact("Size", grouped(batch.size)), fact("Attempt", batch.attempt), fact("Phases done", `${done} of ${batch.phases}`),
     batch.lines.filter((it) => it.kind === "par").map((it) => fact(it.name, it.value))];
   const tools = [pill(batch.closed ? "closed" : batch.state, batch.closed ? "" : TONES[batch.state]),
-    link("quality/batch/" + batch.batch, "Record and genealogy")];
+    link("quality/batch/" + batch.batch, "Record and genealogy"), button("Sheet", () => showSheet(batch.batch), null, { "aria-label": `Sheet of ${batch.batch}` })];
   return card(`Batch ${batch.batch}`, tools, h("div", { class: "body" }, h("div", { class: "facts" }, known), progressBar(done, batch.phases),
     h("p", { class: "soft small" }, path), h("p", { class: "row" }, moves(batch, procedure[done]))));
 }
@@ -358,20 +390,21 @@ function progressBar(done, phases) {
   bar.firstChild.style.width = `${(100 * done) / phases}%`;
   return bar;
 }
+const NEXT_PHASE = "nextphase";
 function moves(batch, phase) {
   if (batch.closed) return "This batch is closed. Nothing more is booked on it.";
   const { done, ...words } = STATES[batch.state], id = batch.batch;
   const mayEnd = done && !(batch.state === "running" && phase);
   const steps = [
     batch.state === "running" && phase && { label: `Phase ${phase.phase} done`, what: `Phase ${phase.phase} of ${id} done`,
-      fields: { do: "phase_done", batch: id, phase: batch.next }, look: "main" },
+      fields: { do: "phase_done", batch: id, phase: batch.next }, look: "main", id: NEXT_PHASE },
     mayEnd && { label: `Finish: ${done}`, what: `Batch ${id} is ${done}`, fields: { do: "settle", batch: id }, look: "main" },
     ...Object.keys(words).filter((it) => !GRAVE[it] && it !== "hold").map((word) => ({ label: capital(word), what: `Batch ${id}: ${word}`,
       fields: { do: "batch", batch: id, word }, look: QUICK.includes(word) ? "main" : null })),
   ].filter(Boolean);
   return [
     MAY_CLOSE.includes(batch.state) && button("Close", () => closeBatch(id), "main"),
-    steps.map((it) => button(it.label, () => act(it.what, it.fields), it.look)),
+    steps.map((it) => button(it.label, () => act(it.what, it.fields), it.look, it.id && { id: it.id })),
     Object.keys(words).filter((it) => GRAVE[it] || it === "hold").map((word) => button(capital(word), () => move(id, word), GRAVE[word] && "bad")),
     steps.length > 0 && button("With a note\u2026", () => withNote(id, steps))];
 }
@@ -462,9 +495,13 @@ async function produce(batch, line, ...scan) {
   if (scan.length) await openForm().scanned(...scan);
 }
 async function scanAtBatch(code, isAgain) {
+  if (!batchShown) return false;
+  if (await desk.look()) await show();
   const batch = batchShown && await desk.batch(batchShown.batch);
-  if (!batch || !takesBookings(batch)) return false;
-  const { lot: id } = lotOf(code), lot = id && await desk.foundLot(id), lines = batch.lines.filter(isMaterial);
+  if (!batch) return false;
+  const { lot: id, sub } = lotOf(code), lot = id && await desk.foundLot(id), lines = batch.lines.filter(isMaterial);
+  if (!lot && id === batch.batch && sub !== null) return pointToPhase(batch, sub);
+  if (!takesBookings(batch)) return false;
   if (lot) {
     const line = lines.find((it) => it.kind === "in" && it.def === lot.def);
     return line ? consume(batch, line, code, isAgain) : `Lot ${id} is ${lot.def}, which batch ${batch.batch} doesn't consume.`;
@@ -472,6 +509,16 @@ async function scanAtBatch(code, isAgain) {
   const outputs = lines.filter((it) => it.kind === "out"), line = outputs.find((it) => it.booked < it.asked) || outputs[0];
   const isOther = !id || await desk.foundBatch(id) || await desk.foundOrder(id) || await desk.recall(id);
   return line && !isOther ? produce(batch, line, code, isAgain) : false;
+}
+async function pointToPhase({ batch, next, phases, state }, number) {
+  if (number < 1 || number > phases) return `Batch ${batch} has no phase ${number}.`;
+  if (number < next) return `Phase ${number} of ${batch} is done already.`;
+  if (number > next) return `Phase ${next} of ${batch} is next, and not phase ${number}.`;
+  if (state !== "running") return `Batch ${batch} doesn't run.`;
+  if (!at(NEXT_PHASE)) await show();
+  at(NEXT_PHASE)?.focus();
+  notice("", `Phase ${number} of ${batch} is next. Nothing is booked yet: press its button, or Enter.`);
+  return true;
 }
 const chosen = new Map();
 let chosenOf = null;
@@ -543,7 +590,7 @@ function partRows(lot, known, told) {
   const marks = [lot.held && [" ", pill("on hold", "warn")], lot.recalled && [" ", pill("recalled", "bad")]];
   return lot.sublots.filter((it) => it.stock > 0).map((it) => {
     const key = `${lot.lot}/${it.no}`, part = { lot: lot.lot, sub: it.no, stock: it.stock, place: it.place, at: lot.at, barred };
-    const buttons = [button("Divide", () => divide(part, known)), button("Split", () => split(part, known), null, { disabled: isBarred }),
+    const buttons = [button("Label", () => showLabels(part.lot, part.sub)), button("Divide", () => divide(part, known)), button("Split", () => split(part, known), null, { disabled: isBarred }),
       button("Scrap", () => scrap(part, known), "bad")];
     return row(key, [cell(chooseBox(key, part, isBarred, told)), idCell(lotLink(lot.lot), marks), h("td", { class: "num" }, it.no),
       h("td", { class: "when" }, dayOf(lot.at)), cell(it.place || h("span", { class: "soft" }, "no place")), numberCell(it.stock, known.unit), buttonsCell(buttons)]);
@@ -655,7 +702,7 @@ async function lotCards(id) {
 function lotCard(lot, self, holds, forward) {
   const rows = holds.map((it) => row(it.hold, [idCell(it.hold), momentCell(it.at), cell(it.by), cell(it.note),
     buttonsCell(button("Take the hold off", () => unhold(lot.lot, it.hold)))]));
-  const tools = [lot.held && pill("on hold", "warn"), self.recalled && pill("recalled", "bad"), button("Hold", () => hold(lot.lot)),
+  const tools = [lot.held && pill("on hold", "warn"), self.recalled && pill("recalled", "bad"), button("Label", () => showLabels(lot.lot)), button("Hold", () => hold(lot.lot)),
     button("Recall", () => recall(lot.lot, forward), "bad")];
   return card(`Lot ${lot.lot}`, tools,
     facts(fact("Material", link("warehouse/" + lot.def, lot.def)), fact("Stock", grouped(lot.stock), " ", self.unit),
@@ -738,7 +785,6 @@ at("finder").addEventListener("submit", async (event) => {
   notice();
   try { await find(at("find").value); } catch (error) { miss(whyNot(error)); }
 });
-const whyNot = (error) => (error instanceof Refusal ? error.message : "The desk doesn't answer.");
 listenToScans(async (code, isAgain, from) => {
   if (openForm()) return openForm().scanned(code, isAgain, from);
   notice();
@@ -818,4 +864,4 @@ show();
 "##;
 
 /// Its entity tag.
-pub const VIEWS_TAG: &str = "\"f79558da1b1750403c00f8b15be50e84\"";
+pub const VIEWS_TAG: &str = "\"18d32eb7af3bfc2f771953106b185488\"";

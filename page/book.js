@@ -10,7 +10,7 @@ import { at, h } from "./elements.js";
 import { keep, kept } from "./store.js";
 import { hasOperator, isInDoubt, keepName, operatorName } from "./who.js";
 import { button, notice } from "./parts.js";
-import { desk, request } from "./questions.js";
+import { desk, request, whyNot } from "./questions.js";
 import { show } from "./frame.js";
 import { form, say } from "./forms.js";
 import { labelOffer } from "./label.js";
@@ -65,17 +65,18 @@ async function deliver(booking) {
   } catch { return null; } finally { sending = null; drawWaiting(); }
 }
 
-// Has something booked, told in plain words; gives null where all is well, else what is wrong.
-export async function book(what, content) {
+// Has something booked, told in plain words; gives null where all is well, else what is wrong. Of one of several the view isn't drawn anew.
+export async function book(what, content, isOneOfMany) {
   if (sending) return "A booking is under way.";
   if (unanswered().some((it) => it.tab === TAB && !isOfAnother(it))) return "An earlier booking has no answer yet. Send it again first: see the top of the page.";
   const booking = { what, at: desk.now(), by: operatorName(), ref: newReference(), tab: TAB, since: clock(), desk: desk.name, ...content };
-  return settle(booking, await deliver(booking));
+  return settle(booking, await deliver(booking), isOneOfMany);
 }
-async function settle({ what, by, fields }, answer) {
+async function settle({ what, by, fields }, answer, isOneOfMany) {
   if (!answer) return LOST;
   if (answer.status !== 200) return plainly(answer);
   keepName(by);
+  if (isOneOfMany) return null;
   notice("good", `${what}. Number ${grouped(answer.body.ok)}. By ${by}.`, ...labelOffer(fields || {}));
   await show();
   return null;
@@ -107,6 +108,20 @@ function leaveBooking(booking) {
 }
 
 const command = (what, fields) => book(what, { fields });
+
+// Has several things booked, one after the other, up to the first that isn't. `whyNotNext` is asked before each, and gives why it ends there, or null.
+// Gives how many were booked, and what is wrong, or null. A reference of its own keeps each from being booked twice, also where its answer is lost: then
+// it is offered at the top of the page like any other, and the rest isn't sent.
+export async function bookEach(bookings, whyNotNext) {
+  let count = 0, wrong = null;
+  for (const { what, fields } of bookings) {
+    wrong = await whyNotNext(count).catch(whyNot) || await book(what, { fields }, true);
+    if (wrong) break;
+    count += 1;
+  }
+  if (wrong !== LOST) await show();
+  return { count, wrong };
+}
 
 // Books what needs no form, but for the operator where none is named, or where it may be another one by now.
 export async function bookAtOnce(what, content, label) {

@@ -21,8 +21,9 @@ const FIELDS = {
   lines: { rows: 8, required: true, spellcheck: "false" },
 };
 
-// The fields of forms; `more` has further attributes.
+// The fields of forms; `more` has further attributes. A field of its own is an element that the form shows.
 export const say = (text) => ({ kind: "say", label: text });
+export const ownField = (element) => ({ kind: "own", element });
 export const idField = (name, label, value) => ({ name, kind: "id", label, value });
 // A lot that comes to be, whose id may be scanned; and one that is there, which is scanned, typed or chosen.
 export const newLotField = (name, label, value) => ({ name, kind: "id", label, value, isNewLot: true });
@@ -105,6 +106,7 @@ class Form {
   }
   row(field) {
     if (field.kind === "say") return h("p", { class: "soft" }, field.label);
+    if (field.kind === "own") return field.element;
     if (field.kind === "lot") return this.lotRow(field);
     const it = (this.inputs[field.name] = input(field));
     if (field.isNewLot) it.addEventListener("change", () => this.putNewLot(field, it.value));

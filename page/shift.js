@@ -6,6 +6,7 @@ import { moment } from "./moments.js";
 import { isMaterial } from "./recipes.js";
 import { lotOf } from "./scans.js";
 import { MAY_CLOSE, STATES, TONES } from "./words.js";
+import { openInputs } from "./taking.js";
 import { at, h } from "./elements.js";
 import {
   batchLink, button, buttonsCell, card, cell, fact, firstSteps, idCell, link, listed, lotLink, none, notice, numberCell, overCell, pill, row, table,
@@ -17,6 +18,7 @@ import { partsToOffer } from "./lots.js";
 import { amountField, lotField, newLotField, noteField, noted, openForm, placeField, say, selectField, textField } from "./forms.js";
 import { act, bookingForm } from "./book.js";
 import { showSheet } from "./sheet.js";
+import { bookInputs } from "./inputs.js";
 
 const WHICH = ["open", "closed"];
 
@@ -125,7 +127,9 @@ const takesBookings = (batch) => batch.state !== "idle" && !batch.closed;
 async function materialsCard(batch) {
   const isOpen = takesBookings(batch), lines = batch.lines.filter(isMaterial), free = batch.closed ? null : await freeOf(lines);
   const rows = lines.map((it) => materialRow(batch, it, isOpen, free));
-  return card("Materials", batch.state === "idle" && h("span", { class: "soft small" }, "booked once the batch is started"),
+  const all = isOpen && openInputs(lines).length > 0 && button("Book all inputs as asked", () => bookInputs(batch.batch), "main",
+    { "aria-label": `Book all inputs as asked, ${batch.batch}` });
+  return card("Materials", batch.state === "idle" ? h("span", { class: "soft small" }, "booked once the batch is started") : all,
     table(["In or out", "Material", "#Asked", "#Booked", "#Left", ...(free ? ["#Free in stock"] : []), ""], rows, ""));
 }
 // How much of each input is in stock, and neither on hold nor recalled.

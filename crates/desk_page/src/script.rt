@@ -313,6 +313,17 @@ function bars(text) {
 }
 const MODULES = [0.5, 0.375, 0.25];
 const moduleFor = (count, room) => MODULES.find((it) => count * it <= room) || MODULES.at(-1);
+function takenOf(parts, amount) {
+  let short = amount;
+  const taken = [];
+  for (const it of parts) {
+    const some = Math.min(short, it.stock);
+    if (some > 0) taken.push({ ...it, amount: some });
+    short -= Math.max(0, some);
+  }
+  return { taken, short };
+}
+const openInputs = (lines) => lines.filter((it) => it.kind === "in" && it.booked < it.asked).map((it) => ({ ...it, left: it.asked - it.booked }));
 function filled(element, attributes, children) {
   for (const [name, value] of Object.entries(attributes || {})) {
     if (value === false || value == null) continue;
@@ -849,6 +860,7 @@ const FIELDS = {
   lines: { rows: 8, required: true, spellcheck: "false" },
 };
 const say = (text) => ({ kind: "say", label: text });
+const ownField = (element) => ({ kind: "own", element });
 const idField = (name, label, value) => ({ name, kind: "id", label, value });
 const newLotField = (name, label, value) => ({ name, kind: "id", label, value, isNewLot: true });
 const lotField = (more) => ({ name: "from", kind: "lot", label: "Scan or type the lot", ...more });
@@ -915,6 +927,7 @@ class Form {
   }
   row(field) {
     if (field.kind === "say") return h("p", { class: "soft" }, field.label);
+    if (field.kind === "own") return field.element;
     if (field.kind === "lot") return this.lotRow(field);
     const it = (this.inputs[field.name] = input(field));
     if (field.isNewLot) it.addEventListener("change", () => this.putNewLot(field, it.value));
@@ -1137,16 +1150,17 @@ async function deliver(booking) {
     }
   } catch { return null; } finally { sending = null; drawWaiting(); }
 }
-async function book(what, content) {
+async function book(what, content, isOneOfMany) {
   if (sending) return "A booking is under way.";
   if (unanswered().some((it) => it.tab === TAB && !isOfAnother(it))) return "An earlier booking has no answer yet. Send it again first: see the top of the page.";
   const booking = { what, at: desk.now(), by: operatorName(), ref: newReference(), tab: TAB, since: clock(), desk: desk.name, ...content };
-  return settle(booking, await deliver(booking));
+  return settle(booking, await deliver(booking), isOneOfMany);
 }
-async function settle({ what, by, fields }, answer) {
+async function settle({ what, by, fields }, answer, isOneOfMany) {
   if (!answer) return LOST;
   if (answer.status !== 200) return plainly(answer);
   keepName(by);
+  if (isOneOfMany) return null;
   notice("good", `${what}. Number ${grouped(answer.body.ok)}. By ${by}.`, ...labelOffer(fields || {}));
   await show();
   return null;
@@ -1173,6 +1187,16 @@ function leaveBooking(booking) {
     () => { forgetBooking(booking.ref); return null; }, { isGrave: true, booksNothing: true });
 }
 const command = (what, fields) => book(what, { fields });
+async function bookEach(bookings, whyNotNext) {
+  let count = 0, wrong = null;
+  for (const { what, fields } of bookings) {
+    wrong = await whyNotNext(count).catch(whyNot) || await book(what, { fields }, true);
+    if (wrong) break;
+    count += 1;
+  }
+  if (wrong !== LOST) await show();
+  return { count, wrong };
+}
 async function bookAtOnce(what, content, label) {
   if (!hasOperator() || isInDoubt()) return form(what, [], label, () => book(what, content));
   const wrong = await book(what, content);
@@ -1190,4 +1214,4 @@ function bookingForm(title, fields, label, take, more) {
 "##;
 
 /// Its entity tag.
-pub const SCRIPT_TAG: &str = "\"c683372e0ff931d3d50543f2b8421fe9\"";
+pub const SCRIPT_TAG: &str = "\"dad23c83d5497a54a1f273d0e1654d22\"";

@@ -145,6 +145,89 @@ async function showSheet(id) {
       h("h3", {}, "Comes out"), goods(lines.filter((it) => it.kind === "out"), names), signatures(`batch ${id}`))], `Batch ${id}`);
   } catch (error) { notice("bad", whyNot(error)); }
 }
+const stockIn = (parts) => parts.reduce((sum, it) => sum + it.stock, 0);
+class Plan {
+  constructor(id) { Object.assign(this, { id, off: new Set(), inputs: [], element: h("div", { class: "inputs" }) }); }
+  async read() {
+    await desk.look();
+    const batch = await desk.batch(this.id), own = new Set(batch.produced.map((it) => it.lot));
+    const inputs = [];
+    for (const it of openInputs(await desk.linesNow(this.id))) {
+      inputs.push({ ...it, name: (await desk.definition(it.def))?.name || "", parts: await this.freeParts(it.def, it.left, own) });
+    }
+    this.inputs = inputs;
+    this.draw();
+  }
+  async freeParts(def, amount, own) {
+    let lots, parts, wanted = 0;
+    do {
+      lots = await desk.stock(def, wanted += PAGE);
+      parts = lots.flatMap(partsOfLot).filter((it) => !it.barred && !own.has(it.lot));
+    } while (lots.more && stockIn(parts.filter((it) => this.isOn(it))) < amount);
+    return parts;
+  }
+  isOn(part) { return !this.off.has(keyOfPart(part)); }
+  taken(input) { return takenOf(input.parts.filter((it) => this.isOn(it)), input.left); }
+  bookings(note) {
+    return this.inputs.flatMap((input) => this.taken(input).taken.map(({ lot, sub, amount }) => ({ input, amount,
+      what: `${grouped(amount)} ${input.unit} of ${lot} consumed`, fields: noted({ do: "consume", batch: this.id, lot, sub, amount }, note) })));
+  }
+  text() { return JSON.stringify(this.inputs.map((it) => [it.def, it.booked, this.taken(it).short, this.bookings().map((one) => one.fields)])); }
+  draw() {
+    const name = document.activeElement.getAttribute("aria-label");
+    this.element.replaceChildren(...(this.inputs.length ? this.inputs.map((it) => this.inputBox(it)) : [h("p", { class: "soft" }, "Nothing is left to book.")]));
+    const again = name && [...this.element.querySelectorAll("input")].find((it) => it.getAttribute("aria-label") === name);
+    if (again) again.focus();
+  }
+  inputBox(input) {
+    const { taken, short } = this.taken(input), amounts = new Map(taken.map((it) => [keyOfPart(it), it.amount])), { def, name, unit, left, asked } = input;
+    const shown = input.parts.filter((it) => amounts.has(keyOfPart(it)) || !this.isOn(it));
+    return h("section", { class: "input" }, h("h3", {}, def, name && [" ", h("span", { class: "soft small" }, name)]),
+      h("p", { class: "soft small" }, `${grouped(left)} ${unit} left${left === asked ? "" : ` of ${grouped(asked)} ${unit}`}`,
+        short > 0 && [" ", pill(`${grouped(short)} ${unit} short`, "bad")]),
+      shown.map((it) => this.partBox(it, amounts.get(keyOfPart(it)) || 0, unit)));
+  }
+  partBox(part, amount, unit) {
+    const key = keyOfPart(part), tick = (event) => {
+      if (event.target.checked) this.off.delete(key); else this.off.add(key);
+      this.draw();
+    };
+    const all = amount < part.stock ? ` of ${grouped(part.stock)}` : "";
+    return h("label", { class: "part" }, h("input", { type: "checkbox", checked: this.isOn(part), "aria-label": `Take ${key}`, onchange: tick }),
+      h("span", {}, `${placeOfPart(part)}${cameInWords(part)}`), h("b", {}, amount ? `${grouped(amount)}${all} ${unit}` : "none"));
+  }
+}
+async function bookPlan(plan, note, isWanted) {
+  const before = plan.text();
+  try { await plan.read(); } catch (error) { return `${whyNot(error)} Nothing was booked.`; }
+  if (plan.text() !== before) return "What is booked or in stock has changed meanwhile. Look at the amounts, and press once more.";
+  const bookings = plan.bookings(note), booked = new Map(plan.inputs.map((it) => [it.def, it.booked]));
+  if (!bookings.length) return "There is nothing that could be booked.";
+  const why = async (k) => {
+    const { input, amount } = bookings[k], line = (await desk.linesNow(plan.id)).find((it) => it.kind === "in" && it.def === input.def);
+    if (!isWanted()) return "The form was closed.";
+    if (line.booked !== booked.get(input.def)) return `Somebody else booked ${input.def} on the batch meanwhile.`;
+    booked.set(input.def, line.booked + amount);
+    return null;
+  };
+  const { count, wrong } = await bookEach(bookings, why);
+  const far = `${grouped(count)} of ${counted(bookings.length, "booking", "bookings")} on ${plan.id} ${count === 1 ? "is" : "are"} booked`;
+  if (!wrong) { notice("good", `${far}. The last is number ${grouped(desk.seq)}.`); return null; }
+  if (wrong === LOST) {
+    notice("bad", `${far}. No answer came to the next one: send it again, and then book the rest.`);
+    return LOST;
+  }
+  if (isWanted()) await plan.read().catch(() => {}); else notice("bad", `${far}. ${wrong}`);
+  return `${far}. ${bookings[count].what}: ${wrong}`;
+}
+async function bookInputs(id) {
+  const plan = new Plan(id);
+  try { await plan.read(); } catch (error) { return notice("bad", whyNot(error)); }
+  const fields = [say("The oldest lots first. A tick that is taken away leaves a lot out."), ownField(plan.element), noteField("Note on each booking, if any")];
+  let mine = null;
+  form(`Book all inputs of ${id} as asked`, fields, "Book all", ({ note }) => bookPlan(plan, note, () => openForm() === mine));
+  mine = openForm();
+}
 const nameOfTicks = (of) => `ticks.${desk.name || ""}.${of}`;
 function tick(of, key, isOn) {
   const others = kept(nameOfTicks(of), []).filter((it) => it !== key);
@@ -434,7 +517,9 @@ const takesBookings = (batch) => batch.state !== "idle" && !batch.closed;
 async function materialsCard(batch) {
   const isOpen = takesBookings(batch), lines = batch.lines.filter(isMaterial), free = batch.closed ? null : await freeOf(lines);
   const rows = lines.map((it) => materialRow(batch, it, isOpen, free));
-  return card("Materials", batch.state === "idle" && h("span", { class: "soft small" }, "booked once the batch is started"),
+  const all = isOpen && openInputs(lines).length > 0 && button("Book all inputs as asked", () => bookInputs(batch.batch), "main",
+    { "aria-label": `Book all inputs as asked, ${batch.batch}` });
+  return card("Materials", batch.state === "idle" ? h("span", { class: "soft small" }, "booked once the batch is started") : all,
     table(["In or out", "Material", "#Asked", "#Booked", "#Left", ...(free ? ["#Free in stock"] : []), ""], rows, ""));
 }
 async function freeOf(lines) {
@@ -864,4 +949,4 @@ show();
 "##;
 
 /// Its entity tag.
-pub const VIEWS_TAG: &str = "\"18d32eb7af3bfc2f771953106b185488\"";
+pub const VIEWS_TAG: &str = "\"a8c8a52fcb61fbe0e8dcd4aad3ef6343\"";

@@ -57,7 +57,7 @@ async function findScanned(code) {
 
 // What two words of the desk have in common, and what not.
 const WORDS = {
-  "Divide, Split": "Divide brings an amount to another place: it stays the same lot, as another part. Split makes an amount a lot of its own.",
+  "Move, Split": "Move brings an amount to another place: it stays the same lot, as another part. Split makes an amount a lot of its own.",
   "Hold, Recall": "A hold keeps one lot from being consumed, split and merged, a recall also all that came of it.",
   "Stop, Abort": "Stop ends a batch in order before its time, Abort breaks it off. Both can be reset, and begin anew.",
   "Finish": "Pausing, stopping and the like take time. Finish says that the batch got there.",

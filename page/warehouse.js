@@ -93,8 +93,8 @@ function partRows(lot, known, told) {
   const marks = [lot.held && [" ", pill("on hold", "warn")], lot.recalled && [" ", pill("recalled", "bad")]];
   return lot.sublots.filter((it) => it.stock > 0).map((it) => {
     const key = `${lot.lot}/${it.no}`, part = { lot: lot.lot, sub: it.no, stock: it.stock, place: it.place, at: lot.at, barred };
-    const buttons = [button("Label", () => showLabels(part.lot, part.sub)), button("Divide", () => divide(part, known)), button("Split", () => split(part, known), null, { disabled: isBarred }),
-      button("Scrap", () => scrap(part, known), "bad")];
+    const buttons = [button("Label", () => showLabels(part.lot, part.sub)), button("Move", () => moveGoods(part, known)),
+      button("Split", () => split(part, known), null, { disabled: isBarred }), button("Scrap", () => scrap(part, known), "bad")];
     return row(key, [cell(chooseBox(key, part, isBarred, told)), idCell(lotLink(lot.lot), marks), h("td", { class: "num" }, it.no),
       h("td", { class: "when" }, dayOf(lot.at)), cell(it.place || h("span", { class: "soft" }, "no place")), numberCell(it.stock, known.unit), buttonsCell(buttons)]);
   });
@@ -129,11 +129,14 @@ function scrap(part, known) {
     ({ from: { lot, sub }, amount, note }, tell) => tell(`${grouped(amount)} ${known.unit} of ${lot} scrapped`,
       noted({ do: "scrap", lot, sub, amount }, note)), { isGrave: true });
 }
-function divide(part, known) {
-  bookingForm(`Divide ${known.def}`, [fromField(known, part, true), say("The amount becomes another part of the same lot, at a place of its own."),
-    amountField(known.unit), placeField("New place"), noteField()], "Divide",
-    ({ from: { lot, sub }, amount, place, note }, tell) => tell(`${grouped(amount)} ${known.unit} of ${lot} brought to ${place || "no place"}`,
-      noted({ do: "divide", lot, sub, amount, place }, note)));
+// All of a part, or as much as is typed, goes to another place as another part of the same lot: the ledger says divided.
+function moveGoods(part, known) {
+  let offered = part.stock;
+  const change = (inputs, it) => { if (Number(inputs.amount.value) === offered) inputs.amount.value = offered = it.stock; };
+  bookingForm(`Move ${known.def}`, [{ ...fromField(known, part, true), change }, say("What is moved becomes another part of the same lot."),
+    amountField(known.unit, part.stock), textField("place", "New place", { required: true }), noteField()], "Move",
+  ({ from: { lot, sub }, amount, place, note }, tell) => tell(`${grouped(amount)} ${known.unit} of ${lot} brought to ${place}`,
+    noted({ do: "divide", lot, sub, amount, place }, note)));
 }
 function split(part, known) {
   bookingForm(`Split ${known.def}`, [fromField(known, part), say("The amount becomes a lot of its own."), amountField(known.unit),

@@ -180,7 +180,7 @@ class Journeys(BrowserTestCase):
         self.check("whether the lot is held", self.served.ask("/lots/D-1")["held"], False)
         self.end(tab, 36)
 
-    def test_lots_are_divided_split_and_merged(self) -> None:
+    def test_lots_are_moved_split_and_merged(self) -> None:
         self.serve()
         tab = self.open("warehouse/FLOUR")
         tab.click("Receive a lot")
@@ -190,7 +190,7 @@ class Journeys(BrowserTestCase):
         self.send(tab, lot="F-3", amount=50)
         tab.has("That id is taken already. Take another one. (Exists)")
         tab.key("Escape")
-        tab.click("Divide", row="F-1/0")
+        tab.click("Move", row="F-1/0")
         self.send(tab, amount=30, place="A9")
         self.check_booked(tab, "30 kg of F-1 brought to A9.", 36)
         tab.click("Split", row="F-1/0")
@@ -325,7 +325,7 @@ class Journeys(BrowserTestCase):
         self.serve()
         tab = self.open("warehouse/FLOUR")
         self.served.kill()
-        tab.click("Divide", row="F-1/0")
+        tab.click("Move", row="F-1/0")
         self.send(tab, amount=20, place="A9")
         tab.has("No answer came to \u201c20 kg of F-1 brought to A9\u201d.")
         tab.click("Send again")
@@ -359,7 +359,7 @@ class Journeys(BrowserTestCase):
         self.served.told(at=int(time.time()), by="ben", do="unhold", lot="F-2", hold="H-1", ref="FIRST-1")
         tab = self.open("warehouse/FLOUR")
         self.served.kill()
-        tab.click("Divide", row="F-1/0")
+        tab.click("Move", row="F-1/0")
         self.send(tab, amount=20, place="A9")
         tab.has("No answer came to \u201c20 kg of F-1 brought to A9\u201d.")
         self.served.start_again(other)

@@ -110,7 +110,7 @@ class Views(BrowserTestCase):
         tab.has("no answer", "document.getElementById('stand')")
         tab.lacks("Take orders in")
         tab.click("?")
-        tab.has("Divide, Split", FORM)
+        tab.has("Move, Split", FORM)
         tab.has("Complete, Close", FORM)
         tab.key("Escape")
         self.served.start_again()

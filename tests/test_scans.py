@@ -20,7 +20,7 @@ CURSOR = "document.activeElement.name || document.activeElement.innerText"
 FORMS = (
     ("shift/B-3", "Consume", "in DOUGH", "DOUGH", False),
     ("warehouse/DOUGH", "Scrap", "D-1/0", "DOUGH", True),
-    ("warehouse/DOUGH", "Divide", "D-1/0", "DOUGH", True),
+    ("warehouse/DOUGH", "Move", "D-1/0", "DOUGH", True),
     ("warehouse/DOUGH", "Split", "D-1/0", "DOUGH", False),
 )
 
@@ -74,14 +74,14 @@ class Scans(BrowserTestCase):
         for place, button, row in [*((place, button, row) for place, button, row, *_ in FORMS), *OTHERS, ("warehouse/DOUGH", "Receive a lot", None)]:
             self.open_form(tab, place, button, row)
             self.check_true(f"{button}: {tab.run(CURSOR)}", tab.run(CURSOR) not in ("note", "title"))
-            if button in ("Consume", "Scrap", "Divide", "Split"):
+            if button in ("Consume", "Scrap", "Move", "Split"):
                 self.check(button, tab.run("[document.activeElement.name, document.activeElement.value]"), ["from", ""])
             self.leave_form(tab)
 
     def test_enter_books_in_the_last_field_alone(self) -> None:
         self.serve()
         tab = self.open_silent("warehouse/DOUGH")
-        tab.click("Divide", row="D-1/0")
+        tab.click("Move", row="D-1/0")
         for name, text in (("from", ""), ("amount", "5"), ("place", "A7")):
             self.check("where the cursor is", tab.run(CURSOR), name)
             tab.type(text)

@@ -227,6 +227,28 @@ class Stock(BrowserTestCase):
         tab.has("Nothing is left of it.")
         self.end(tab)
 
+    def test_part_is_moved_whole_or_in_part(self) -> None:
+        tab = self.open_stocked("warehouse/FLOUR")
+        tab.click("Move", row="M-1/0")
+        self.check("the amount at first", tab.value("amount"), "200")
+        self.press(tab)
+        self.check("whether a place is wanted", tab.run(f"{FORM}.querySelector('[name=place]').validity.valueMissing"), True)
+        tab.fill("place", "A7")
+        self.press(tab)
+        tab.has("200 kg of M-1 brought to A7.")
+        tab.until("!dialog.open")
+        tab.has("A7", "document.querySelector('[data-row=\"M-1/1\"]')")
+        self.check("rows of the part that was moved", tab.run("document.querySelectorAll('[data-row=\"M-1/0\"]').length"), 0)
+        tab.click("Move", row="M-1/1")
+        self.choose(tab, "b-9")
+        self.check("the amount of another lot", tab.value("amount"), "50")
+        tab.fill("amount", 20)
+        tab.fill("place", "A8")
+        self.press(tab)
+        tab.has("20 kg of B-9 brought to A8.")
+        self.check("its parts", [(it["place"], it["stock"]) for it in self.served.ask("/lots/B-9")["sublots"]], [("", 30), ("A8", 20)])
+        self.end(tab)
+
     def test_views_of_stock_are_not_too_wide(self) -> None:
         self.serve(begun=self.stocked)
         for width in (390, 820, 1280, 1920):

@@ -2,10 +2,13 @@
 
 export function readAddress(hash) {
   const [path, query = ""] = hash.replace(/^#/, "").split("?"), [name, ...words] = path.split("/");
-  const filters = query.split("&").map((it) => it.split("=")).filter(([key, value]) => /^[a-z]+$/.test(key) && /^[a-z]+$/.test(value || ""));
-  return { name, words, filters: new Map(filters) };
+  const filters = query.split("&").map((it) => it.split("=")).filter(([key, value]) => /^[a-z]+$/.test(key) && /^[A-Za-z0-9%_.~!'()*-]+$/.test(value || ""));
+  return { name, words, filters: new Map(filters.map(([key, value]) => [key, decoded(value)])) };
 }
-const withQuery = (path, filters) => path + (filters.size ? "?" : "") + [...filters].map(([key, value]) => `${key}=${value}`).join("&");
+function decoded(value) {
+  try { return decodeURIComponent(value); } catch { return ""; }
+}
+const withQuery = (path, filters) => path + (filters.size ? "?" : "") + [...filters].map(([key, value]) => `${key}=${encodeURIComponent(value)}`).join("&");
 
 // An address with another value of a filter, or without the filter where that is null.
 export function withFilter(hash, key, value) {

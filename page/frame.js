@@ -35,6 +35,14 @@ export function filterOf(name, options) {
   return options.includes(it) ? it : options[0];
 }
 const filtered = (name, options, value) => `#${withFilter(location.hash || `#${place()[0]}`, name, value === options[0] ? null : value)}`;
+
+// What the address says of a filter that is a text, and such a filter put into it. What is being typed makes no step of the way back.
+export const textOf = (name) => readAddress(location.hash).filters.get(name) || "";
+export function setText(name, value, isTyped) {
+  const address = `#${withFilter(location.hash || `#${place()[0]}`, name, value || null)}`;
+  if (!isTyped) location.hash = address;
+  else { history.replaceState(history.state, "", address); show(); }
+}
 export function setFilter(name, options, value) { location.hash = filtered(name, options, value); }
 export const filterChoice = (label, name, options) => choice(label, options, filterOf(name, options), (it) => setFilter(name, options, it));
 

@@ -31,13 +31,21 @@ export const lotLink = (id, sub) => [link("quality/lot/" + id, id), sub ? "/" + 
 export const batchLink = (id) => link("shift/" + id, id);
 export function go(...parts) { location.hash = hashOf(parts.filter(Boolean).join("/")); }
 
-// A table. A head that begins with # is of numbers; a row is made by `row`. On a narrow screen a row stands as a block of named values.
-export function table(heads, rows, without, isShort) {
+// A table. A head that begins with # is of numbers; a row is made by `row`. On a narrow screen a row stands as a block of named values. `sorts` has the
+// heads by which it can be sorted: whether it is, by this one, `up`, `down` or not, and what a press does.
+export function table(heads, rows, without, isShort, sorts = {}) {
   if (!rows.length) return none(without);
   for (const it of rows) [...it.children].forEach((cell, k) => { cell.dataset.label = heads[k].replace("#", ""); });
-  const head = heads.map((text) => h("th", { class: text.startsWith("#") ? "num" : null, scope: "col" }, text.replace("#", "")));
+  const head = heads.map((text) => headCell(text.replace("#", ""), text.startsWith("#"), sorts[text]));
   return h("div", { class: "wide" }, h("table", { class: isShort ? null : "block" }, h("thead", {}, h("tr", {}, head)),
     h("tbody", {}, rows)));
+}
+function headCell(text, isOfNumbers, sort) {
+  const kind = { class: isOfNumbers ? "num" : null, scope: "col" };
+  if (!sort) return h("th", kind, text);
+  const sign = { up: " \u25b4", down: " \u25be" }[sort.way] || "";
+  return h("th", { ...kind, "aria-sort": { up: "ascending", down: "descending" }[sort.way] || "none" },
+    button(text + sign, sort.press, "sort", { "aria-label": `Sort by ${text}` }));
 }
 // What stands in a cell is one element, which stays together on a narrow screen; of an empty cell it is none.
 const whole = (content) => (content.flat(9).some((it) => it || it === 0) ? h("span", {}, content) : null);

@@ -1,25 +1,27 @@
 // The planner's view: orders and recipes.
 
-import { grouped } from "./amounts.js";
+import { counted, grouped } from "./amounts.js";
 import { day } from "./moments.js";
-import { idOf } from "./ids.js";
-import { LINES_EXAMPLE, LINES_HINT, recipeLines, withPath } from "./recipes.js";
+import { withFilter } from "./addresses.js";
+import { LINES_EXAMPLE, LINES_HINT, linesText, recipeLines, withPath } from "./recipes.js";
 import { FILE_FAULTS } from "./words.js";
+import { ORDER_SORTS, filteredOrders, sortedOrders } from "./sorting.js";
 import { dialog, h } from "./elements.js";
 import {
   batchLink, button, buttonsCell, card, cell, fact, facts, firstSteps, go, idCell, link, listed, none, notice, numberCell, pill, row, table,
 } from "./parts.js";
 import { csvButton } from "./saved.js";
-import { desk, want } from "./questions.js";
-import { dropFilter, filterChoice, filterOf, more, setFilter } from "./frame.js";
+import { desk, want, whyNot } from "./questions.js";
+import { dropFilter, filterChoice, filterOf, more, setFilter, setText, show, textOf } from "./frame.js";
 import { amountField, halfField, idField, noteField, noted, openDialog, say, selectField } from "./forms.js";
 import { act, bookAtOnce, bookingForm } from "./book.js";
+import { release, releaseSeveral } from "./release.js";
 
 const ORDER_STATES = ["open", "released", "finished", "cancelled"], WITHDRAWN = ["hidden", "shown"];
 
 export async function planner([id]) {
   const orderState = filterOf("orders", ORDER_STATES), isWithdrawnShown = filterOf("withdrawn", WITHDRAWN) === "shown";
-  const orders = await desk.orders(orderState, want("orders " + orderState));
+  const orders = await desk.orders(orderState, wantedOrders(orderState));
   const approved = await desk.recipes("approved", want("recipes")), drafts = await desk.recipes("draft", want("recipes"));
   const withdrawn = isWithdrawnShown ? await desk.recipes("withdrawn", want("recipes")) : [];
   const one = id && (await desk.foundOrder(id));
@@ -28,29 +30,95 @@ export async function planner([id]) {
     listed(h("div", { class: "stack" }, takeInCard(approved), recipesCard(approved, drafts, isWithdrawnShown && withdrawn)))];
 }
 
-// Orders by their due date, and of one day those of a higher priority first.
-const bySooner = (a, b) => (a.due < b.due ? -1 : a.due > b.due ? 1 : b.priority - a.priority);
+// The orders that are chosen to be released together.
+export const chosenOrders = new Map();
+const MOST_AT_ONCE = 50;
+
+// Where orders are filtered or sorted otherwise than they come, so many of them are read.
+const MOST_READ = 2000;
+const isAsTheyCome = () => !textOf("recipe") && !textOf("text") && typed === null && filterOf("sort", ORDER_SORTS) === "due" && filterOf("way", WAYS) === "up";
+const wantedOrders = (state) => (isAsTheyCome() ? want("orders " + state) : Math.max(MOST_READ, want("orders " + state)));
+const WAYS = ["up", "down"];
 
 function ordersCard(orders, orderState, approved) {
-  const recipes = new Map(approved.map((it) => [`${it.recipe}.${it.version}`, it])), sorted = [...orders].sort(bySooner);
-  const rows = sorted.map((it) => orderRow(it, orderState, recipes.get(`${it.recipe}.${it.version}`)));
+  const recipes = new Map(approved.map((it) => [`${it.recipe}.${it.version}`, it])), recipeOf = (it) => recipes.get(`${it.recipe}.${it.version}`);
+  const sort = filterOf("sort", ORDER_SORTS), way = filterOf("way", WAYS), isFiltered = Boolean(textOf("recipe") || typedText());
+  const meant = filteredOrders(orders, textOf("recipe"), typedText(), (it) => recipeOf(it)?.title || ""), sorted = sortedOrders(meant, sort, way === "down");
+  const isOpen = orderState === "open", bar = chosenBar();
+  for (const it of [...chosenOrders.keys()]) if (!isOpen || !orders.some((one) => one.order === it)) chosenOrders.delete(it);
+  const rows = sorted.map((it) => orderRow(it, orderState, recipeOf(it), () => drawChosenOrders(bar)));
+  drawChosenOrders(bar);
   const late = MAY_BE_LATE.includes(orderState) ? orders.filter((it) => it.due < desk.today()).length : 0;
   const states = filterChoice("State of the orders", "orders", ORDER_STATES);
   const csv = csvButton("orders", `orders-${orderState}`, async () => (await desk.orders(orderState, Infinity)).map((it) => ({ ...it, state: orderState })));
-  const without = orderState === "open" ? "No order is open. Take an order file in, or one order by hand." : `No order is ${orderState}.`;
-  const isAll = late === orders.length && orders.more;
+  const without = isFiltered && orders.length ? "No order fits the filter." : isOpen ? "No order is open. Take an order file in, or one order by hand."
+    : `No order is ${orderState}.`;
+  const isAll = late === orders.length && orders.more, heads = ["Order", "Due", "#Priority", "Recipe", "#Size", ""];
   return card("Orders", [late > 0 && pill(`${grouped(late)}${isAll ? " and more" : ""} late`, "bad"), csv, states],
-    table(["Order", "Due", "#Priority", "Recipe", "#Size", ""], rows, without), more(orders, "orders " + orderState, " by their due dates"));
+    orders.length > 0 && filterRow(orders, sort, way), table(isOpen ? ["Choose", ...heads] : heads, rows, without, false, sortsOf(sort, way)),
+    more(orders, "orders " + orderState, isAsTheyCome() ? " by their due dates" : " by their due dates are looked through; those that fit"), isOpen && bar);
 }
-function orderRow(order, orderState, recipe) {
+
+// The heads by which orders are sorted, and the same as a field where heads aren't seen.
+const SORT_HEADS = { order: "Order", due: "Due", priority: "#Priority", recipe: "Recipe", size: "#Size" };
+function setSort(by, way) {
+  const other = withFilter(`#${withFilter(location.hash || "#planner", "sort", by === "due" ? null : by)}`, "way", way === "up" ? null : way);
+  location.hash = `#${other}`;
+}
+const sortsOf = (sort, way) => Object.fromEntries(Object.entries(SORT_HEADS).map(([by, head]) => [head, { way: by === sort ? way : null,
+  press: () => setSort(by, by === sort && way === "up" ? "down" : "up") }]));
+
+// What is typed into the filter and isn't in the address yet: a pause of so many milliseconds puts it there.
+const TYPING = 300;
+let typed = null, typing;
+const typedText = () => (typed === null ? textOf("text") : typed);
+function typeText(value) {
+  typed = value;
+  clearTimeout(typing);
+  typing = setTimeout(() => { typed = null; setText("text", value.trim(), true); }, TYPING);
+}
+function filterRow(orders, sort, way) {
+  const recipe = textOf("recipe"), ids = [...new Set([...orders.map((it) => it.recipe), ...(recipe ? [recipe] : [])])].sort();
+  const option = (value, label, isOn) => h("option", { value, selected: isOn }, label);
+  const text = h("input", { type: "search", id: "ordertext", maxlength: 60, placeholder: "Filter by a text", "aria-label": "Filter the orders by a text", autocomplete: "off",
+    oninput: (event) => typeText(event.target.value) });
+  text.value = typedText();
+  const sorts = Object.entries(SORT_HEADS).flatMap(([by, head]) => WAYS.map((it) => option(`${by}.${it}`, `by ${head.replace("#", "").toLowerCase()}, ${it}`,
+    by === sort && it === way)));
+  return h("div", { class: "body row filter" }, text,
+    h("select", { id: "orderrecipe", "aria-label": "Filter the orders by a recipe", onchange: (event) => setText("recipe", event.target.value) },
+      option("", "all recipes", !recipe), ids.map((it) => option(it, it, it === recipe))),
+    h("select", { id: "ordersort", class: "phone", "aria-label": "Sort the orders", onchange: (event) => setSort(...event.target.value.split(".")) }, sorts),
+    (recipe || typedText()) && button("No filter", () => { typed = null; clearTimeout(typing); setText("text", ""); setText("recipe", ""); }));
+}
+
+// The orders that are chosen, and their release.
+function chosenBar() {
+  return h("div", { class: "chosen" }, h("span", {}), button("Release\u2026", () => releaseSeveral([...chosenOrders.values()], (it) => chosenOrders.delete(it)), "main",
+    { "aria-label": "Release the chosen orders" }), button("Choose none", () => { chosenOrders.clear(); show(); }));
+}
+function drawChosenOrders(bar) {
+  const count = chosenOrders.size, isTooMany = count > MOST_AT_ONCE;
+  bar.hidden = !count;
+  bar.firstChild.textContent = isTooMany ? `At most ${MOST_AT_ONCE} orders are released at once.` : `${counted(count, "order is", "orders are")} chosen.`;
+  bar.children[1].disabled = isTooMany;
+}
+function orderBox(order, isOff, told) {
+  const choose = (event) => {
+    if (event.target.checked) chosenOrders.set(order.order, order); else chosenOrders.delete(order.order);
+    told();
+  };
+  return h("input", { type: "checkbox", "aria-label": `Choose ${order.order} to be released`, checked: chosenOrders.has(order.order), disabled: isOff, onchange: choose });
+}
+function orderRow(order, orderState, recipe, told) {
   const isOpen = orderState === "open", name = `${order.recipe} ${order.version}`;
   const title = recipe && recipe.title ? [recipe.title, " ", h("span", { class: "soft small" }, name)] : name;
   const mark = isOpen && !recipe && [" ", pill("not approved", "warn")];
   const open = [button("Release", () => release(order), "main"), button("Cancel", () => cancelOrder(order), "bad")];
   const buttons = isOpen ? open : orderState !== "cancelled" && button("Batch", () => showBatchOf(order.order));
-  return row(order.order, [idCell(link("planner/" + order.order, order.order)), cell(due(order, orderState)),
+  return row(order.order, [isOpen && cell(orderBox(order, !recipe, told)), idCell(link("planner/" + order.order, order.order)), cell(due(order, orderState)),
     h("td", { class: "num" }, order.priority),
-    cell(title, mark), numberCell(order.size), buttonsCell(buttons)]);
+    cell(title, mark), numberCell(order.size), buttonsCell(buttons)].filter(Boolean));
 }
 const MAY_BE_LATE = ["open", "released"];
 function due(order, state) {
@@ -74,12 +142,6 @@ function orderCard(id, order) {
       button("Cancel", () => cancelOrder(order), "bad", { "aria-label": `Cancel the order ${id}` })));
 }
 
-function release(order) {
-  const text = `${order.recipe} ${order.version}, size ${grouped(order.size)}, due ${order.due}. The shift can start its batch at once.`;
-  const batch = idField("batch", "New batch", idOf("B", order.order.replace(/^O-?(?=.)/, "")));
-  bookingForm(`Release order ${order.order}`, [say(text), batch, noteField()], "Release",
-    (v, tell) => tell(`Order ${order.order} released as ${v.batch}`, noted({ do: "release", order: order.order, batch: v.batch }, v.note)));
-}
 function cancelOrder(order) {
   bookingForm(`Cancel order ${order.order}?`, [say("A cancelled order stays cancelled."), noteField("Why")], "Cancel the order",
     (v, tell) => tell(`Order ${order.order} cancelled`, noted({ do: "cancel_order", order: order.order }, v.note)), { isGrave: true });
@@ -146,10 +208,16 @@ async function showRecipe({ recipe, version }) {
   try { it = await desk.recipe(recipe, version); } catch (error) { return notice("bad", error.message); }
   const amount = (line) => (line.qty ? `${grouped(line.qty)} ${line.unit}` : line.value || "");
   const rows = it.lines.map(withPath).map((line, k) => row("line " + k, [cell(line.kind), cell(line.def || line.name || line.path), cell(amount(line))]));
-  const away = button("Close", () => dialog.close());
+  const away = button("Close", () => dialog.close()), again = button("New version from this one", () => newVersion(it));
   const sizes = `For ${grouped(it.base)} ${it.unit} of ${it.product}; orders of ${grouped(it.min)} to ${grouped(it.max)} ${it.unit}.`;
   openDialog(h("form", { method: "dialog" }, h("h2", { id: "title" }, `${it.title || it.recipe} (${it.recipe} ${it.version}), ${it.state}`),
-    h("p", { class: "soft" }, sizes), table(["Kind", "What", "Amount or value"], rows, ""), h("div", { class: "end" }, away)), away);
+    h("p", { class: "soft" }, sizes), table(["Kind", "What", "Amount or value"], rows, ""), h("div", { class: "end" }, again, away)), away);
+}
+// Opens the form of a recipe with what another version of it has, under the next number that is free.
+async function newVersion(it) {
+  let { version } = it;
+  try { do version += 1; while (await desk.foundRecipe(it.recipe, version)); } catch (error) { return notice("bad", whyNot(error)); }
+  newRecipe({ ...it, version, lines: linesText(it.lines) });
 }
 function withdraw(it) {
   bookingForm(`Withdraw recipe ${it.recipe} ${it.version}?`,
@@ -158,7 +226,7 @@ function withdraw(it) {
       noted({ do: "withdraw", recipe: it.recipe, version: it.version }, v.note)), { isGrave: true });
 }
 
-function newRecipe() {
+function newRecipe(values = {}) {
   const fields = [
     halfField("recipe", "id", "Recipe"),
     halfField("version", "amount", "Version, 1 to 999", { value: 1, more: { pattern: "0*[1-9][0-9]{0,2}" } }),
@@ -166,7 +234,7 @@ function newRecipe() {
     { name: "base", kind: "amount", label: "Base size, for which the lines are written" },
     halfField("min", "amount", "Least size of an order"), halfField("max", "amount", "Greatest size"),
     { name: "lines", kind: "lines", label: "Lines", hint: LINES_HINT, more: { placeholder: LINES_EXAMPLE } },
-  ];
+  ].map((it) => ({ ...it, value: values[it.name] ?? it.value }));
   bookingForm("New recipe", fields, "Make a draft", ({ lines: text, ...header }, tell) => {
     const [lines, wrong] = recipeLines(text);
     return wrong || tell(`Recipe ${header.recipe} ${header.version} drafted`, { do: "add_recipe", ...header, lines });

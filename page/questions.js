@@ -110,6 +110,7 @@ export const desk = {
 
   definition: (id) => found("/v1/definitions/" + id),
   recipe: (id, version) => asked(`/v1/recipes/${id}/${version}`),
+  foundRecipe: (id, version) => found(`/v1/recipes/${id}/${version}`),
 
   // What a recall reaches; null where it isn't there.
   recall: (id) => found("/v1/recalls/" + id),

@@ -24,6 +24,17 @@ function recipeLine([kind, ...words]) {
   return null;
 }
 
+// Lines of a recipe as they are written in the form.
+const LINE_TEXTS = { in: (it) => `in ${it.def} ${it.qty}`, out: (it) => `out ${it.def} ${it.qty}`, par: (it) => `par ${it.name} ${it.value}`.trim(),
+  phase: (it) => `phase ${it.unit} ${it.oper} ${it.phase}` };
+export const linesText = (lines) => lines.map((it) => LINE_TEXTS[it.kind](it)).join("\n");
+
+// An amount of a recipe for a base size, scaled to another size as the desk scales it: halves are rounded up.
+export function scaled(amount, base, size) {
+  const [q, b, s] = [amount, base, size].map(BigInt);
+  return Number((2n * q * s + b) / (2n * b));
+}
+
 // A line of a recipe, which has a path where it is a phase.
 export const withPath = (line) => (line.kind === "phase" ? { kind: "phase", phase: line.phase, path: `${line.unit} ${line.oper} ${line.phase}` } : line);
 

@@ -12,7 +12,7 @@ import { desk, whyNot } from "./questions.js";
 import { VIEWS, isDayOver, place, show, tellStatus } from "./frame.js";
 import { focusBehind, openDialog, openForm } from "./forms.js";
 import { drawWaiting, sending } from "./book.js";
-import { planner } from "./planner.js";
+import { chosenOrders, planner } from "./planner.js";
 import { scanAtBatch, shift } from "./shift.js";
 import { chosen, warehouse } from "./warehouse.js";
 import { quality } from "./quality.js";
@@ -112,7 +112,7 @@ async function lookAgain() {
   if (document.hidden || sending || dialog.open) return;
   drawWaiting();
   try {
-    const isNew = await desk.look(), isAtWork = chosen.size > 0 || (isWriting() && view.contains(document.activeElement));
+    const isNew = await desk.look(), isAtWork = { planner: chosenOrders, warehouse: chosen }[place()[0]]?.size > 0 || (isWriting() && view.contains(document.activeElement));
     if (isNew && isAtWork) drawNew();
     else if (isNew || (isDayOver() && !isAtWork) || at("stand").textContent === "no answer") show();
   } catch { tellStatus("bad", "no answer"); }

@@ -23,6 +23,14 @@ test("a filter is set, replaced and taken away", () => {
   assert.equal(withFilter("#planner?orders=released", "orders", null), "planner");
 });
 
+test("a filter may be a text", () => {
+  const text = "O-1 & <b>=100%? m\u00fc/'()*!";
+  const address = withFilter("#planner/O-1", "text", text);
+  assert.match(address, /^planner\/O-1\?text=[A-Za-z0-9%_.~'()*!-]+$/);
+  assert.deepEqual(filters(`#${address}`), { text });
+  assert.deepEqual(filters("#planner?text=%E0%A4%A&orders=open"), { text: "", orders: "open" });
+});
+
 test("filters stay within a view", () => {
   assert.equal(placeFrom("#shift?batches=closed", "shift/B-1"), "shift/B-1?batches=closed");
   assert.equal(placeFrom("#shift?batches=closed", "quality/lot/F-1"), "quality/lot/F-1");

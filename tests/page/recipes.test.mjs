@@ -1,7 +1,7 @@
 import assert from "node:assert/strict";
 import test from "node:test";
 
-import { LINES_EXAMPLE, LINES_HINT, isMaterial, recipeLines, withPath } from "../../page/recipes.js";
+import { LINES_EXAMPLE, LINES_HINT, isMaterial, linesText, recipeLines, scaled, withPath } from "../../page/recipes.js";
 
 test("the example of the form is read", () => {
   assert.deepEqual(recipeLines(LINES_EXAMPLE), [[
@@ -22,4 +22,19 @@ test("a line that can't be read is named by its number", () => {
 test("a phase has a path, and inputs and outputs are of materials", () => {
   assert.equal(withPath({ kind: "phase", unit: "MIX", oper: "BLEND", phase: "STIR" }).path, "MIX BLEND STIR");
   assert.deepEqual([{ kind: "in" }, { kind: "out" }, { kind: "par" }, { kind: "phase" }].map(isMaterial), [true, true, false, false]);
+});
+
+test("lines are written as they are read", () => {
+  const [lines] = recipeLines(`${LINES_EXAMPLE}\npar NOTE`);
+  assert.equal(linesText(lines), `${LINES_EXAMPLE}\npar NOTE`);
+  assert.deepEqual(recipeLines(linesText(lines)), [lines, null]);
+});
+
+test("amounts are scaled as the desk scales them", () => {
+  assert.equal(scaled(100, 300, 500), 167);
+  assert.equal(scaled(300, 300, 500), 500);
+  assert.equal(scaled(1, 2, 1), 1);
+  assert.equal(scaled(1, 3, 1), 0);
+  assert.equal(scaled(10 ** 15, 10 ** 15, 999999999999999), 999999999999999);
+  assert.equal(scaled(10 ** 15 - 1, 3, 3), 10 ** 15 - 1);
 });

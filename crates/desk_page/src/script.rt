@@ -46,10 +46,13 @@ function plainText(text) {
 const ID_RULE = "letters, digits and -, a letter first, at most 24";
 function readAddress(hash) {
   const [path, query = ""] = hash.replace(/^#/, "").split("?"), [name, ...words] = path.split("/");
-  const filters = query.split("&").map((it) => it.split("=")).filter(([key, value]) => /^[a-z]+$/.test(key) && /^[a-z]+$/.test(value || ""));
-  return { name, words, filters: new Map(filters) };
+  const filters = query.split("&").map((it) => it.split("=")).filter(([key, value]) => /^[a-z]+$/.test(key) && /^[A-Za-z0-9%_.~!'()*-]+$/.test(value || ""));
+  return { name, words, filters: new Map(filters.map(([key, value]) => [key, decoded(value)])) };
 }
-const withQuery = (path, filters) => path + (filters.size ? "?" : "") + [...filters].map(([key, value]) => `${key}=${value}`).join("&");
+function decoded(value) {
+  try { return decodeURIComponent(value); } catch { return ""; }
+}
+const withQuery = (path, filters) => path + (filters.size ? "?" : "") + [...filters].map(([key, value]) => `${key}=${encodeURIComponent(value)}`).join("&");
 function withFilter(hash, key, value) {
   const { name, words, filters } = readAddress(hash);
   filters.delete(key);
@@ -146,6 +149,13 @@ function recipeLine([kind, ...words]) {
   if (kind === "par" && words.length >= 1 && isId(ids[0])) return { kind, name: ids[0], value: words.slice(1).join(" ") };
   if (kind === "phase" && words.length === 3 && ids.every(isId)) return { kind, unit: ids[0], oper: ids[1], phase: ids[2] };
   return null;
+}
+const LINE_TEXTS = { in: (it) => `in ${it.def} ${it.qty}`, out: (it) => `out ${it.def} ${it.qty}`, par: (it) => `par ${it.name} ${it.value}`.trim(),
+  phase: (it) => `phase ${it.unit} ${it.oper} ${it.phase}` };
+const linesText = (lines) => lines.map((it) => LINE_TEXTS[it.kind](it)).join("\n");
+function scaled(amount, base, size) {
+  const [q, b, s] = [amount, base, size].map(BigInt);
+  return Number((2n * q * s + b) / (2n * b));
 }
 const withPath = (line) => (line.kind === "phase" ? { kind: "phase", phase: line.phase, path: `${line.unit} ${line.oper} ${line.phase}` } : line);
 const isMaterial = (line) => line.kind === "in" || line.kind === "out";
@@ -324,6 +334,24 @@ function takenOf(parts, amount) {
   return { taken, short };
 }
 const openInputs = (lines) => lines.filter((it) => it.kind === "in" && it.booked < it.asked).map((it) => ({ ...it, left: it.asked - it.booked }));
+const ORDER_SORTS = ["due", "order", "priority", "recipe", "size"];
+const compared = (a, b) => (a < b ? -1 : a > b ? 1 : 0);
+const bySooner = (a, b) => compared(a.due, b.due) || b.priority - a.priority;
+const BY = {
+  due: bySooner, order: (a, b) => compared(a.order, b.order), priority: (a, b) => b.priority - a.priority, size: (a, b) => a.size - b.size,
+  recipe: (a, b) => compared(a.recipe, b.recipe) || a.version - b.version,
+};
+const sortedOrders = (orders, by, isBack) => [...orders].sort((a, b) => (isBack ? -1 : 1) * BY[by](a, b) || bySooner(a, b));
+function filteredOrders(orders, recipe, text, titleOf) {
+  const words = text.toUpperCase().split(/\s+/).filter(Boolean);
+  const isMeant = (it) => words.every((word) => `${it.order} ${it.recipe} ${it.version} ${titleOf(it)} ${it.due}`.toUpperCase().includes(word));
+  return orders.filter((it) => (!recipe || it.recipe === recipe) && isMeant(it));
+}
+function inAll(demands) {
+  const all = new Map();
+  for (const { def, amount, unit } of demands) all.set(def, { def, unit, asked: (all.get(def)?.asked || 0) + amount });
+  return [...all.values()];
+}
 function filled(element, attributes, children) {
   for (const [name, value] of Object.entries(attributes || {})) {
     if (value === false || value == null) continue;
@@ -485,12 +513,19 @@ const link = (place, text) => h("a", { href: hashOf(place) }, text);
 const lotLink = (id, sub) => [link("quality/lot/" + id, id), sub ? "/" + sub : ""];
 const batchLink = (id) => link("shift/" + id, id);
 function go(...parts) { location.hash = hashOf(parts.filter(Boolean).join("/")); }
-function table(heads, rows, without, isShort) {
+function table(heads, rows, without, isShort, sorts = {}) {
   if (!rows.length) return none(without);
   for (const it of rows) [...it.children].forEach((cell, k) => { cell.dataset.label = heads[k].replace("#", ""); });
-  const head = heads.map((text) => h("th", { class: text.startsWith("#") ? "num" : null, scope: "col" }, text.replace("#", "")));
+  const head = heads.map((text) => headCell(text.replace("#", ""), text.startsWith("#"), sorts[text]));
   return h("div", { class: "wide" }, h("table", { class: isShort ? null : "block" }, h("thead", {}, h("tr", {}, head)),
     h("tbody", {}, rows)));
+}
+function headCell(text, isOfNumbers, sort) {
+  const kind = { class: isOfNumbers ? "num" : null, scope: "col" };
+  if (!sort) return h("th", kind, text);
+  const sign = { up: " \u25b4", down: " \u25be" }[sort.way] || "";
+  return h("th", { ...kind, "aria-sort": { up: "ascending", down: "descending" }[sort.way] || "none" },
+    button(text + sign, sort.press, "sort", { "aria-label": `Sort by ${text}` }));
 }
 const whole = (content) => (content.flat(9).some((it) => it || it === 0) ? h("span", {}, content) : null);
 function row(name, cells, place, isOn) {
@@ -592,6 +627,7 @@ const desk = {
   foundOrder: (id) => found("/v1/orders/" + id),
   definition: (id) => found("/v1/definitions/" + id),
   recipe: (id, version) => asked(`/v1/recipes/${id}/${version}`),
+  foundRecipe: (id, version) => found(`/v1/recipes/${id}/${version}`),
   recall: (id) => found("/v1/recalls/" + id),
   async batch(id) {
     const batch = await asked("/v1/batches/" + id), { lines } = await asked(`/v1/batches/${id}/lines`);
@@ -657,6 +693,12 @@ function filterOf(name, options) {
   return options.includes(it) ? it : options[0];
 }
 const filtered = (name, options, value) => `#${withFilter(location.hash || `#${place()[0]}`, name, value === options[0] ? null : value)}`;
+const textOf = (name) => readAddress(location.hash).filters.get(name) || "";
+function setText(name, value, isTyped) {
+  const address = `#${withFilter(location.hash || `#${place()[0]}`, name, value || null)}`;
+  if (!isTyped) location.hash = address;
+  else { history.replaceState(history.state, "", address); show(); }
+}
 function setFilter(name, options, value) { location.hash = filtered(name, options, value); }
 const filterChoice = (label, name, options) => choice(label, options, filterOf(name, options), (it) => setFilter(name, options, it));
 function dropFilter(name) { history.replaceState(history.state, "", filtered(name, [null], null)); }
@@ -1214,4 +1256,4 @@ function bookingForm(title, fields, label, take, more) {
 "##;
 
 /// Its entity tag.
-pub const SCRIPT_TAG: &str = "\"dad23c83d5497a54a1f273d0e1654d22\"";
+pub const SCRIPT_TAG: &str = "\"607dcafb7b4011e9ad88bf5f1c4ae71f\"";

@@ -271,10 +271,58 @@ async function runningCard(batches) {
     cell(it.phase ? `${it.phase}, ${it.next} of ${it.phases}` : "all done")]));
   return card("Batches that still run", null, table(["Batch", "State", "Order", "Next phase"], rows, "None."));
 }
+async function needsOf(orders) {
+  const demands = [];
+  for (const { recipe, version, size } of orders) {
+    const { lines, base } = await desk.recipe(recipe, version);
+    demands.push(...lines.filter((it) => it.kind === "in").map((it) => ({ def: it.def, unit: it.unit || "", amount: scaled(it.qty, base, size) })));
+  }
+  const needs = inAll(demands);
+  for (const it of needs) Object.assign(it, { free: (await desk.stockOf(it.def))?.usable || 0 });
+  return needs;
+}
+function needsTable(needs) {
+  const short = (it) => (it.free < it.asked ? h("td", { class: "num" }, h("span", { class: "over" }, `${grouped(it.asked - it.free)} ${it.unit}`)) : h("td", { class: "num" }));
+  const rows = needs.map((it) => row(`need ${it.def}`, [idCell(it.def), numberCell(it.asked, it.unit), numberCell(it.free, it.unit), short(it)]));
+  return h("div", { class: "needs" }, table(["Input", "#Asked", "#Free", "#Short"], rows, "No input is asked.", true));
+}
+const batchOf = (order) => idOf("B", order.replace(/^O-?(?=.)/, ""));
+const fieldsOf = (order, batch, note) => noted({ do: "release", order, batch }, note);
+const inWords = (it) => `${it.recipe} ${it.version}, size ${grouped(it.size)}, due ${it.due}`;
+async function release(order) {
+  let needs;
+  try { await desk.look(); needs = await needsOf([order]); } catch (error) { return notice("bad", whyNot(error)); }
+  const fields = [say(`${inWords(order)}. The shift can start its batch at once.`), ownField(needsTable(needs)), idField("batch", "New batch", batchOf(order.order)), noteField()];
+  bookingForm(`Release order ${order.order}`, fields, "Release",
+    (v, tell) => tell(`Order ${order.order} released as ${v.batch}`, fieldsOf(order.order, v.batch, v.note)));
+}
+async function releaseSeveral(orders, isDone) {
+  let needs;
+  try { await desk.look(); needs = await needsOf(orders); } catch (error) { return notice("bad", whyNot(error)); }
+  const batches = orders.map((it) => ({ ...idField(`batch ${it.order}`, `New batch of ${it.order}: ${inWords(it)}`, batchOf(it.order)) }));
+  const fields = [say("Their batches can be started at once."), ownField(needsTable(needs)), ...batches, noteField("Note on each, if any")];
+  const done = new Set();
+  let mine = null;
+  const take = async ({ note, ...v }) => {
+    const left = orders.filter((it) => !done.has(it.order));
+    const bookings = left.map((it) => ({ what: `Order ${it.order} released`, fields: fieldsOf(it.order, v[`batch ${it.order}`], note) }));
+    const isWanted = () => openForm() === mine;
+    const { count, wrong } = await bookEach(bookings, async () => (isWanted() ? null : "The form was closed."));
+    for (const it of left.slice(0, count)) { done.add(it.order); isDone(it.order); }
+    await show();
+    const far = `${grouped(done.size)} of ${counted(orders.length, "order", "orders")} ${done.size === 1 ? "is" : "are"} released`;
+    if (!wrong) { notice("good", `${far}.`); return null; }
+    if (wrong === LOST) notice("bad", `${far}. No answer came to the next one: send it again, and then release the rest.`);
+    else if (!isWanted()) notice("bad", `${far}. ${wrong}`);
+    return wrong === LOST ? LOST : `${far}. ${left[count].order}: ${wrong}`;
+  };
+  form(`Release ${counted(orders.length, "order", "orders")}`, fields, "Release all", take);
+  mine = openForm();
+}
 const ORDER_STATES = ["open", "released", "finished", "cancelled"], WITHDRAWN = ["hidden", "shown"];
 async function planner([id]) {
   const orderState = filterOf("orders", ORDER_STATES), isWithdrawnShown = filterOf("withdrawn", WITHDRAWN) === "shown";
-  const orders = await desk.orders(orderState, want("orders " + orderState));
+  const orders = await desk.orders(orderState, wantedOrders(orderState));
   const approved = await desk.recipes("approved", want("recipes")), drafts = await desk.recipes("draft", want("recipes"));
   const withdrawn = isWithdrawnShown ? await desk.recipes("withdrawn", want("recipes")) : [];
   const one = id && (await desk.foundOrder(id));
@@ -282,27 +330,85 @@ async function planner([id]) {
     h("div", { class: "stack" }, desk.seq === 0 && firstSteps(), id && orderCard(id, one), listed(ordersCard(orders, orderState, approved))),
     listed(h("div", { class: "stack" }, takeInCard(approved), recipesCard(approved, drafts, isWithdrawnShown && withdrawn)))];
 }
-const bySooner = (a, b) => (a.due < b.due ? -1 : a.due > b.due ? 1 : b.priority - a.priority);
+const chosenOrders = new Map();
+const MOST_AT_ONCE = 50;
+const MOST_READ = 2000;
+const isAsTheyCome = () => !textOf("recipe") && !textOf("text") && typed === null && filterOf("sort", ORDER_SORTS) === "due" && filterOf("way", WAYS) === "up";
+const wantedOrders = (state) => (isAsTheyCome() ? want("orders " + state) : Math.max(MOST_READ, want("orders " + state)));
+const WAYS = ["up", "down"];
 function ordersCard(orders, orderState, approved) {
-  const recipes = new Map(approved.map((it) => [`${it.recipe}.${it.version}`, it])), sorted = [...orders].sort(bySooner);
-  const rows = sorted.map((it) => orderRow(it, orderState, recipes.get(`${it.recipe}.${it.version}`)));
+  const recipes = new Map(approved.map((it) => [`${it.recipe}.${it.version}`, it])), recipeOf = (it) => recipes.get(`${it.recipe}.${it.version}`);
+  const sort = filterOf("sort", ORDER_SORTS), way = filterOf("way", WAYS), isFiltered = Boolean(textOf("recipe") || typedText());
+  const meant = filteredOrders(orders, textOf("recipe"), typedText(), (it) => recipeOf(it)?.title || ""), sorted = sortedOrders(meant, sort, way === "down");
+  const isOpen = orderState === "open", bar = chosenBar();
+  for (const it of [...chosenOrders.keys()]) if (!isOpen || !orders.some((one) => one.order === it)) chosenOrders.delete(it);
+  const rows = sorted.map((it) => orderRow(it, orderState, recipeOf(it), () => drawChosenOrders(bar)));
+  drawChosenOrders(bar);
   const late = MAY_BE_LATE.includes(orderState) ? orders.filter((it) => it.due < desk.today()).length : 0;
   const states = filterChoice("State of the orders", "orders", ORDER_STATES);
   const csv = csvButton("orders", `orders-${orderState}`, async () => (await desk.orders(orderState, Infinity)).map((it) => ({ ...it, state: orderState })));
-  const without = orderState === "open" ? "No order is open. Take an order file in, or one order by hand." : `No order is ${orderState}.`;
-  const isAll = late === orders.length && orders.more;
+  const without = isFiltered && orders.length ? "No order fits the filter." : isOpen ? "No order is open. Take an order file in, or one order by hand."
+    : `No order is ${orderState}.`;
+  const isAll = late === orders.length && orders.more, heads = ["Order", "Due", "#Priority", "Recipe", "#Size", ""];
   return card("Orders", [late > 0 && pill(`${grouped(late)}${isAll ? " and more" : ""} late`, "bad"), csv, states],
-    table(["Order", "Due", "#Priority", "Recipe", "#Size", ""], rows, without), more(orders, "orders " + orderState, " by their due dates"));
+    orders.length > 0 && filterRow(orders, sort, way), table(isOpen ? ["Choose", ...heads] : heads, rows, without, false, sortsOf(sort, way)),
+    more(orders, "orders " + orderState, isAsTheyCome() ? " by their due dates" : " by their due dates are looked through; those that fit"), isOpen && bar);
 }
-function orderRow(order, orderState, recipe) {
+const SORT_HEADS = { order: "Order", due: "Due", priority: "#Priority", recipe: "Recipe", size: "#Size" };
+function setSort(by, way) {
+  const other = withFilter(`#${withFilter(location.hash || "#planner", "sort", by === "due" ? null : by)}`, "way", way === "up" ? null : way);
+  location.hash = `#${other}`;
+}
+const sortsOf = (sort, way) => Object.fromEntries(Object.entries(SORT_HEADS).map(([by, head]) => [head, { way: by === sort ? way : null,
+  press: () => setSort(by, by === sort && way === "up" ? "down" : "up") }]));
+const TYPING = 300;
+let typed = null, typing;
+const typedText = () => (typed === null ? textOf("text") : typed);
+function typeText(value) {
+  typed = value;
+  clearTimeout(typing);
+  typing = setTimeout(() => { typed = null; setText("text", value.trim(), true); }, TYPING);
+}
+function filterRow(orders, sort, way) {
+  const recipe = textOf("recipe"), ids = [...new Set([...orders.map((it) => it.recipe), ...(recipe ? [recipe] : [])])].sort();
+  const option = (value, label, isOn) => h("option", { value, selected: isOn }, label);
+  const text = h("input", { type: "search", id: "ordertext", maxlength: 60, placeholder: "Filter by a text", "aria-label": "Filter the orders by a text", autocomplete: "off",
+    oninput: (event) => typeText(event.target.value) });
+  text.value = typedText();
+  const sorts = Object.entries(SORT_HEADS).flatMap(([by, head]) => WAYS.map((it) => option(`${by}.${it}`, `by ${head.replace("#", "").toLowerCase()}, ${it}`,
+    by === sort && it === way)));
+  return h("div", { class: "body row filter" }, text,
+    h("select", { id: "orderrecipe", "aria-label": "Filter the orders by a recipe", onchange: (event) => setText("recipe", event.target.value) },
+      option("", "all recipes", !recipe), ids.map((it) => option(it, it, it === recipe))),
+    h("select", { id: "ordersort", class: "phone", "aria-label": "Sort the orders", onchange: (event) => setSort(...event.target.value.split(".")) }, sorts),
+    (recipe || typedText()) && button("No filter", () => { typed = null; clearTimeout(typing); setText("text", ""); setText("recipe", ""); }));
+}
+function chosenBar() {
+  return h("div", { class: "chosen" }, h("span", {}), button("Release\u2026", () => releaseSeveral([...chosenOrders.values()], (it) => chosenOrders.delete(it)), "main",
+    { "aria-label": "Release the chosen orders" }), button("Choose none", () => { chosenOrders.clear(); show(); }));
+}
+function drawChosenOrders(bar) {
+  const count = chosenOrders.size, isTooMany = count > MOST_AT_ONCE;
+  bar.hidden = !count;
+  bar.firstChild.textContent = isTooMany ? `At most ${MOST_AT_ONCE} orders are released at once.` : `${counted(count, "order is", "orders are")} chosen.`;
+  bar.children[1].disabled = isTooMany;
+}
+function orderBox(order, isOff, told) {
+  const choose = (event) => {
+    if (event.target.checked) chosenOrders.set(order.order, order); else chosenOrders.delete(order.order);
+    told();
+  };
+  return h("input", { type: "checkbox", "aria-label": `Choose ${order.order} to be released`, checked: chosenOrders.has(order.order), disabled: isOff, onchange: choose });
+}
+function orderRow(order, orderState, recipe, told) {
   const isOpen = orderState === "open", name = `${order.recipe} ${order.version}`;
   const title = recipe && recipe.title ? [recipe.title, " ", h("span", { class: "soft small" }, name)] : name;
   const mark = isOpen && !recipe && [" ", pill("not approved", "warn")];
   const open = [button("Release", () => release(order), "main"), button("Cancel", () => cancelOrder(order), "bad")];
   const buttons = isOpen ? open : orderState !== "cancelled" && button("Batch", () => showBatchOf(order.order));
-  return row(order.order, [idCell(link("planner/" + order.order, order.order)), cell(due(order, orderState)),
+  return row(order.order, [isOpen && cell(orderBox(order, !recipe, told)), idCell(link("planner/" + order.order, order.order)), cell(due(order, orderState)),
     h("td", { class: "num" }, order.priority),
-    cell(title, mark), numberCell(order.size), buttonsCell(buttons)]);
+    cell(title, mark), numberCell(order.size), buttonsCell(buttons)].filter(Boolean));
 }
 const MAY_BE_LATE = ["open", "released"];
 function due(order, state) {
@@ -322,12 +428,6 @@ function orderCard(id, order) {
       fact("Size", grouped(order.size)), order.batch && fact("Batch", batchLink(order.batch))),
     isOpen && h("div", { class: "body row" }, button("Release", () => release(order), "main", { "aria-label": `Release the order ${id}` }),
       button("Cancel", () => cancelOrder(order), "bad", { "aria-label": `Cancel the order ${id}` })));
-}
-function release(order) {
-  const text = `${order.recipe} ${order.version}, size ${grouped(order.size)}, due ${order.due}. The shift can start its batch at once.`;
-  const batch = idField("batch", "New batch", idOf("B", order.order.replace(/^O-?(?=.)/, "")));
-  bookingForm(`Release order ${order.order}`, [say(text), batch, noteField()], "Release",
-    (v, tell) => tell(`Order ${order.order} released as ${v.batch}`, noted({ do: "release", order: order.order, batch: v.batch }, v.note)));
 }
 function cancelOrder(order) {
   bookingForm(`Cancel order ${order.order}?`, [say("A cancelled order stays cancelled."), noteField("Why")], "Cancel the order",
@@ -393,10 +493,15 @@ async function showRecipe({ recipe, version }) {
   try { it = await desk.recipe(recipe, version); } catch (error) { return notice("bad", error.message); }
   const amount = (line) => (line.qty ? `${grouped(line.qty)} ${line.unit}` : line.value || "");
   const rows = it.lines.map(withPath).map((line, k) => row("line " + k, [cell(line.kind), cell(line.def || line.name || line.path), cell(amount(line))]));
-  const away = button("Close", () => dialog.close());
+  const away = button("Close", () => dialog.close()), again = button("New version from this one", () => newVersion(it));
   const sizes = `For ${grouped(it.base)} ${it.unit} of ${it.product}; orders of ${grouped(it.min)} to ${grouped(it.max)} ${it.unit}.`;
   openDialog(h("form", { method: "dialog" }, h("h2", { id: "title" }, `${it.title || it.recipe} (${it.recipe} ${it.version}), ${it.state}`),
-    h("p", { class: "soft" }, sizes), table(["Kind", "What", "Amount or value"], rows, ""), h("div", { class: "end" }, away)), away);
+    h("p", { class: "soft" }, sizes), table(["Kind", "What", "Amount or value"], rows, ""), h("div", { class: "end" }, again, away)), away);
+}
+async function newVersion(it) {
+  let { version } = it;
+  try { do version += 1; while (await desk.foundRecipe(it.recipe, version)); } catch (error) { return notice("bad", whyNot(error)); }
+  newRecipe({ ...it, version, lines: linesText(it.lines) });
 }
 function withdraw(it) {
   bookingForm(`Withdraw recipe ${it.recipe} ${it.version}?`,
@@ -404,7 +509,7 @@ function withdraw(it) {
     (v, tell) => tell(`Recipe ${it.recipe} ${it.version} withdrawn`,
       noted({ do: "withdraw", recipe: it.recipe, version: it.version }, v.note)), { isGrave: true });
 }
-function newRecipe() {
+function newRecipe(values = {}) {
   const fields = [
     halfField("recipe", "id", "Recipe"),
     halfField("version", "amount", "Version, 1 to 999", { value: 1, more: { pattern: "0*[1-9][0-9]{0,2}" } }),
@@ -412,7 +517,7 @@ function newRecipe() {
     { name: "base", kind: "amount", label: "Base size, for which the lines are written" },
     halfField("min", "amount", "Least size of an order"), halfField("max", "amount", "Greatest size"),
     { name: "lines", kind: "lines", label: "Lines", hint: LINES_HINT, more: { placeholder: LINES_EXAMPLE } },
-  ];
+  ].map((it) => ({ ...it, value: values[it.name] ?? it.value }));
   bookingForm("New recipe", fields, "Make a draft", ({ lines: text, ...header }, tell) => {
     const [lines, wrong] = recipeLines(text);
     return wrong || tell(`Recipe ${header.recipe} ${header.version} drafted`, { do: "add_recipe", ...header, lines });
@@ -935,7 +1040,7 @@ async function lookAgain() {
   if (document.hidden || sending || dialog.open) return;
   drawWaiting();
   try {
-    const isNew = await desk.look(), isAtWork = chosen.size > 0 || (isWriting() && view.contains(document.activeElement));
+    const isNew = await desk.look(), isAtWork = { planner: chosenOrders, warehouse: chosen }[place()[0]]?.size > 0 || (isWriting() && view.contains(document.activeElement));
     if (isNew && isAtWork) drawNew();
     else if (isNew || (isDayOver() && !isAtWork) || at("stand").textContent === "no answer") show();
   } catch { tellStatus("bad", "no answer"); }
@@ -951,4 +1056,4 @@ show();
 "##;
 
 /// Its entity tag.
-pub const VIEWS_TAG: &str = "\"419440e484028696eca28a33b996376b\"";
+pub const VIEWS_TAG: &str = "\"332711bc764399509441517995698da4\"";

@@ -1,0 +1,67 @@
+// The release of orders, one or several: what they want of each input, and whether it is there.
+
+import { counted, grouped } from "./amounts.js";
+import { idOf } from "./ids.js";
+import { scaled } from "./recipes.js";
+import { LOST } from "./words.js";
+import { inAll } from "./sorting.js";
+import { h } from "./elements.js";
+import { idCell, notice, numberCell, row, table } from "./parts.js";
+import { desk, whyNot } from "./questions.js";
+import { show } from "./frame.js";
+import { form, idField, noteField, noted, openForm, ownField, say } from "./forms.js";
+import { bookEach, bookingForm } from "./book.js";
+
+// What orders want of each input, by the lines of their recipes scaled to their sizes, and how much of it is free.
+async function needsOf(orders) {
+  const demands = [];
+  for (const { recipe, version, size } of orders) {
+    const { lines, base } = await desk.recipe(recipe, version);
+    demands.push(...lines.filter((it) => it.kind === "in").map((it) => ({ def: it.def, unit: it.unit || "", amount: scaled(it.qty, base, size) })));
+  }
+  const needs = inAll(demands);
+  for (const it of needs) Object.assign(it, { free: (await desk.stockOf(it.def))?.usable || 0 });
+  return needs;
+}
+function needsTable(needs) {
+  const short = (it) => (it.free < it.asked ? h("td", { class: "num" }, h("span", { class: "over" }, `${grouped(it.asked - it.free)} ${it.unit}`)) : h("td", { class: "num" }));
+  const rows = needs.map((it) => row(`need ${it.def}`, [idCell(it.def), numberCell(it.asked, it.unit), numberCell(it.free, it.unit), short(it)]));
+  return h("div", { class: "needs" }, table(["Input", "#Asked", "#Free", "#Short"], rows, "No input is asked.", true));
+}
+
+const batchOf = (order) => idOf("B", order.replace(/^O-?(?=.)/, ""));
+const fieldsOf = (order, batch, note) => noted({ do: "release", order, batch }, note);
+const inWords = (it) => `${it.recipe} ${it.version}, size ${grouped(it.size)}, due ${it.due}`;
+
+export async function release(order) {
+  let needs;
+  try { await desk.look(); needs = await needsOf([order]); } catch (error) { return notice("bad", whyNot(error)); }
+  const fields = [say(`${inWords(order)}. The shift can start its batch at once.`), ownField(needsTable(needs)), idField("batch", "New batch", batchOf(order.order)), noteField()];
+  bookingForm(`Release order ${order.order}`, fields, "Release",
+    (v, tell) => tell(`Order ${order.order} released as ${v.batch}`, fieldsOf(order.order, v.batch, v.note)));
+}
+
+// Releases several orders, each with a batch of its own, up to the first that is refused. `isDone` is told of each that is released.
+export async function releaseSeveral(orders, isDone) {
+  let needs;
+  try { await desk.look(); needs = await needsOf(orders); } catch (error) { return notice("bad", whyNot(error)); }
+  const batches = orders.map((it) => ({ ...idField(`batch ${it.order}`, `New batch of ${it.order}: ${inWords(it)}`, batchOf(it.order)) }));
+  const fields = [say("Their batches can be started at once."), ownField(needsTable(needs)), ...batches, noteField("Note on each, if any")];
+  const done = new Set();
+  let mine = null;
+  const take = async ({ note, ...v }) => {
+    const left = orders.filter((it) => !done.has(it.order));
+    const bookings = left.map((it) => ({ what: `Order ${it.order} released`, fields: fieldsOf(it.order, v[`batch ${it.order}`], note) }));
+    const isWanted = () => openForm() === mine;
+    const { count, wrong } = await bookEach(bookings, async () => (isWanted() ? null : "The form was closed."));
+    for (const it of left.slice(0, count)) { done.add(it.order); isDone(it.order); }
+    await show();
+    const far = `${grouped(done.size)} of ${counted(orders.length, "order", "orders")} ${done.size === 1 ? "is" : "are"} released`;
+    if (!wrong) { notice("good", `${far}.`); return null; }
+    if (wrong === LOST) notice("bad", `${far}. No answer came to the next one: send it again, and then release the rest.`);
+    else if (!isWanted()) notice("bad", `${far}. ${wrong}`);
+    return wrong === LOST ? LOST : `${far}. ${left[count].order}: ${wrong}`;
+  };
+  form(`Release ${counted(orders.length, "order", "orders")}`, fields, "Release all", take);
+  mine = openForm();
+}

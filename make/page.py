@@ -24,7 +24,7 @@ PAGE, SOURCES = TOP / "page", TOP / "crates/desk_page/src"
 SCRIPTS = {
     "desk.js": (
         "amounts", "moments", "ids", "addresses", "csv", "cursors", "recipes", "records", "words", "scans", "barcode", "taking", "sorting",
-        "elements", "store", "who", "focus", "scanner", "parts", "questions", "frame", "saved", "lots", "forms", "paper", "label", "book",
+        "elements", "store", "typed", "who", "focus", "scanner", "parts", "questions", "frame", "saved", "lots", "forms", "paper", "label", "book",
     ),
     "views.js": ("genealogy", "record", "sheet", "inputs", "stands", "release", "planner", "shift", "warehouse", "quality", "start"),
 }

@@ -2,8 +2,9 @@
 
 import { ID_RULE, isId, plainText } from "./ids.js";
 import { lotOf, lotOfSupplier, withCode } from "./scans.js";
-import { LOST, REFUSALS } from "./words.js";
+import { LOST, REFUSALS, keyOfPart } from "./words.js";
 import { dialog, h } from "./elements.js";
+import { forgetTyped, keepTyped, typedIn } from "./typed.js";
 import { hasOperator, isInDoubt, nameOperator, operatorName, whoQuestion } from "./who.js";
 import { keyOf } from "./focus.js";
 import { tone } from "./scanner.js";
@@ -83,11 +84,27 @@ class Form {
     this.as = h("span", { class: "as" });
     this.who = h("div", { hidden: true });
     this.drawAs();
+    const part = fields.find((it) => it.part)?.part;
+    this.name = booksNothing ? null : [desk.name || "", title, part ? keyOfPart(part) : ""].join("|");
     const rows = this.fields.map((it) => this.row(it)), away = button("Cancel", () => this.ok.disabled || dialog.close());
     const events = { onsubmit: (event) => this.submit(event), oninput: () => this.changed(), onkeydown: (event) => this.pressed(event) };
-    this.element = h("form", { method: "dialog", ...events }, h("h2", { id: "title" }, title), this.who, rows, this.told, this.wrong,
+    this.element = h("form", { method: "dialog", ...events }, h("h2", { id: "title" }, title), this.who, this.putBack(), rows, this.told, this.wrong,
       h("div", { class: "end" }, away, this.as, this.ok));
     if (this.isInDoubt()) this.askWho(() => (fields.length ? this.first().focus() : this.element.requestSubmit()));
+  }
+
+  // What is typed is kept while the form is open, and put back where the page was loaded anew meanwhile. What a field had at first is no such thing.
+  keep() {
+    const now = Object.entries(this.inputs).filter(([name, it]) => name !== "operator" && it.value !== this.begun[name]);
+    if (this.name !== null) keepTyped(this.name, Object.fromEntries(now.map(([name, it]) => [name, it.value])));
+  }
+  leave() { if (this.name !== null) forgetTyped(this.name); }
+  putBack() {
+    this.begun = Object.fromEntries(Object.entries(this.inputs).map(([name, it]) => [name, it.value]));
+    const kept = Object.entries((this.name !== null && typedIn(this.name)) || {}).filter(([name]) => this.inputs[name]);
+    for (const [name, value] of kept) this.inputs[name].value = value;
+    if (this.lot && kept.some(([name]) => this.inputs[name] === this.lot.input)) this.lot.look();
+    return kept.length > 0 && h("p", { class: "soft", role: "status" }, "What was typed before the page was loaded anew is put back.");
   }
 
   // Who books is asked for in the form, so that what is typed isn't lost; `then` is called once a name is pressed. Another name is a field of the form.
@@ -143,6 +160,7 @@ class Form {
   // Forgets what the desk was asked about other values, and a doubt about them.
   forget() { clearTimeout(this.pause); this.asking.abort(); this.told.textContent = ""; }
   changed() {
+    this.keep();
     this.forget();
     this.doubted(null);
     if (this.contentOf) this.pause = setTimeout(() => this.ask(), PAUSE);
@@ -204,9 +222,10 @@ class Form {
     if (name !== undefined) nameOperator(name);
     this.ok.disabled = true;
     const isDoubtful = await this.hasDoubt(values), isOff = isDoubtful || !this.isOpen();
-    if (!isOff) this.wrong.textContent = "";
+    if (!isOff) { this.wrong.textContent = ""; this.leave(); }
     const what = isOff ? null : await this.take(values);
     this.ok.disabled = false;
+    if (what && what !== LOST && this.isOpen()) this.keep();
     if (what && what !== LOST) this.wrong.textContent = what;
     if (isDoubtful || (what && what !== LOST)) this.ok.focus();
     else if (!isOff && this.isOpen()) dialog.close();
@@ -245,12 +264,18 @@ class Form {
 // Opens a form.
 let opened = null;
 export function form(title, fields, label, take, more) {
+  if (opened) opened.leave();
   opened = new Form(title, fields, label, take, more);
   openDialog(opened.element, opened.first());
 }
 
-// The form that is open, or null.
+// The form that is open, or null. What was typed into one that is closed is gone.
 export const openForm = () => (opened && opened.isOpen() ? opened : null);
+dialog.addEventListener("close", () => {
+  if (!opened || opened.isOpen()) return;
+  opened.leave();
+  opened = null;
+});
 
 // The place of the keyboard goes back to where it was once a dialog is closed, also in a view that was drawn anew.
 export let focusBehind = null;

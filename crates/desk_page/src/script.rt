@@ -381,6 +381,23 @@ function keep(name, value) {
     memory.delete(name);
   } catch { memory.set(name, value); }
 }
+const PLACE = "desk.typed", MOST_FORMS = 20;
+function allTyped() {
+  try { return new Map(JSON.parse(sessionStorage.getItem(PLACE))); } catch { return new Map(); }
+}
+function putTyped(all) {
+  try { sessionStorage.setItem(PLACE, JSON.stringify([...all].slice(-MOST_FORMS))); } catch { /* Then it is lost with the page. */ }
+}
+const typedIn = (form) => allTyped().get(form) || null;
+function keepTyped(form, values) {
+  const all = allTyped();
+  all.delete(form);
+  putTyped(all.set(form, values));
+}
+function forgetTyped(form) {
+  const all = allTyped();
+  if (all.delete(form)) putTyped(all);
+}
 const operatorName = () => operator.value.trim();
 const hasOperator = () => operatorName() !== "" && operator.checkValidity();
 const IDLE = 30 * 60;
@@ -948,11 +965,25 @@ class Form {
     this.as = h("span", { class: "as" });
     this.who = h("div", { hidden: true });
     this.drawAs();
+    const part = fields.find((it) => it.part)?.part;
+    this.name = booksNothing ? null : [desk.name || "", title, part ? keyOfPart(part) : ""].join("|");
     const rows = this.fields.map((it) => this.row(it)), away = button("Cancel", () => this.ok.disabled || dialog.close());
     const events = { onsubmit: (event) => this.submit(event), oninput: () => this.changed(), onkeydown: (event) => this.pressed(event) };
-    this.element = h("form", { method: "dialog", ...events }, h("h2", { id: "title" }, title), this.who, rows, this.told, this.wrong,
+    this.element = h("form", { method: "dialog", ...events }, h("h2", { id: "title" }, title), this.who, this.putBack(), rows, this.told, this.wrong,
       h("div", { class: "end" }, away, this.as, this.ok));
     if (this.isInDoubt()) this.askWho(() => (fields.length ? this.first().focus() : this.element.requestSubmit()));
+  }
+  keep() {
+    const now = Object.entries(this.inputs).filter(([name, it]) => name !== "operator" && it.value !== this.begun[name]);
+    if (this.name !== null) keepTyped(this.name, Object.fromEntries(now.map(([name, it]) => [name, it.value])));
+  }
+  leave() { if (this.name !== null) forgetTyped(this.name); }
+  putBack() {
+    this.begun = Object.fromEntries(Object.entries(this.inputs).map(([name, it]) => [name, it.value]));
+    const kept = Object.entries((this.name !== null && typedIn(this.name)) || {}).filter(([name]) => this.inputs[name]);
+    for (const [name, value] of kept) this.inputs[name].value = value;
+    if (this.lot && kept.some(([name]) => this.inputs[name] === this.lot.input)) this.lot.look();
+    return kept.length > 0 && h("p", { class: "soft", role: "status" }, "What was typed before the page was loaded anew is put back.");
   }
   isInDoubt() { return this.needsName && !this.inputs.operator && isInDoubt(); }
   drawAs() { this.as.textContent = this.needsName && !this.inputs.operator && hasOperator() ? `as ${operatorName()}` : ""; }
@@ -1001,6 +1032,7 @@ class Form {
   }
   forget() { clearTimeout(this.pause); this.asking.abort(); this.told.textContent = ""; }
   changed() {
+    this.keep();
     this.forget();
     this.doubted(null);
     if (this.contentOf) this.pause = setTimeout(() => this.ask(), PAUSE);
@@ -1055,9 +1087,10 @@ class Form {
     if (name !== undefined) nameOperator(name);
     this.ok.disabled = true;
     const isDoubtful = await this.hasDoubt(values), isOff = isDoubtful || !this.isOpen();
-    if (!isOff) this.wrong.textContent = "";
+    if (!isOff) { this.wrong.textContent = ""; this.leave(); }
     const what = isOff ? null : await this.take(values);
     this.ok.disabled = false;
+    if (what && what !== LOST && this.isOpen()) this.keep();
     if (what && what !== LOST) this.wrong.textContent = what;
     if (isDoubtful || (what && what !== LOST)) this.ok.focus();
     else if (!isOff && this.isOpen()) dialog.close();
@@ -1090,10 +1123,16 @@ class Form {
 }
 let opened = null;
 function form(title, fields, label, take, more) {
+  if (opened) opened.leave();
   opened = new Form(title, fields, label, take, more);
   openDialog(opened.element, opened.first());
 }
 const openForm = () => (opened && opened.isOpen() ? opened : null);
+dialog.addEventListener("close", () => {
+  if (!opened || opened.isOpen()) return;
+  opened.leave();
+  opened = null;
+});
 let focusBehind = null;
 function openDialog(content, first) {
   focusBehind = keyOf(document.activeElement);
@@ -1256,4 +1295,4 @@ function bookingForm(title, fields, label, take, more) {
 "##;
 
 /// Its entity tag.
-pub const SCRIPT_TAG: &str = "\"607dcafb7b4011e9ad88bf5f1c4ae71f\"";
+pub const SCRIPT_TAG: &str = "\"16c2a3a7cdc349c46fed574def0200b2\"";

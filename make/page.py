@@ -20,7 +20,7 @@ import sys
 TOP = pathlib.Path(__file__).resolve().parent.parent
 PAGE, SOURCES = TOP / "page", TOP / "crates/desk_page/src"
 
-# The modules of each script. Those of the first two lines are pure: they touch neither the page nor the desk.
+# The modules of each script. Those of the first line are pure: they touch neither the page nor the desk.
 SCRIPTS = {
     "desk.js": (
         "amounts", "moments", "ids", "addresses", "csv", "cursors", "recipes", "records", "words", "scans", "barcode", "taking", "sorting",

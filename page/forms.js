@@ -93,10 +93,12 @@ class Form {
     if (this.isInDoubt()) this.askWho(() => (fields.length ? this.first().focus() : this.element.requestSubmit()));
   }
 
-  // What is typed is kept while the form is open, and put back where the page was loaded anew meanwhile. What a field had at first is no such thing.
+  // What is typed is kept while the form is open and nothing of it is on its way, and put back where the page was loaded anew meanwhile. What a field had
+  // at first is no such thing.
   keep() {
+    if (this.name === null || this.ok.disabled || !this.isOpen()) return;
     const now = Object.entries(this.inputs).filter(([name, it]) => name !== "operator" && it.value !== this.begun[name]);
-    if (this.name !== null) keepTyped(this.name, Object.fromEntries(now.map(([name, it]) => [name, it.value])));
+    keepTyped(this.name, Object.fromEntries(now.map(([name, it]) => [name, it.value])));
   }
   leave() { if (this.name !== null) forgetTyped(this.name); }
   putBack() {
@@ -225,7 +227,7 @@ class Form {
     if (!isOff) { this.wrong.textContent = ""; this.leave(); }
     const what = isOff ? null : await this.take(values);
     this.ok.disabled = false;
-    if (what && what !== LOST && this.isOpen()) this.keep();
+    if (what && what !== LOST) this.keep();
     if (what && what !== LOST) this.wrong.textContent = what;
     if (isDoubtful || (what && what !== LOST)) this.ok.focus();
     else if (!isOff && this.isOpen()) dialog.close();

@@ -80,8 +80,8 @@ function typeText(value) {
 function filterRow(orders, sort, way) {
   const recipe = textOf("recipe"), ids = [...new Set([...orders.map((it) => it.recipe), ...(recipe ? [recipe] : [])])].sort();
   const option = (value, label, isOn) => h("option", { value, selected: isOn }, label);
-  const text = h("input", { type: "search", id: "ordertext", maxlength: 60, placeholder: "Filter by a text", "aria-label": "Filter the orders by a text", autocomplete: "off",
-    oninput: (event) => typeText(event.target.value) });
+  const text = h("input", { type: "search", id: "ordertext", maxlength: 60, placeholder: "Filter by a text", "aria-label": "Filter the orders by a text",
+    autocomplete: "off", oninput: (event) => typeText(event.target.value) });
   text.value = typedText();
   const sorts = Object.entries(SORT_HEADS).flatMap(([by, head]) => WAYS.map((it) => option(`${by}.${it}`, `by ${head.replace("#", "").toLowerCase()}, ${it}`,
     by === sort && it === way)));
@@ -94,8 +94,9 @@ function filterRow(orders, sort, way) {
 
 // The orders that are chosen, and their release.
 function chosenBar() {
-  return h("div", { class: "chosen" }, h("span", {}), button("Release\u2026", () => releaseSeveral([...chosenOrders.values()], (it) => chosenOrders.delete(it)), "main",
-    { "aria-label": "Release the chosen orders" }), button("Choose none", () => { chosenOrders.clear(); show(); }));
+  const all = () => releaseSeveral([...chosenOrders.values()], (it) => chosenOrders.delete(it));
+  return h("div", { class: "chosen" }, h("span", {}), button("Release\u2026", all, "main", { "aria-label": "Release the chosen orders" }),
+    button("Choose none", () => { chosenOrders.clear(); show(); }));
 }
 function drawChosenOrders(bar) {
   const count = chosenOrders.size, isTooMany = count > MOST_AT_ONCE;
@@ -108,7 +109,8 @@ function orderBox(order, isOff, told) {
     if (event.target.checked) chosenOrders.set(order.order, order); else chosenOrders.delete(order.order);
     told();
   };
-  return h("input", { type: "checkbox", "aria-label": `Choose ${order.order} to be released`, checked: chosenOrders.has(order.order), disabled: isOff, onchange: choose });
+  const name = `Choose ${order.order} to be released`;
+  return h("input", { type: "checkbox", "aria-label": name, checked: chosenOrders.has(order.order), disabled: isOff, onchange: choose });
 }
 function orderRow(order, orderState, recipe, told) {
   const isOpen = orderState === "open", name = `${order.recipe} ${order.version}`;

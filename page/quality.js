@@ -67,8 +67,8 @@ async function lotCards(id) {
 function lotCard(lot, self, holds, forward) {
   const rows = holds.map((it) => row(it.hold, [idCell(it.hold), momentCell(it.at), cell(it.by), cell(it.note),
     buttonsCell(button("Take the hold off", () => unhold(lot.lot, it.hold)))]));
-  const tools = [lot.held && pill("on hold", "warn"), self.recalled && pill("recalled", "bad"), button("Label", () => showLabels(lot.lot)), button("Hold", () => hold(lot.lot)),
-    button("Recall", () => recall(lot.lot, forward), "bad")];
+  const tools = [lot.held && pill("on hold", "warn"), self.recalled && pill("recalled", "bad"), button("Label", () => showLabels(lot.lot)),
+    button("Hold", () => hold(lot.lot)), button("Recall", () => recall(lot.lot, forward), "bad")];
   return card(`Lot ${lot.lot}`, tools,
     facts(fact("Material", link("warehouse/" + lot.def, lot.def)), fact("Stock", grouped(lot.stock), " ", self.unit),
       lot.sublots.filter((it) => it.stock || lot.sublots.length === 1).map((it) =>

@@ -24,7 +24,7 @@ async function needsOf(orders) {
   return needs;
 }
 function needsTable(needs) {
-  const short = (it) => (it.free < it.asked ? h("td", { class: "num" }, h("span", { class: "over" }, `${grouped(it.asked - it.free)} ${it.unit}`)) : h("td", { class: "num" }));
+  const short = (it) => h("td", { class: "num" }, it.free < it.asked && h("span", { class: "over" }, `${grouped(it.asked - it.free)} ${it.unit}`));
   const rows = needs.map((it) => row(`need ${it.def}`, [idCell(it.def), numberCell(it.asked, it.unit), numberCell(it.free, it.unit), short(it)]));
   return h("div", { class: "needs" }, table(["Input", "#Asked", "#Free", "#Short"], rows, "No input is asked.", true));
 }
@@ -36,7 +36,8 @@ const inWords = (it) => `${it.recipe} ${it.version}, size ${grouped(it.size)}, d
 export async function release(order) {
   let needs;
   try { await desk.look(); needs = await needsOf([order]); } catch (error) { return notice("bad", whyNot(error)); }
-  const fields = [say(`${inWords(order)}. The shift can start its batch at once.`), ownField(needsTable(needs)), idField("batch", "New batch", batchOf(order.order)), noteField()];
+  const text = say(`${inWords(order)}. The shift can start its batch at once.`), batch = idField("batch", "New batch", batchOf(order.order));
+  const fields = [text, ownField(needsTable(needs)), batch, noteField()];
   bookingForm(`Release order ${order.order}`, fields, "Release",
     (v, tell) => tell(`Order ${order.order} released as ${v.batch}`, fieldsOf(order.order, v.batch, v.note)));
 }

@@ -112,7 +112,8 @@ async function lookAgain() {
   if (document.hidden || sending || dialog.open) return;
   drawWaiting();
   try {
-    const isNew = await desk.look(), isAtWork = { planner: chosenOrders, warehouse: chosen }[place()[0]]?.size > 0 || (isWriting() && view.contains(document.activeElement));
+    const isNew = await desk.look(), areChosen = { planner: chosenOrders, warehouse: chosen }[place()[0]]?.size > 0;
+    const isAtWork = areChosen || (isWriting() && view.contains(document.activeElement));
     if (isNew && isAtWork) drawNew();
     else if (isNew || (isDayOver() && !isAtWork) || at("stand").textContent === "no answer") show();
   } catch { tellStatus("bad", "no answer"); }

@@ -91,6 +91,12 @@ class Typed(BrowserTestCase):
         self.load_anew(tab)
         self.open_form(tab, "Consume")
         self.check("the form once it was booked", self.values(tab, "from", "note"), ["", ""])
+        tab.fill("from", "d-1")
+        self.load_anew(tab)
+        self.open_form(tab, "Consume")
+        self.leave(tab)
+        tab.run("lotNow('D-1').then(() => true)")
+        self.check("what is kept once the form was left before its lot was looked up", tab.run(KEPT_FORMS), 0)
 
     def test_part_of_each_row_has_values_of_its_own(self) -> None:
         self.serve()

@@ -974,8 +974,9 @@ class Form {
     if (this.isInDoubt()) this.askWho(() => (fields.length ? this.first().focus() : this.element.requestSubmit()));
   }
   keep() {
+    if (this.name === null || this.ok.disabled || !this.isOpen()) return;
     const now = Object.entries(this.inputs).filter(([name, it]) => name !== "operator" && it.value !== this.begun[name]);
-    if (this.name !== null) keepTyped(this.name, Object.fromEntries(now.map(([name, it]) => [name, it.value])));
+    keepTyped(this.name, Object.fromEntries(now.map(([name, it]) => [name, it.value])));
   }
   leave() { if (this.name !== null) forgetTyped(this.name); }
   putBack() {
@@ -1090,7 +1091,7 @@ class Form {
     if (!isOff) { this.wrong.textContent = ""; this.leave(); }
     const what = isOff ? null : await this.take(values);
     this.ok.disabled = false;
-    if (what && what !== LOST && this.isOpen()) this.keep();
+    if (what && what !== LOST) this.keep();
     if (what && what !== LOST) this.wrong.textContent = what;
     if (isDoubtful || (what && what !== LOST)) this.ok.focus();
     else if (!isOff && this.isOpen()) dialog.close();
@@ -1295,4 +1296,4 @@ function bookingForm(title, fields, label, take, more) {
 "##;
 
 /// Its entity tag.
-pub const SCRIPT_TAG: &str = "\"16c2a3a7cdc349c46fed574def0200b2\"";
+pub const SCRIPT_TAG: &str = "\"2f390d9007891c54e42cdb2698792ab0\"";

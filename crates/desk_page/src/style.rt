@@ -92,7 +92,8 @@ th {
   white-space: nowrap;
 }
 button.sort { font-size: inherit; font-weight: inherit; border: 0; padding: 0; background: none; color: inherit; } button.sort:hover { color: var(--accent); }
-.card .filter { padding-bottom: 0; } .filter input { flex: 1 1 10em; max-width: 24em; } .filter .phone { display: none; } .needs td, .needs th { padding-inline: 0 6px; }
+.card .filter { padding-bottom: 0; } .filter input { flex: 1 1 10em; max-width: 24em; } .filter .phone { display: none; }
+.needs td, .needs th { padding-inline: 0 6px; }
 .needs td:first-child, .needs th:first-child { padding-left: 0; } .needs td:last-child, .needs th:last-child { padding-right: 0; }
 td { padding: 6px 8px; border-bottom: 1px solid var(--faint); vertical-align: middle; overflow-wrap: break-word; }
 tr:last-child > td { border-bottom: 0; }
@@ -183,7 +184,8 @@ dialog .end { display: flex; justify-content: flex-end; align-items: center; gap
 .sheets > * { min-width: 0; } .bars { display: block; max-width: 100%; fill: #000; }
 .label { background: #fff; color: #000; border: 1px solid #888; border-radius: 6px; padding: 3mm; overflow-wrap: anywhere; font-size: 12pt; line-height: 1.25; }
 .label h3 { margin: 0 0 1mm; font-size: 22pt; line-height: 1; } .label p { margin: 1mm 0; } .label.long { font-size: 9pt; } .label.long h3 { font-size: 13pt; }
-.label .known { display: flex; flex-wrap: wrap; gap: .5mm 6mm; } .label.long .known div:last-child b { font-weight: 400; } .label .known span { font-size: 8pt; color: #333; margin-right: 1.5mm; }
+.label .known { display: flex; flex-wrap: wrap; gap: .5mm 6mm; } .label.long .known div:last-child b { font-weight: 400; }
+.label .known span { font-size: 8pt; color: #333; margin-right: 1.5mm; }
 dialog:has(.sheet) { width: min(860px, 94vw); } .sheet h3 { margin: 14px 0 2px; font-size: 14px; }
 .sheet .head { display: flex; flex-wrap: wrap; gap: 8px 24px; justify-content: space-between; margin-bottom: 10px; } .sheet .bars { background: #fff; }
 .tickbox { display: inline-block; width: 5mm; height: 5mm; border: 1px solid var(--ink); vertical-align: middle; } .towrite { min-width: 30mm; width: 40%; }
@@ -222,7 +224,8 @@ svg .word { fill: var(--bad); font-weight: 600; font-size: 10px; }
   input[type=checkbox]:checked::before { content: "\2713"; background: var(--accent); border-color: var(--accent); }
   input[type=checkbox]:disabled { opacity: .45; }
   footer { min-height: 30px; padding: 0 14px; } footer:has(button) { min-height: 50px; } .chosen { bottom: 30px; }
-  #notice:not(:empty) + #stand, #notice:empty { display: none; } #notice { width: 100%; } #notice > div { flex-wrap: nowrap; justify-content: space-between; margin: 3px -8px; }
+  #notice:not(:empty) + #stand, #notice:empty { display: none; } #notice { width: 100%; }
+  #notice > div { flex-wrap: nowrap; justify-content: space-between; margin: 3px -8px; }
 }
 @media (max-width: 620px) {
   header { padding: 0 10px; } header > h1 { display: none; } header > .who { font-size: 0; flex-basis: 110px; } header > .who input { font-size: 15px; }
@@ -266,4 +269,4 @@ svg .word { fill: var(--bad); font-weight: 600; font-size: 10px; }
 "##;
 
 /// Its entity tag.
-pub const STYLE_TAG: &str = "\"56dad0a5b7893030e38c23b67dad7d35\"";
+pub const STYLE_TAG: &str = "\"f0e071a8050e61763b83805df7b42497\"";

@@ -282,7 +282,7 @@ async function needsOf(orders) {
   return needs;
 }
 function needsTable(needs) {
-  const short = (it) => (it.free < it.asked ? h("td", { class: "num" }, h("span", { class: "over" }, `${grouped(it.asked - it.free)} ${it.unit}`)) : h("td", { class: "num" }));
+  const short = (it) => h("td", { class: "num" }, it.free < it.asked && h("span", { class: "over" }, `${grouped(it.asked - it.free)} ${it.unit}`));
   const rows = needs.map((it) => row(`need ${it.def}`, [idCell(it.def), numberCell(it.asked, it.unit), numberCell(it.free, it.unit), short(it)]));
   return h("div", { class: "needs" }, table(["Input", "#Asked", "#Free", "#Short"], rows, "No input is asked.", true));
 }
@@ -292,7 +292,8 @@ const inWords = (it) => `${it.recipe} ${it.version}, size ${grouped(it.size)}, d
 async function release(order) {
   let needs;
   try { await desk.look(); needs = await needsOf([order]); } catch (error) { return notice("bad", whyNot(error)); }
-  const fields = [say(`${inWords(order)}. The shift can start its batch at once.`), ownField(needsTable(needs)), idField("batch", "New batch", batchOf(order.order)), noteField()];
+  const text = say(`${inWords(order)}. The shift can start its batch at once.`), batch = idField("batch", "New batch", batchOf(order.order));
+  const fields = [text, ownField(needsTable(needs)), batch, noteField()];
   bookingForm(`Release order ${order.order}`, fields, "Release",
     (v, tell) => tell(`Order ${order.order} released as ${v.batch}`, fieldsOf(order.order, v.batch, v.note)));
 }
@@ -372,8 +373,8 @@ function typeText(value) {
 function filterRow(orders, sort, way) {
   const recipe = textOf("recipe"), ids = [...new Set([...orders.map((it) => it.recipe), ...(recipe ? [recipe] : [])])].sort();
   const option = (value, label, isOn) => h("option", { value, selected: isOn }, label);
-  const text = h("input", { type: "search", id: "ordertext", maxlength: 60, placeholder: "Filter by a text", "aria-label": "Filter the orders by a text", autocomplete: "off",
-    oninput: (event) => typeText(event.target.value) });
+  const text = h("input", { type: "search", id: "ordertext", maxlength: 60, placeholder: "Filter by a text", "aria-label": "Filter the orders by a text",
+    autocomplete: "off", oninput: (event) => typeText(event.target.value) });
   text.value = typedText();
   const sorts = Object.entries(SORT_HEADS).flatMap(([by, head]) => WAYS.map((it) => option(`${by}.${it}`, `by ${head.replace("#", "").toLowerCase()}, ${it}`,
     by === sort && it === way)));
@@ -384,8 +385,9 @@ function filterRow(orders, sort, way) {
     (recipe || typedText()) && button("No filter", () => { typed = null; clearTimeout(typing); setText("text", ""); setText("recipe", ""); }));
 }
 function chosenBar() {
-  return h("div", { class: "chosen" }, h("span", {}), button("Release\u2026", () => releaseSeveral([...chosenOrders.values()], (it) => chosenOrders.delete(it)), "main",
-    { "aria-label": "Release the chosen orders" }), button("Choose none", () => { chosenOrders.clear(); show(); }));
+  const all = () => releaseSeveral([...chosenOrders.values()], (it) => chosenOrders.delete(it));
+  return h("div", { class: "chosen" }, h("span", {}), button("Release\u2026", all, "main", { "aria-label": "Release the chosen orders" }),
+    button("Choose none", () => { chosenOrders.clear(); show(); }));
 }
 function drawChosenOrders(bar) {
   const count = chosenOrders.size, isTooMany = count > MOST_AT_ONCE;
@@ -398,7 +400,8 @@ function orderBox(order, isOff, told) {
     if (event.target.checked) chosenOrders.set(order.order, order); else chosenOrders.delete(order.order);
     told();
   };
-  return h("input", { type: "checkbox", "aria-label": `Choose ${order.order} to be released`, checked: chosenOrders.has(order.order), disabled: isOff, onchange: choose });
+  const name = `Choose ${order.order} to be released`;
+  return h("input", { type: "checkbox", "aria-label": name, checked: chosenOrders.has(order.order), disabled: isOff, onchange: choose });
 }
 function orderRow(order, orderState, recipe, told) {
   const isOpen = orderState === "open", name = `${order.recipe} ${order.version}`;
@@ -894,8 +897,8 @@ async function lotCards(id) {
 function lotCard(lot, self, holds, forward) {
   const rows = holds.map((it) => row(it.hold, [idCell(it.hold), momentCell(it.at), cell(it.by), cell(it.note),
     buttonsCell(button("Take the hold off", () => unhold(lot.lot, it.hold)))]));
-  const tools = [lot.held && pill("on hold", "warn"), self.recalled && pill("recalled", "bad"), button("Label", () => showLabels(lot.lot)), button("Hold", () => hold(lot.lot)),
-    button("Recall", () => recall(lot.lot, forward), "bad")];
+  const tools = [lot.held && pill("on hold", "warn"), self.recalled && pill("recalled", "bad"), button("Label", () => showLabels(lot.lot)),
+    button("Hold", () => hold(lot.lot)), button("Recall", () => recall(lot.lot, forward), "bad")];
   return card(`Lot ${lot.lot}`, tools,
     facts(fact("Material", link("warehouse/" + lot.def, lot.def)), fact("Stock", grouped(lot.stock), " ", self.unit),
       lot.sublots.filter((it) => it.stock || lot.sublots.length === 1).map((it) =>
@@ -1040,7 +1043,8 @@ async function lookAgain() {
   if (document.hidden || sending || dialog.open) return;
   drawWaiting();
   try {
-    const isNew = await desk.look(), isAtWork = { planner: chosenOrders, warehouse: chosen }[place()[0]]?.size > 0 || (isWriting() && view.contains(document.activeElement));
+    const isNew = await desk.look(), areChosen = { planner: chosenOrders, warehouse: chosen }[place()[0]]?.size > 0;
+    const isAtWork = areChosen || (isWriting() && view.contains(document.activeElement));
     if (isNew && isAtWork) drawNew();
     else if (isNew || (isDayOver() && !isAtWork) || at("stand").textContent === "no answer") show();
   } catch { tellStatus("bad", "no answer"); }
@@ -1056,4 +1060,4 @@ show();
 "##;
 
 /// Its entity tag.
-pub const VIEWS_TAG: &str = "\"332711bc764399509441517995698da4\"";
+pub const VIEWS_TAG: &str = "\"29a997fb90bf555dd1685f6dfc5d74cd\"";

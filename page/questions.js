@@ -108,6 +108,9 @@ export const desk = {
   foundBatch: (id) => found("/v1/batches/" + id),
   foundOrder: (id) => found("/v1/orders/" + id),
 
+  // The operator whom a login names, null where the desk looks at no login.
+  loggedIn: async () => (await found("/v1/operator"))?.operator ?? null,
+
   definition: (id) => found("/v1/definitions/" + id),
   recipe: (id, version) => asked(`/v1/recipes/${id}/${version}`),
   foundRecipe: (id, version) => found(`/v1/recipes/${id}/${version}`),

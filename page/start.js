@@ -4,7 +4,7 @@ import { ID_RULE } from "./ids.js";
 import { lotOf } from "./scans.js";
 import { at, dialog, h, operator, view } from "./elements.js";
 import { keep, kept } from "./store.js";
-import { nameOperator } from "./who.js";
+import { nameByLogin, nameOperator } from "./who.js";
 import { focusAgain, isWriting } from "./focus.js";
 import { listenToScans, onceAlone, tone } from "./scanner.js";
 import { button, go, notice } from "./parts.js";
@@ -102,7 +102,7 @@ addEventListener("keydown", (event) => {
 });
 Object.assign(VIEWS, { planner, shift, warehouse, quality });
 operator.value = kept("operator", "");
-operator.addEventListener("input", () => keep("operator", operator.value));
+operator.addEventListener("input", () => operator.readOnly || keep("operator", operator.value));
 operator.addEventListener("change", () => nameOperator(operator.value));
 operator.addEventListener("keydown", (event) => { if (event.key === "Enter") view.focus(); });
 
@@ -125,4 +125,4 @@ addEventListener("storage", drawWaiting);
 addEventListener("desk-named", drawWaiting);
 addEventListener("hashchange", () => { if (dialog.open && !sending) dialog.close(); show(); });
 drawWaiting();
-show();
+desk.loggedIn().then(nameByLogin).catch((error) => notice("bad", whyNot(error))).then(show);

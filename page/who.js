@@ -7,10 +7,20 @@ import { keep, kept } from "./store.js";
 export const operatorName = () => operator.value.trim();
 export const hasOperator = () => operatorName() !== "" && operator.checkValidity();
 
+// The operator whom a login names, null where none does. The desk takes the bookings of nobody else then, so that the name can't be changed, and nobody is
+// asked for it.
+let ofLogin = null;
+export function nameByLogin(name) {
+  ofLogin = name;
+  operator.readOnly = name !== null;
+  operator.title = name === null ? "" : "The operator is who is logged in.";
+  if (name !== null) operator.value = name;
+}
+
 // So many seconds without a key, a pointer or a scan leave it in doubt who is there, until somebody says so.
 const IDLE = 30 * 60;
 const isIdle = () => clock() - kept("active", clock()) > IDLE;
-export const isInDoubt = () => hasOperator() && isIdle();
+export const isInDoubt = () => ofLogin === null && hasOperator() && isIdle();
 
 // Notes that somebody is there, every few seconds at most. Once it is in doubt who that is, only a name ends the doubt.
 const OFTEN = 10;
@@ -21,6 +31,7 @@ for (const it of ["keydown", "pointerdown"]) addEventListener(it, seen, true);
 seen();
 
 export function nameOperator(name) {
+  if (ofLogin !== null) return;
   operator.value = name.trim();
   keep("operator", operator.value);
   keep("active", clock());

@@ -89,7 +89,7 @@ export function plainly({ status, body }) {
   if (body.name) return `${REFUSALS[body.name] || "The desk refuses that."} (${body.name})`;
   if (body.fault === 2) return "The desk is out of memory for now. Nothing has changed: try again.";
   if (body.fault) return "The desk's store failed. Somebody has to look at the machine of the desk.";
-  if (status === 403) return "The desk doesn't serve this page under this name. (403)";
+  if (status === 403) return "The desk doesn't serve this page under this name, or to who is logged in. (403)";
   if (status === 413) return "That is longer than 262,144 bytes. (413)";
   return `The desk doesn't know that. (${status})`;
 }

@@ -8,6 +8,9 @@ from tests.support.pages import MORNINGS, BrowserTestCase
 
 FORM = "document.querySelector('dialog[open]')"
 
+# The field by which a proxy says who is logged in.
+FIELD = "X-Operator"
+
 # More than half an hour, in seconds.
 LONG = 1801
 
@@ -75,6 +78,33 @@ class Operators(BrowserTestCase):
         tab.click("Receive a lot")
         tab.has("as carl", FORM)
         self.check("whether it asks again", self.buttons(tab), [])
+
+    def log_in(self, tab: Tab, name: str) -> None:
+        """Has all requests of a tab pass a login, as a proxy has them, and loads the page anew."""
+        tab.call("Network.setExtraHTTPHeaders", headers={FIELD: name} if name else {})
+        tab.run("delete view.dataset.ready")
+        tab.call("Page.reload")
+        tab.until("document.getElementById('view') && document.getElementById('view').dataset.ready", "the page")
+
+    def test_operator_of_a_login_is_shown_and_cannot_be_another(self) -> None:
+        self.serve("--operator-field", FIELD)
+        tab = self.open("warehouse/FLOUR")
+        tab.has("or to who is logged in. (403)")
+        self.log_in(tab, "erna")
+        self.check("the operator in the header", tab.run("[operator.value, operator.readOnly]"), ["erna", True])
+        tab.fill("operator", "anna")
+        self.check("the operator once another is typed", tab.run("operator.value"), "erna")
+        self.leave(tab, "anna", "ben")
+        tab.click("Receive a lot")
+        tab.has("as erna", f"{FORM}.querySelector('.end')")
+        self.check("whether it asks", self.buttons(tab), [])
+        tab.fill("lot", "F-3")
+        tab.fill("amount", 5)
+        tab.click("Receive", within=FORM)
+        tab.has(f"Number {MORNINGS + 1}. By erna.")
+        self.log_in(tab, "fritz")
+        self.check("the operator of another login", tab.run("operator.value"), "fritz")
+        self.check("what the console tells of errors", tab.errors(), [])
 
     def test_press_without_a_form_asks_once(self) -> None:
         self.serve()

@@ -56,9 +56,9 @@ def moved(due: str, now: int) -> str:
 class ServedDesk:
     """A desk over a file that is served with the page, and can be killed and started again at its port."""
 
-    def __init__(self, desk: Program, file: File) -> None:
-        self.desk, self.file = desk, file
-        self.server = Server(desk, file, CONNECTIONS, "--page", "--ahead", "0")
+    def __init__(self, desk: Program, file: File, *options: str) -> None:
+        self.desk, self.file, self.options = desk, file, ("--page", "--ahead", "0", *options)
+        self.server = Server(desk, file, CONNECTIONS, *self.options)
         self.url = f"http://127.0.0.1:{self.server.port}/"
 
     def ask(self, path: str) -> Json:
@@ -86,7 +86,7 @@ class ServedDesk:
 
     def start_again(self, file: File | None = None) -> None:
         """Starts the desk again at the port that it had, or another desk there, whose file is given."""
-        self.server = Server(self.desk, file or self.file, CONNECTIONS, "--page", "--ahead", "0", port=self.server.port)
+        self.server = Server(self.desk, file or self.file, CONNECTIONS, *self.options, port=self.server.port)
 
     def end(self) -> None:
         """Ends the desk."""
@@ -116,12 +116,12 @@ class BrowserTestCase(DeskTestCase):
         ended = Program("desk", cls.mornings.parent).run("run", cls.mornings.name, told=mornings(int(time.time())))
         cls.check_set_up("the mornings", (ended.status, ended.output.count(b'"ok"')), (0, MORNINGS))
 
-    def serve(self, is_empty: bool = False, begun: pathlib.Path | None = None) -> ServedDesk:
+    def serve(self, *options: str, is_empty: bool = False, begun: pathlib.Path | None = None) -> ServedDesk:
         """Serves a desk of the test's own, which begins as a file that is given, else with the mornings where it isn't to be empty."""
         file = self.folder / "plant.db"
         if not is_empty:
             shutil.copy(begun or self.mornings, file)
-        self.served = ServedDesk(self.desk, file)
+        self.served = ServedDesk(self.desk, file, *options)
         self.addCleanup(self.served.end)
         return self.served
 

@@ -271,7 +271,7 @@ function plainly({ status, body }) {
   if (body.name) return `${REFUSALS[body.name] || "The desk refuses that."} (${body.name})`;
   if (body.fault === 2) return "The desk is out of memory for now. Nothing has changed: try again.";
   if (body.fault) return "The desk's store failed. Somebody has to look at the machine of the desk.";
-  if (status === 403) return "The desk doesn't serve this page under this name. (403)";
+  if (status === 403) return "The desk doesn't serve this page under this name, or to who is logged in. (403)";
   if (status === 413) return "That is longer than 262,144 bytes. (413)";
   return `The desk doesn't know that. (${status})`;
 }
@@ -400,9 +400,16 @@ function forgetTyped(form) {
 }
 const operatorName = () => operator.value.trim();
 const hasOperator = () => operatorName() !== "" && operator.checkValidity();
+let ofLogin = null;
+function nameByLogin(name) {
+  ofLogin = name;
+  operator.readOnly = name !== null;
+  operator.title = name === null ? "" : "The operator is who is logged in.";
+  if (name !== null) operator.value = name;
+}
 const IDLE = 30 * 60;
 const isIdle = () => clock() - kept("active", clock()) > IDLE;
-const isInDoubt = () => hasOperator() && isIdle();
+const isInDoubt = () => ofLogin === null && hasOperator() && isIdle();
 const OFTEN = 10;
 function seen() {
   if (!isIdle() && Math.abs(clock() - kept("active", 0)) >= OFTEN) keep("active", clock());
@@ -410,6 +417,7 @@ function seen() {
 for (const it of ["keydown", "pointerdown"]) addEventListener(it, seen, true);
 seen();
 function nameOperator(name) {
+  if (ofLogin !== null) return;
   operator.value = name.trim();
   keep("operator", operator.value);
   keep("active", clock());
@@ -642,6 +650,7 @@ const desk = {
   foundLot: (id) => found("/v1/lots/" + id),
   foundBatch: (id) => found("/v1/batches/" + id),
   foundOrder: (id) => found("/v1/orders/" + id),
+  loggedIn: async () => (await found("/v1/operator"))?.operator ?? null,
   definition: (id) => found("/v1/definitions/" + id),
   recipe: (id, version) => asked(`/v1/recipes/${id}/${version}`),
   foundRecipe: (id, version) => found(`/v1/recipes/${id}/${version}`),
@@ -1296,4 +1305,4 @@ function bookingForm(title, fields, label, take, more) {
 "##;
 
 /// Its entity tag.
-pub const SCRIPT_TAG: &str = "\"2f390d9007891c54e42cdb2698792ab0\"";
+pub const SCRIPT_TAG: &str = "\"39dffbd41bbf621ed689514664696f39\"";

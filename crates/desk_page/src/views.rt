@@ -1035,7 +1035,7 @@ addEventListener("keydown", (event) => {
 });
 Object.assign(VIEWS, { planner, shift, warehouse, quality });
 operator.value = kept("operator", "");
-operator.addEventListener("input", () => keep("operator", operator.value));
+operator.addEventListener("input", () => operator.readOnly || keep("operator", operator.value));
 operator.addEventListener("change", () => nameOperator(operator.value));
 operator.addEventListener("keydown", (event) => { if (event.key === "Enter") view.focus(); });
 const TURN = 20;
@@ -1056,8 +1056,8 @@ addEventListener("storage", drawWaiting);
 addEventListener("desk-named", drawWaiting);
 addEventListener("hashchange", () => { if (dialog.open && !sending) dialog.close(); show(); });
 drawWaiting();
-show();
+desk.loggedIn().then(nameByLogin).catch((error) => notice("bad", whyNot(error))).then(show);
 "##;
 
 /// Its entity tag.
-pub const VIEWS_TAG: &str = "\"29a997fb90bf555dd1685f6dfc5d74cd\"";
+pub const VIEWS_TAG: &str = "\"9968d30591e1e01caf8060719e642dd0\"";

@@ -237,7 +237,7 @@ function newRecipe(values = {}) {
     halfField("min", "amount", "Least size of an order"), halfField("max", "amount", "Greatest size"),
     { name: "lines", kind: "lines", label: "Lines", hint: LINES_HINT, more: { placeholder: LINES_EXAMPLE } },
   ].map((it) => ({ ...it, value: values[it.name] ?? it.value }));
-  bookingForm("New recipe", fields, "Make a draft", ({ lines: text, ...header }, tell) => {
+  bookingForm(values.recipe ? `New version of recipe ${values.recipe}` : "New recipe", fields, "Make a draft", ({ lines: text, ...header }, tell) => {
     const [lines, wrong] = recipeLines(text);
     return wrong || tell(`Recipe ${header.recipe} ${header.version} drafted`, { do: "add_recipe", ...header, lines });
   });

@@ -168,7 +168,7 @@ class Orders(BrowserTestCase):
         tab = self.open("planner")
         tab.click("Lines", row="BREAD 1")
         tab.click("New version from this one", within=FORM)
-        tab.has("New recipe", FORM)
+        tab.has("New version of recipe BREAD", FORM)
         before = self.served.ask("/recipes/BREAD/1")
         self.check("the fields", [tab.value(it) for it in ("recipe", "version", "title", "product", "base", "min", "max")],
                    ["BREAD", "2", *(str(before[it]) for it in ("title", "product", "base", "min", "max"))])
@@ -178,7 +178,7 @@ class Orders(BrowserTestCase):
         self.check("its lines", self.served.ask("/recipes/BREAD/2")["lines"], before["lines"])
         tab.click("Lines", row="BREAD 1")
         tab.click("New version from this one", within=FORM)
-        tab.has("New recipe", FORM)
+        tab.has("New version of recipe BREAD", FORM)
         self.check("the next version", tab.value("version"), "3")
         self.end(tab, MORNINGS + 1)
 

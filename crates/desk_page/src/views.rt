@@ -521,7 +521,7 @@ function newRecipe(values = {}) {
     halfField("min", "amount", "Least size of an order"), halfField("max", "amount", "Greatest size"),
     { name: "lines", kind: "lines", label: "Lines", hint: LINES_HINT, more: { placeholder: LINES_EXAMPLE } },
   ].map((it) => ({ ...it, value: values[it.name] ?? it.value }));
-  bookingForm("New recipe", fields, "Make a draft", ({ lines: text, ...header }, tell) => {
+  bookingForm(values.recipe ? `New version of recipe ${values.recipe}` : "New recipe", fields, "Make a draft", ({ lines: text, ...header }, tell) => {
     const [lines, wrong] = recipeLines(text);
     return wrong || tell(`Recipe ${header.recipe} ${header.version} drafted`, { do: "add_recipe", ...header, lines });
   });
@@ -1060,4 +1060,4 @@ desk.loggedIn().then(nameByLogin).catch((error) => notice("bad", whyNot(error)))
 "##;
 
 /// Its entity tag.
-pub const VIEWS_TAG: &str = "\"9968d30591e1e01caf8060719e642dd0\"";
+pub const VIEWS_TAG: &str = "\"c1754203d6a8c17b9df1db9398158ba1\"";

@@ -115,11 +115,11 @@ class Views(BrowserTestCase):
         tab.key("Escape")
         self.served.start_again()
         tab.click("Try again")
-        tab.has("Batch B-2")
+        tab.has("Batch B-3")
         self.served.kill()
         tab.run("show()")
         tab.has("The desk doesn't answer.", "document.getElementById('notice')")
-        tab.has("Batch B-2")
+        tab.has("Batch B-3")
 
     def test_day_that_is_over_is_seen_without_a_booking(self) -> None:
         self.serve()

@@ -8,7 +8,6 @@ import time
 from tests.support import Json
 from tests.support.browser import Tab
 from tests.support.pages import BrowserTestCase
-from tests.support.program import Program
 
 FORM = "document.querySelector('dialog[open]')"
 BUTTON = f"{FORM}.querySelector('.end button:last-child')"
@@ -86,9 +85,7 @@ class AllInputs(BrowserTestCase):
     @classmethod
     def setUpClass(cls) -> None:
         super().setUpClass()
-        cls.stocked = cls.class_folder() / "stocked.db"
-        ended = Program("desk", cls.stocked.parent).run("run", cls.stocked.name, told=stocked())
-        cls.check_set_up("the lots", (ended.status, ended.output.count(b'"ok"')), (0, BEGUN))
+        cls.stocked = cls.made("stocked", stocked())
 
     def open_form(self, width: int = 1280) -> Tab:
         """Opens the form of all inputs of the batch."""

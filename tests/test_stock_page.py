@@ -8,7 +8,6 @@ import time
 from tests.support import Json
 from tests.support.browser import Tab
 from tests.support.pages import BrowserTestCase
-from tests.support.program import Program
 
 FORM = "document.querySelector('dialog[open]')"
 
@@ -92,10 +91,7 @@ class Stock(BrowserTestCase):
     @classmethod
     def setUpClass(cls) -> None:
         super().setUpClass()
-        cls.stocked = cls.class_folder() / "stocked.db"
-        told = stocked()
-        ended = Program("desk", cls.stocked.parent).run("run", cls.stocked.name, told=told)
-        cls.check_set_up("the lots", (ended.status, ended.output.count(b'"ok"')), (0, told.count(b"\n")))
+        cls.stocked = cls.made("stocked", stocked())
 
     def open_stocked(self, place: str) -> Tab:
         """Opens a view of that desk."""

@@ -112,9 +112,15 @@ class BrowserTestCase(DeskTestCase):
             raise unittest.SkipTest("there is no chromium")
         cls.browser = Browser(cls.NAMES)
         cls.addClassCleanup(cls.browser.end)
-        cls.mornings = cls.class_folder() / "mornings.db"
-        ended = Program("desk", cls.mornings.parent).run("run", cls.mornings.name, told=mornings(int(time.time())))
-        cls.check_set_up("the mornings", (ended.status, ended.output.count(b'"ok"')), (0, MORNINGS))
+        cls.mornings = cls.made("mornings", mornings(int(time.time())))
+
+    @classmethod
+    def made(cls, name: str, told: bytes) -> pathlib.Path:
+        """Makes a desk of lines of commands, which are all accepted, and returns its file."""
+        file = cls.class_folder() / f"{name}.db"
+        ended = Program("desk", file.parent).run("run", file.name, told=told)
+        cls.check_set_up(name, (ended.status, ended.output.count(b'"ok"')), (0, told.count(b"\n")))
+        return file
 
     def serve(self, *options: str, is_empty: bool = False, begun: pathlib.Path | None = None) -> ServedDesk:
         """Serves a desk of the test's own, which begins as a file that is given, else with the mornings where it isn't to be empty."""

@@ -6,7 +6,9 @@ asked by GET.
 from __future__ import annotations
 
 import json
+import os
 import pathlib
+import pwd
 import shutil
 import subprocess
 import time
@@ -237,7 +239,7 @@ class BehindAProxy(DeskTestCase):
         (self.folder / "users").write_text("anna:{PLAIN}a\nbob:{PLAIN}b\n")
         at = self.folder / "nginx.conf"
         at.write_text(f"""
-daemon off; pid {self.folder}/nginx.pid; error_log stderr; worker_processes 1;
+daemon off; pid {self.folder}/nginx.pid; error_log stderr; worker_processes 1; user {pwd.getpwuid(os.geteuid()).pw_name};
 events {{ worker_connections 16; }}
 http {{
     access_log off; client_body_temp_path {self.folder}/body; proxy_temp_path {self.folder}/proxy;

@@ -100,6 +100,11 @@ MOVEMENT = exact(
     to=or_null(ID), to_sub=or_null(SUB),
 )
 LOTS_AT = rows(exact(def_=ID, held=BOOL, lot=ID, recalled=BOOL, stock=COUNT, sublots=SUBLOTS))
+BALANCES = rows(exact(
+    def_=ID, entered=exact(merged=COUNT, produced=COUNT, received=COUNT, split=COUNT), held=BOOL,
+    left=exact(consumed=COUNT, merged=COUNT, scrapped=COUNT, split=COUNT), lot=ID, recalled=BOOL, stock=COUNT, sublots=SUBLOTS, unit=or_null(UNIT),
+))
+NEEDS = rows(exact(asked=COUNT, def_=ID, short=COUNT, unit=or_null(UNIT), usable=COUNT))
 STOCKED_LOT = exact(
     at=or_null(MOMENT), by=or_null(TEXT), held=BOOL, lot=ID, note=or_null(TEXT), recalled=BOOL, seq=or_null(SEQ), stock=AMOUNT, sublots=SUBLOTS,
 )
@@ -129,9 +134,11 @@ def answers(states_of_orders: Schema, states_of_recipes: Schema, commands: Itera
         "back": exact(nodes=NODES),
         "forward": exact(nodes=NODES),
         "stands": exact(lots=LOTS_AT),
+        "balance": exact(lots=BALANCES),
         "back_edges": EDGES,
         "forward_edges": EDGES,
         "recall": exact(lot=ID, nodes=NODES, recall=ID, state=words("open", "lifted")),
+        "needs": exact(needs=NEEDS),
         "definition": exact(class_=ID, def_=ID, name=TEXT, unit=UNIT),
         "recipe": exact(
             base=AMOUNT, lines=rows(RECIPE_LINE), max=AMOUNT, min=AMOUNT, product=ID, recipe=ID, state=states_of_recipes, title=TEXT,
@@ -200,16 +207,19 @@ QUESTIONS = {
     "/v1/desk": "desk",
     "/v1/moment": "moment",
     "/v1/orders/{order}": "order",
+    "/v1/orders/{order}/needs": "needs",
     "/v1/lots/{lot}": "lot",
     "/v1/lots/{lot}/back": "back",
     "/v1/lots/{lot}/forward": "forward",
     "/v1/lots/{lot}/stands": "stands",
+    "/v1/lots/{lot}/balance": "balance",
     "/v1/lots/{lot}/back_edges": "back_edges",
     "/v1/lots/{lot}/forward_edges": "forward_edges",
     "/v1/batches/{batch}": "batch",
     "/v1/batches/{batch}/back": "back",
     "/v1/batches/{batch}/forward": "forward",
     "/v1/batches/{batch}/stands": "stands",
+    "/v1/batches/{batch}/balance": "balance",
     "/v1/batches/{batch}/back_edges": "back_edges",
     "/v1/batches/{batch}/forward_edges": "forward_edges",
     "/v1/batches/{batch}/lines": "batch_lines",

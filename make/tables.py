@@ -330,6 +330,7 @@ LOOKUPS = [
     ("sublot_by_key", "sublot", "lot no"),
     ("sublots_of_lot", "sublot", "lot"),
     ("movements_of_batch", "movement", "batch"),
+    ("movements_of_lot", "movement", "lot"),
     ("movements_of_lot_and_kind", "movement", "lot kind"),
     ("movements_into_lot", "movement", "lot2"),
     ("hold_by_key", "hold", "lot id"),

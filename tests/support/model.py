@@ -14,7 +14,8 @@ from collections.abc import Callable, Collection, Iterable, Iterator, Mapping, S
 
 from tests.support import Json
 from tests.support.commands import (
-    GOODS, MOST, add_recipe, approve, compact, consume, hold, import_orders, merge, phase_done, produce, recall, receive, release, say, settle, split,
+    GOODS, MOST, add_recipe, approve, compact, consume, hold, import_orders, merge, phase_done, produce, recall, receive, release, say, scrap, settle,
+    split,
 )
 from tests.support.sessions import Session
 from tests.support.sqlite import Node, reached
@@ -241,6 +242,7 @@ class Genealogy:
         self.chance = numbers
         self.stock: dict[str, int] = {}
         self.births: dict[str, int] = {}
+        self.flows: dict[str, dict[str, dict[str, int]]] = {}
         self.edges: dict[Node, list[Node]] = {}
         self.amounts: dict[tuple[Node, Node], int] = {}
         self.nodes = [(BATCH, f"B-{it}") for it in range(BATCHES)]
@@ -249,10 +251,12 @@ class Genealogy:
         for it in range(BATCHES):
             self.session.accepted(release(f"O-{it}", f"B-{it}"), say("start", f"B-{it}"))
 
-    def enter(self, amount: int, *sources: Node) -> str:
+    def enter(self, how: str, amount: int, *sources: Node) -> str:
         """Adds a lot that came of these nodes, of each by as much, and returns its id: the first ones have the ids of the batches."""
         lot = f"B-{len(self.stock)}" if len(self.stock) < BATCHES else f"L-{len(self.stock)}"
         self.stock[lot] = amount
+        entered, left = dict.fromkeys(("merged", "produced", "received", "split"), 0), dict.fromkeys(("consumed", "merged", "scrapped", "split"), 0)
+        self.flows[lot] = {"entered": {**entered, how: amount}, "left": left}
         self.births[lot] = self.session.count() + 1
         self.nodes.append((LOT, lot))
         for it in sources:
@@ -264,28 +268,37 @@ class Genealogy:
         self.edges.setdefault(start, []).append(end)
         self.amounts[start, end] = self.amounts.get((start, end), 0) + amount
 
+    def leave(self, how: str, amount: int, lot: str) -> None:
+        """Takes an amount from a lot."""
+        self.stock[lot] -= amount
+        self.flows[lot]["left"][how] += amount
+
     def book(self) -> None:
         """Books something, or has it refused where a batch would take what came of it."""
         known, batch = [it for it, stock in self.stock.items() if stock >= 3], self.chance.choice(self.nodes[:BATCHES])
-        way = self.chance.choice(["receive", "split", "merge", "consume", "produce"]) if known else "receive"
+        way = self.chance.choice(["receive", "split", "merge", "consume", "produce", "scrap"]) if known else "receive"
         amount = self.chance.randint(1, 3)
         if way == "receive":
-            self.session.accepted(receive(self.enter(90), 90))
+            self.session.accepted(receive(self.enter("received", 90), 90))
         elif way == "split":
             lot = self.chance.choice(known)
-            self.stock[lot] -= amount
-            self.session.accepted(split(lot, amount, self.enter(amount, (LOT, lot))))
+            self.leave("split", amount, lot)
+            self.session.accepted(split(lot, amount, self.enter("split", amount, (LOT, lot))))
+        elif way == "scrap":
+            lot = self.chance.choice(known)
+            self.leave("scrapped", amount, lot)
+            self.session.accepted(scrap(lot, amount))
         elif way == "merge":
             self.merge(self.chance.sample(known, min(len(known), self.chance.randint(1, 3))), amount)
         elif way == "produce":
-            self.session.accepted(produce(batch[1], self.enter(amount, batch), "SUGAR", amount))
+            self.session.accepted(produce(batch[1], self.enter("produced", amount, batch), "SUGAR", amount))
         else:
             self.consume(batch, self.chance.choice(known), amount)
 
     def merge(self, lots: Sequence[str], amount: int) -> None:
         for it in lots:
-            self.stock[it] -= amount
-        new = self.enter(amount * len(lots), *((LOT, it) for it in lots))
+            self.leave("merged", amount, it)
+        new = self.enter("merged", amount * len(lots), *((LOT, it) for it in lots))
         self.session.accepted(merge([(it, 0, amount) for it in lots], new))
 
     def consume(self, batch: Node, lot: str, amount: int) -> None:
@@ -294,7 +307,7 @@ class Genealogy:
             self.session.refused("OwnProduct", 26, body)
         else:
             self.session.accepted(body)
-            self.stock[lot] -= amount
+            self.leave("consumed", amount, lot)
             self.lead((LOT, lot), batch, amount)
 
     def ask(self) -> Session:
@@ -309,7 +322,9 @@ class Genealogy:
                 found = reached(edges, (kind, name))
                 self.session.asked(compact({"ask": word, **asked}), compact({"nodes": nodes_told(found - {(kind, name)})}))
                 self.session.asked(compact({"ask": f"{word}_edges", **asked}), compact(self.genealogy(found)))
-            self.session.asked(compact({"ask": "stands", **asked}), compact({"lots": self.standing(reached(self.edges, (kind, name)))}))
+            found = reached(self.edges, (kind, name))
+            self.session.asked(compact({"ask": "stands", **asked}), compact({"lots": self.standing(found)}))
+            self.session.asked(compact({"ask": "balance", **asked}), compact({"lots": self.balances(found)}))
         self.ask_stock(self.recall(self.chance.sample(sorted(self.stock), 4)), self.chance.sample(sorted(self.stock), 3))
         return self.session
 
@@ -351,6 +366,12 @@ class Genealogy:
         """Returns what is answered of those of the nodes that are lots with stock."""
         lots = [name for kind, name in sorted(nodes) if kind == LOT and self.stock[name]]
         return [{**self.known(it), "recalled": False, "sublots": [{"no": 0, "place": "", "stock": self.stock[it]}]} for it in lots]
+
+    def balances(self, nodes: Iterable[Node]) -> list[Json]:
+        """Returns what is answered of the balances of those of the nodes that are lots."""
+        lots = [name for kind, name in sorted(nodes) if kind == LOT]
+        sublots = {it: [{"no": 0, "place": "", "stock": self.stock[it]}] for it in lots}
+        return [{**self.known(it), **self.flows[it], "recalled": False, "sublots": sublots[it], "unit": "g"} for it in lots]
 
     def genealogy(self, nodes: Collection[Node]) -> Json:
         """Returns what is answered of the nodes, and of the edges between them: from lots to batches, from batches to lots, from lots to lots."""

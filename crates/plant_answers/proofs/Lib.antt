@@ -14,3 +14,6 @@ pub mod PlainTables
 pub mod ReachedIsTrace
 pub mod RecalledNodesAreListed
 pub mod TotalStockFits
+pub mod FlowsFit
+pub mod BalancesClose
+pub mod BalancesListReached

@@ -1,5 +1,5 @@
 -- What a reader looks for in the answers and tables of a state.
-use Rattle.std.specs.Prelude.{◌≡◌, ◌<◌, ◌↔◌, ◌⊎◌, ℕ, true, false, List, [], pos, Some, None, map, Contains}
+use Rattle.std.specs.Prelude.{◌≡◌, ◌<◌, ◌↔◌, ◌⊎◌, ◌+◌, ℕ, true, false, List, [], pos, Some, None, map, Contains}
 use Rattle.std.specs.List.Sorted.{IsStrictlySortedBy}
 use Rattle.std.specs.declared.cmp.Ordering.{Ordering}
 use Rattle.plant_base.specs.{edge_order, is_open, mark_order, State, newest_schema, id_cmp, lot_at, recall_at, Lot, Mark, Movement, Place, Recall}
@@ -10,10 +10,11 @@ use Rattle.plant_trace.specs.declared.node.Node.TheVariants as node
 use Rattle.plant_view.specs.{edge_row_of, edges_of, ends_of, Reaches, node_of, state_without_kept, tables_of, IsWholeIn, sublot_row}
 use Rattle.plant_view.specs.DecisionInvariant.{DecisionInvariant}
 use Rattle.plant_answers.specs.Answers.{answer}
+use Rattle.plant_answers.specs.Balances.{entered_in_all, left_in_all, lot_balance}
 use Rattle.plant_answers.specs.Genealogy.{amount_of, named}
 use Rattle.plant_answers.specs.Traces.{missing}
 use Rattle.plant_answers.specs.ListAnswers.{standing_lot}
-use Rattle.plant_questions.specs.{BookedEdge, Genealogy, RecallAnswer, StandingLot}
+use Rattle.plant_questions.specs.{BookedEdge, Genealogy, LotBalance, RecallAnswer, StandingLot}
 use Rattle.plant_questions.specs.declared.question.Question.TheVariants as Q
 use Rattle.plant_questions.specs.declared.question.Answer.TheVariants as A
 
@@ -42,6 +43,27 @@ abbrev pub StandsListReached : Type 0
 StandsListReached = (k : ℕ) (s : State) (start : Node) → missing s start ≡ None
     → (lots : List StandingLot) × (answer k s (Q.Stands start) ≡ A.Stands lots) × IsStrictlySortedBy standing_order lots
     × ((a : StandingLot) → Contains lots a ↔ StandsFrom s start a)
+
+-- what entered a lot that is there, that the start is or leads to, what left it, and what is there of it
+pub record BalancedFrom (s : State) (start : Node) (b : LotBalance) : Type 0 where
+  pub lot : Lot
+  pub reached : IsAround s Forward start (node.Lot b.standing.known.lot)
+  pub there : lot_at s b.standing.known.lot ≡ Some lot
+  pub reported : b ≡ lot_balance s lot
+
+abbrev pub balance_order : LotBalance → LotBalance → Ordering
+balance_order a b = id_cmp a.standing.known.lot b.standing.known.lot
+
+-- The balance of a lot or batch that is there: the answer lists just such lots, ascending, each once, and no other.
+abbrev pub BalancesListReached : Type 0
+BalancesListReached = (k : ℕ) (s : State) (start : Node) → missing s start ≡ None
+    → (lots : List LotBalance) × (answer k s (Q.Balance start) ≡ A.Balance lots) × IsStrictlySortedBy balance_order lots
+    × ((b : LotBalance) → Contains lots b ↔ BalancedFrom s start b)
+
+-- In a consistent state all that entered a lot in the answer is all that left it and the stock that is there.
+abbrev pub BalancesClose : Type 0
+BalancesClose = (k : ℕ) (s : State) (start : Node) (lots : List LotBalance) → DecisionInvariant s → answer k s (Q.Balance start) ≡ A.Balance lots
+    → (b : LotBalance) → Contains lots b → entered_in_all b.flows ≡ left_in_all b.flows + b.standing.known.stock
 
 -- an edge between nodes around the start, with the amounts of all movements that make it
 pub record IsBooked (s : State) (direction : Direction) (start : Node) (b : BookedEdge) : Type 0 where

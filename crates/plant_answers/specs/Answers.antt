@@ -2,11 +2,13 @@
 use Rattle.std.specs.Prelude.{ℕ, List, Option, Some, None, option_map}
 use Rattle.plant_base.specs.{State, definition_at, recipe_at, lot_at, job_at, batch_at, batch_of, recall_at, Job}
 use Rattle.plant_base.specs.declared.refusal.Refusal.TheVariants.{UnknownOrder}
+use Rattle.plant_answers.specs.Balances.{answer_balance}
 use Rattle.plant_answers.specs.Surroundings.{answer_stands}
 use Rattle.plant_answers.specs.BatchLines.{answer_batch_lines}
 use Rattle.plant_answers.specs.BatchViews.{answer_batch}
 use Rattle.plant_answers.specs.Genealogy.{answer_edges}
 use Rattle.plant_answers.specs.LotAnswers.{answer_lot}
+use Rattle.plant_answers.specs.Needs.{answer_needs}
 use Rattle.plant_answers.specs.RecallAnswers.{answer_recall}
 use Rattle.plant_answers.specs.RecipeAnswers.{answer_definition, answer_recipe}
 use Rattle.plant_answers.specs.Traces.{missing, answer_trace}
@@ -30,6 +32,7 @@ answer k s (Q.Order order) = answer_order s order (job_at s order)
 answer k s (Q.Batch batch) = answer_batch s (batch_at s batch)
 answer k s (Q.Trace direction start) = answer_trace s direction start (missing s start)
 answer k s (Q.Stands start) = answer_stands s start (missing s start)
+answer k s (Q.Balance start) = answer_balance s start (missing s start)
 answer k s (Q.Edges direction start) = answer_edges s direction start (missing s start)
 answer k s (Q.Recall recall) = answer_recall s (recall_at s recall)
 answer k s Q.Moment = A.Moment s.at
@@ -37,3 +40,4 @@ answer k s (Q.List list) = answer_list s list
 answer k s (Q.Definition def) = answer_definition (definition_at s def)
 answer k s (Q.Recipe recipe version) = answer_recipe s (recipe_at s recipe version)
 answer k s (Q.BatchLines batch) = answer_batch_lines s (batch_at s batch)
+answer k s (Q.Needs order) = answer_needs s (job_at s order)

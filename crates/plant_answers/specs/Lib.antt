@@ -1,6 +1,7 @@
 pub mod Answering
 pub mod Answers
 pub mod Surroundings
+pub mod Balances
 pub mod BatchLines
 pub mod BatchViews
 pub mod CommandHeads
@@ -11,6 +12,7 @@ pub mod AnswerLaws
 pub mod KnownLots
 pub mod LotAnswers
 pub mod ListAnswers
+pub mod Needs
 pub mod OpenBatches
 pub mod StandingLots
 pub mod RecallAnswers
@@ -25,7 +27,8 @@ pub use BatchViews.{booked_on, booking_in, consumption, is_consumed_by, is_produ
 unfoldable pub use BatchViews.{scrapped_of}
 pub use Booked.{Fits, IsSetOf, booked_at, booked_if, bookings_around, counted, is_booked, movements_at, reported_at, reported_by, sum_at, sum_with, summed, total_along}
 pub use Genealogy.{amount_of, answer_edges, booked_along, booked_edge, edges_between, genealogy_around, is_among, is_between, is_made, lot_node, named, node_answer, node_if}
-pub use AnswerLaws.{IsAround, IsBooked, StandsFrom, booked_order, standing_order}
+pub use AnswerLaws.{BalancedFrom, IsAround, IsBooked, StandsFrom, balance_order, booked_order, standing_order}
+pub use Balances.{answer_balance, balance_at, balance_if, balances_around, entered_in_all, flow_of, flows_of, left_in_all, lot_balance, moved}
 pub use KnownLots.{AreKnown, after_definition, after_lot, after_row, last_one}
 pub use LotAnswers.{answer_lot, lot_answer}
 pub use RecallAnswers.{answer_recall, recall_answer}

@@ -6,11 +6,13 @@ ghost use Rattle.plant_view.specs.DecisionInvariant.{DecisionInvariant};
 ghost use Rattle.plant_answers.specs.Answers.{answer, answer_order};
 ghost use Rattle.plant_questions.specs.declared.question.Answer.TheVariants as A;
 
+use crate::balances::balance_answer;
 use crate::batch_answers::batch_answer;
 use crate::batch_lines::batch_lines_answer;
 use crate::edge_answers::edges_answer;
 use crate::list_answers::list_answer;
 use crate::lot_answers::lot_answer;
+use crate::needs::needs_answer;
 use crate::recalls::recall_answer;
 use crate::recipe_answers::{definition_answer, recipe_answer};
 use crate::standing::stands_answer;
@@ -41,6 +43,7 @@ pub fn answer<V: Worklists>(
         Question::Batch(batch) => batch_answer(alloc, view, *batch),
         Question::Trace(direction, start) => trace_answer(alloc, view, *direction, *start),
         Question::Stands(start) => stands_answer(alloc, view, *start),
+        Question::Balance(start) => balance_answer(alloc, view, *start),
         Question::Edges(direction, start) => edges_answer(alloc, view, *direction, *start),
         Question::Recall(recall) => recall_answer(alloc, view, *recall),
         Question::Moment => moment_answer(view),
@@ -48,6 +51,7 @@ pub fn answer<V: Worklists>(
         Question::Definition(def) => definition_answer(view, *def),
         Question::Recipe(recipe, version) => recipe_answer(alloc, view, *recipe, *version),
         Question::BatchLines(batch) => batch_lines_answer(alloc, view, *batch),
+        Question::Needs(order) => needs_answer(alloc, view, *order),
     }
 }
 

@@ -4,6 +4,7 @@ ghost use Rattle.plant_answers.specs.AnswerLaws.{TracesListReached, ColumnIsStoc
 ghost use Rattle.plant_answers.specs.AnswerLaws.{TablesRepresentState, RecallsListReached};
 ghost use Rattle.plant_answers.specs.AnswerLaws.{MarksAreThePairs, StandsListReached};
 ghost use Rattle.plant_answers.specs.AnswerLaws.{EdgesAreBooked, NodesAreReached};
+ghost use Rattle.plant_answers.specs.AnswerLaws.{BalancesClose, BalancesListReached};
 
 /// A trace lists exactly what the least relation reaches that is closed under recorded consumption, production, split
 /// and merge.
@@ -15,6 +16,15 @@ pub fn trace_law()
 /// with what is known of each.
 pub fn stands_law()
     ensures { StandsListReached }
+{}
+
+/// The balance of a lot or batch lists exactly the lots that it is or that the least relation reaches from it, each with what
+/// entered it, what left it and what is there.
+///
+/// In a consistent state all that entered a lot is all that left it and its stock.
+pub fn balance_law()
+    ensures reached { BalancesListReached }
+    ensures closes { BalancesClose }
 {}
 
 /// The genealogy around a lot or batch has exactly the edges between it and what the least relation reaches from it, each with the

@@ -3,6 +3,7 @@
 
 mod answering;
 mod around;
+mod balances;
 mod batch_answers;
 mod batch_lines;
 mod booked;
@@ -15,6 +16,7 @@ mod known_lots;
 mod laws;
 mod list_answers;
 mod lot_answers;
+mod needs;
 mod open_batches;
 mod recalls;
 mod recipe_answers;
@@ -26,5 +28,6 @@ mod traces;
 
 pub use answering::answer;
 pub use laws::{
-    edges_law, marks_law, recall_answer_law, stands_law, stock_law, tables_law, trace_law,
+    balance_law, edges_law, marks_law, recall_answer_law, stands_law, stock_law, tables_law,
+    trace_law,
 };

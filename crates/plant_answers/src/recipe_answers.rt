@@ -50,7 +50,8 @@ pub(crate) fn recipe_answer<V: View>(
     Ok(Answer::Recipe(found_recipe(alloc, view, recipe)?))
 }
 
-fn found_recipe<V: View>(
+/// A version of a master recipe that is there, with its lines.
+pub(crate) fn found_recipe<V: View>(
     alloc: Global,
     view: &mut V,
     recipe: Recipe,

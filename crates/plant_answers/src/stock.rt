@@ -257,7 +257,8 @@ impl RowOf<StockedLot> for AgedLot {
     }
 }
 
-fn standing_lot<V: Worklists>(
+/// What is known of a lot, and whether an open recall reaches it.
+pub(crate) fn standing_lot<V: Worklists>(
     alloc: Global,
     view: &mut V,
     known: &mut KnownLots,

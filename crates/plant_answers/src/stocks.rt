@@ -50,8 +50,8 @@ pub(crate) fn stocks_page<V: Worklists>(
     }
 }
 
-// All lots that have stock, by their ids.
-fn all_in_stock<V: Worklists>(
+/// All lots that have stock, by their ids.
+pub(crate) fn all_in_stock<V: Worklists>(
     alloc: Global,
     view: &mut V,
 ) -> Result<Vec<StandingLot>, ViewFault<V::Fault>>
@@ -160,8 +160,8 @@ fn counted_in(part: Part, def: Id, lot: &StandingLot) -> u64
     }
 }
 
-// The sum as far as it fits.
-fn total_in(lots: &[StandingLot], part: Part, def: Id) -> u64
+/// The sum of what the lots of the definition are counted with, as far as it fits.
+pub(crate) fn total_in(lots: &[StandingLot], part: Part, def: Id) -> u64
     ensures { result ≡ total_in lots.now part def }
 {
     let mut total: u128 = 0;

@@ -7,7 +7,7 @@ ghost use Rattle.plant_questions.specs.{in_order};
 
 use crate::batches::batch_row;
 use crate::keys::copy_of;
-use crate::lots::{left_in, movements_into, stocked};
+use crate::lots::{left_in, movements_into, movements_of_lot, stocked};
 use crate::view::ListsView;
 use plant_base::{
     Batch, BatchEvent, BatchRow, Class, ControlLine, Definition, Due, Hold, Id, Job, JobState, Lot,
@@ -159,6 +159,10 @@ impl<'a> Worklists for ListsView<'a> {
 
     fn movements_into(&mut self, lot: Id) -> Result<Vec<Movement>, AllocError> {
         movements_into(self.lists.alloc, &self.lists.movements, lot)
+    }
+
+    fn movements_of_lot(&mut self, lot: Id) -> Result<Vec<Movement>, AllocError> {
+        movements_of_lot(self.lists.alloc, &self.lists.movements, lot)
     }
 
     fn lots_after(&mut self, cursor: Option<Id>) -> Result<Page<Lot>, AllocError> {

@@ -18,6 +18,7 @@ route_table =
     (codes "/v1/orders/{order}", route.Question (q.About topic.Order)) ∷
     (codes "/v1/batches/{batch}", route.Question (q.About topic.Batch)) ∷
     (codes "/v1/recalls/{recall}", route.Question (q.About topic.Recall)) ∷
+    (codes "/v1/orders/{order}/needs", route.Question (q.About topic.Needs)) ∷
     (codes "/v1/moment", route.Question (q.About topic.Moment)) ∷
     (codes "/v1/definitions/{def}", route.Question (q.About topic.Definition)) ∷
     (codes "/v1/recipes/{recipe}/{version}", route.Question (q.About topic.Recipe)) ∷
@@ -25,11 +26,13 @@ route_table =
     (codes "/v1/lots/{lot}/back", route.Question (q.Around around.Back node.Lot)) ∷
     (codes "/v1/lots/{lot}/forward", route.Question (q.Around around.Forward node.Lot)) ∷
     (codes "/v1/lots/{lot}/stands", route.Question (q.Around around.Stands node.Lot)) ∷
+    (codes "/v1/lots/{lot}/balance", route.Question (q.Around around.Balance node.Lot)) ∷
     (codes "/v1/lots/{lot}/back_edges", route.Question (q.Around around.BackEdges node.Lot)) ∷
     (codes "/v1/lots/{lot}/forward_edges", route.Question (q.Around around.ForwardEdges node.Lot)) ∷
     (codes "/v1/batches/{batch}/back", route.Question (q.Around around.Back node.Batch)) ∷
     (codes "/v1/batches/{batch}/forward", route.Question (q.Around around.Forward node.Batch)) ∷
     (codes "/v1/batches/{batch}/stands", route.Question (q.Around around.Stands node.Batch)) ∷
+    (codes "/v1/batches/{batch}/balance", route.Question (q.Around around.Balance node.Batch)) ∷
     (codes "/v1/batches/{batch}/back_edges", route.Question (q.Around around.BackEdges node.Batch)) ∷
     (codes "/v1/batches/{batch}/forward_edges", route.Question (q.Around around.ForwardEdges node.Batch)) ∷
     (codes "/v1/batches/{batch}/record", route.Record) ∷

@@ -32,6 +32,10 @@ pub(crate) fn routes() -> &'static [(&'static str, Route)]
             Route::Question(QuestionKind::About(Topic::Recall)),
         ),
         (
+            "/v1/orders/{order}/needs",
+            Route::Question(QuestionKind::About(Topic::Needs)),
+        ),
+        (
             "/v1/moment",
             Route::Question(QuestionKind::About(Topic::Moment)),
         ),
@@ -60,6 +64,10 @@ pub(crate) fn routes() -> &'static [(&'static str, Route)]
             Route::Question(QuestionKind::Around(Around::Stands, NodeKind::Lot)),
         ),
         (
+            "/v1/lots/{lot}/balance",
+            Route::Question(QuestionKind::Around(Around::Balance, NodeKind::Lot)),
+        ),
+        (
             "/v1/lots/{lot}/back_edges",
             Route::Question(QuestionKind::Around(Around::BackEdges, NodeKind::Lot)),
         ),
@@ -78,6 +86,10 @@ pub(crate) fn routes() -> &'static [(&'static str, Route)]
         (
             "/v1/batches/{batch}/stands",
             Route::Question(QuestionKind::Around(Around::Stands, NodeKind::Batch)),
+        ),
+        (
+            "/v1/batches/{batch}/balance",
+            Route::Question(QuestionKind::Around(Around::Balance, NodeKind::Batch)),
         ),
         (
             "/v1/batches/{batch}/back_edges",

@@ -31,6 +31,7 @@ about_made topic.Lot v = tt
 about_made topic.Order v = tt
 about_made topic.Batch v = tt
 about_made topic.Recall v = tt
+about_made topic.Needs v = tt
 about_made topic.Moment v = tt
 about_made topic.Definition v = tt
 about_made topic.Recipe v = tt

@@ -21,9 +21,11 @@ asked_kind word =
     if bytes_eq word (codes "order") then Some (asked.About topic.Order) else (
     if bytes_eq word (codes "batch") then Some (asked.About topic.Batch) else (
     if bytes_eq word (codes "recall") then Some (asked.About topic.Recall) else (
+    if bytes_eq word (codes "needs") then Some (asked.About topic.Needs) else (
     if bytes_eq word (codes "back") then Some (asked.Around around.Back) else (
     if bytes_eq word (codes "forward") then Some (asked.Around around.Forward) else (
     if bytes_eq word (codes "stands") then Some (asked.Around around.Stands) else (
+    if bytes_eq word (codes "balance") then Some (asked.Around around.Balance) else (
     if bytes_eq word (codes "back_edges") then Some (asked.Around around.BackEdges) else (
     if bytes_eq word (codes "forward_edges") then Some (asked.Around around.ForwardEdges) else (
     if bytes_eq word (codes "moment") then Some (asked.About topic.Moment) else (
@@ -46,7 +48,7 @@ asked_kind word =
     if bytes_eq word (codes "commands") then Some (asked.List list.Commands) else (
     if bytes_eq word (codes "stock") then Some (asked.List list.Stock) else (
     if bytes_eq word (codes "stocks") then Some (asked.List list.Stocks) else (
-    None)))))))))))))))))))))))))))))))
+    None)))))))))))))))))))))))))))))))))
 
 -- the members of a question besides its word, in the order in which problems are reported and a path has them
 abbrev pub question_members : QuestionKind → List Member
@@ -55,6 +57,7 @@ question_members (q.About topic.Lot) = m.Lot ∷ []
 question_members (q.About topic.Order) = m.Order ∷ []
 question_members (q.About topic.Batch) = m.Batch ∷ []
 question_members (q.About topic.Recall) = m.Recall ∷ []
+question_members (q.About topic.Needs) = m.Order ∷ []
 question_members (q.About topic.Moment) = []
 question_members (q.About topic.Definition) = m.Definition ∷ []
 question_members (q.About topic.Recipe) = m.Recipe ∷ m.Version ∷ []

@@ -62,6 +62,7 @@ about_by topic.Lot (field.Id lot ∷ []) = Some (Q.Lot lot)
 about_by topic.Order (field.Id order ∷ []) = Some (Q.Order order)
 about_by topic.Batch (field.Id batch ∷ []) = Some (Q.Batch batch)
 about_by topic.Recall (field.Id recall ∷ []) = Some (Q.Recall recall)
+about_by topic.Needs (field.Id order ∷ []) = Some (Q.Needs order)
 about_by topic.Moment ([]) = Some Q.Moment
 about_by topic.Definition (field.Id def ∷ []) = Some (Q.Definition def)
 about_by topic.Recipe (field.Id recipe ∷ field.Number version ∷ []) = Some (Q.Recipe recipe version)
@@ -72,6 +73,7 @@ abbrev pub around_by : Around → Node → Question
 around_by around.Back node = Q.Trace Back node
 around_by around.Forward node = Q.Trace Forward node
 around_by around.Stands node = Q.Stands node
+around_by around.Balance node = Q.Balance node
 around_by around.BackEdges node = Q.Edges Back node
 around_by around.ForwardEdges node = Q.Edges Forward node
 

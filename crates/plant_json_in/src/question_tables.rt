@@ -22,6 +22,8 @@ pub enum Topic {
     Batch,
     /// What is known of a recall.
     Recall,
+    /// What an order needs, and what there is of it.
+    Needs,
     /// When the last accepted command was given.
     Moment,
     /// What is known of a definition.
@@ -41,6 +43,8 @@ pub enum Around {
     Forward,
     /// Where its goods are.
     Stands,
+    /// What entered its lots, what left them, and what is there.
+    Balance,
     /// The genealogy back from it.
     BackEdges,
     /// The genealogy forward from it.
@@ -127,9 +131,11 @@ pub fn asked_kind(word: &str) -> Option<AskedKind>
         "order" => Some(AskedKind::About(Topic::Order)),
         "batch" => Some(AskedKind::About(Topic::Batch)),
         "recall" => Some(AskedKind::About(Topic::Recall)),
+        "needs" => Some(AskedKind::About(Topic::Needs)),
         "back" => Some(AskedKind::Around(Around::Back)),
         "forward" => Some(AskedKind::Around(Around::Forward)),
         "stands" => Some(AskedKind::Around(Around::Stands)),
+        "balance" => Some(AskedKind::Around(Around::Balance)),
         "back_edges" => Some(AskedKind::Around(Around::BackEdges)),
         "forward_edges" => Some(AskedKind::Around(Around::ForwardEdges)),
         "moment" => Some(AskedKind::About(Topic::Moment)),
@@ -167,6 +173,7 @@ pub fn question_members(kind: QuestionKind) -> &'static [Member]
         QuestionKind::About(Topic::Order) => &[Order],
         QuestionKind::About(Topic::Batch) => &[Batch],
         QuestionKind::About(Topic::Recall) => &[Recall],
+        QuestionKind::About(Topic::Needs) => &[Order],
         QuestionKind::About(Topic::Moment) => &[],
         QuestionKind::About(Topic::Definition) => &[Definition],
         QuestionKind::About(Topic::Recipe) => &[Recipe, Version],

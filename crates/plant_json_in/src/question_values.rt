@@ -92,6 +92,7 @@ fn about_by(topic: Topic, fields: &[Field]) -> Option<Question>
         (Topic::Order, &[Field::Id(order)]) => Some(Question::Order(order)),
         (Topic::Batch, &[Field::Id(batch)]) => Some(Question::Batch(batch)),
         (Topic::Recall, &[Field::Id(recall)]) => Some(Question::Recall(recall)),
+        (Topic::Needs, &[Field::Id(order)]) => Some(Question::Needs(order)),
         (Topic::Moment, &[]) => Some(Question::Moment),
         (Topic::Definition, &[Field::Id(def)]) => Some(Question::Definition(def)),
         (Topic::Recipe, &[Field::Id(recipe), Field::Number(version)]) => {
@@ -109,6 +110,7 @@ fn around_by(around: Around, node: Node) -> Question
         Around::Back => Question::Trace(Direction::Back, node),
         Around::Forward => Question::Trace(Direction::Forward, node),
         Around::Stands => Question::Stands(node),
+        Around::Balance => Question::Balance(node),
         Around::BackEdges => Question::Edges(Direction::Back, node),
         Around::ForwardEdges => Question::Edges(Direction::Forward, node),
     }

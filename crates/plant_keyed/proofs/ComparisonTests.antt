@@ -57,6 +57,10 @@ same_other _ lot = refl
 pub into_is : (m : Movement) (lot : List ℕ) → has_values (6 ∷ []) (Text lot ∷ []) (row_of_movement m) ≡ is_named lot (other_lot m.kind m.lot)
 into_is m lot = and_true _ ∙ named_is lot (column_lot m.kind m.lot) ∙ ap (is_named lot) (same_other m.kind m.lot)
 
+-- a movement whose own lot it is
+pub own_is : (m : Movement) (lot : List ℕ) → has_values (4 ∷ []) (Text lot ∷ []) (row_of_movement m) ≡ same m.lot lot
+own_is m lot = one_text m.lot lot
+
 -- a movement of a lot that scraps
 pub scrap_is : (m : Movement) (lot : List ℕ) → has_values (4 ∷ 3 ∷ []) (Text lot ∷ number 4 ∷ []) (row_of_movement m) ≡ (is_scrap m.kind && same m.lot lot)
 scrap_is m lot = by m.kind

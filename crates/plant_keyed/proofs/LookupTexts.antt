@@ -60,6 +60,10 @@ pub movements_of_batch : Selects movement_table (8 ∷ []) (codes "SELECT seq, l
 unfolding everything
 movements_of_batch = record { readable = refl; compared = refl; parameters = codes "?1" ∷ []; written = refl }
 
+pub movements_of_lot : Selects movement_table (4 ∷ []) (codes "SELECT seq, line, kind, lot, sub, lot2, sub2, batch, amount, at, by_who, note FROM movement WHERE lot = ?1 ORDER BY seq, line")
+unfolding everything
+movements_of_lot = record { readable = refl; compared = refl; parameters = codes "?1" ∷ []; written = refl }
+
 pub movements_of_lot_and_kind : Selects movement_table (4 ∷ 3 ∷ []) (codes "SELECT seq, line, kind, lot, sub, lot2, sub2, batch, amount, at, by_who, note FROM movement WHERE lot = ?1 AND kind = ?2 ORDER BY seq, line")
 unfolding everything
 movements_of_lot_and_kind = record { readable = refl; compared = refl; parameters = codes "?1" ∷ codes "?2" ∷ []; written = refl }

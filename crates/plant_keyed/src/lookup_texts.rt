@@ -41,6 +41,9 @@ pub(crate) const SUBLOTS_OF_LOT: &str =
 pub(crate) const MOVEMENTS_OF_BATCH: &str =
     "SELECT seq, line, kind, lot, sub, lot2, sub2, batch, amount, at, by_who, note FROM movement WHERE batch = ?1 ORDER BY seq, line";
 
+pub(crate) const MOVEMENTS_OF_LOT: &str =
+    "SELECT seq, line, kind, lot, sub, lot2, sub2, batch, amount, at, by_who, note FROM movement WHERE lot = ?1 ORDER BY seq, line";
+
 pub(crate) const MOVEMENTS_OF_LOT_AND_KIND: &str =
     "SELECT seq, line, kind, lot, sub, lot2, sub2, batch, amount, at, by_who, note FROM movement WHERE lot = ?1 AND kind = ?2 ORDER BY seq, line";
 

@@ -161,6 +161,10 @@ impl<'a, S: Alter> Worklists for Keyed<'a, S> {
         )
     }
 
+    fn movements_of_lot(&mut self, lot: Id) -> Result<Vec<Movement>, StoreFault> {
+        self.found(&MOVEMENT, lookup_texts::MOVEMENTS_OF_LOT, &[text_of(&lot)])
+    }
+
     fn lots_after(&mut self, cursor: Option<Id>) -> Result<Page<Lot>, StoreFault> {
         self.page_after(&LOT, texts::LOTS_AFTER, &cursor)
     }

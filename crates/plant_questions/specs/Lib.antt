@@ -12,7 +12,7 @@ pub use Prefetching.{AreRead, IsValidHoldPrefetch, IsValidLotPrefetch, IsValidSu
 pub use Pages.{page_of, page_size}
 pub use Cursors.{cursor_in, cursor_of, is_dot}
 pub use Sorting.{in_order}
-pub use Worklists.{agree, all_holds, batches_in, classes_after, definitions_in, due_after, due_order, holds_after, holds_on, is_after, is_batch_in, is_definition_in, is_due_in, is_hold_after, is_hold_on, is_in_ledger, is_lot_of, is_movement_after, is_number_after, is_order_in, is_recall_in, ledger_of, lot_made, lots_after, lots_of, movement_after, movements_into, number_after, number_order, orders_by_due, orders_in, other_lot, recalls_in, receipts_by_number, recipe_after, recipes_in, sublots_after, sublots_in_stock, text_after}
+pub use Worklists.{agree, all_holds, batches_in, classes_after, definitions_in, due_after, due_order, holds_after, holds_on, is_after, is_batch_in, is_definition_in, is_due_in, is_hold_after, is_hold_on, is_in_ledger, is_lot_of, is_movement_after, is_number_after, is_order_in, is_recall_in, ledger_of, lot_made, lots_after, lots_of, movement_after, movements_into, movements_of_lot, number_after, number_order, orders_by_due, orders_in, other_lot, recalls_in, receipts_by_number, recipe_after, recipes_in, sublots_after, sublots_in_stock, text_after}
 pub use declared.cursors.Cursor.{Cursor}
 pub use declared.list_question.ListQuestion.{ListQuestion}
 pub use declared.page.Page.{Page}
@@ -38,7 +38,10 @@ pub use declared.question.BatchView.{BatchView}
 pub use declared.question.BookedLine.{BookedLine}
 pub use declared.question.Booking.{Booking}
 pub use declared.question.LotAnswer.{LotAnswer}
+pub use declared.question.LotBalance.{LotBalance}
+pub use declared.question.LotFlows.{LotFlows}
 pub use declared.question.MeasuredLine.{MeasuredLine}
+pub use declared.question.Need.{Need}
 pub use declared.question.OrderAnswer.{OrderAnswer}
 pub use declared.question.Question.{Question}
 pub use declared.question.RecallAnswer.{RecallAnswer}

@@ -78,6 +78,10 @@ other_lot _ lot = None
 abbrev pub movements_into : State → List ℕ → List Movement
 movements_into s lot = filter (λ m. is_named lot (other_lot m.kind m.lot)) s.movements
 
+-- the movements whose own lot it is: a receipt, productions, and all that takes from it
+abbrev pub movements_of_lot : State → List ℕ → List Movement
+movements_of_lot s lot = filter (λ m. same m.lot lot) s.movements
+
 -- ---- what is of the lots that come after one
 
 abbrev pub lots_after : State → Option (List ℕ) → List Lot

@@ -52,8 +52,9 @@ pub use phases::phases_in;
 pub use policy::PrefetchPolicy;
 pub use prefetch::ReadAhead;
 pub use question::{
-    Answer, BatchLines, BatchView, BookedLine, Booking, LotAnswer, MeasuredLine, OrderAnswer,
-    Question, RecallAnswer, RecipeAnswer, RecipeLineAnswer, StandingLot,
+    Answer, BatchLines, BatchView, BookedLine, Booking, LotAnswer, LotBalance, LotFlows,
+    MeasuredLine, Need, OrderAnswer, Question, RecallAnswer, RecipeAnswer, RecipeLineAnswer,
+    StandingLot,
 };
 pub use reply::{DeskFault, Reply};
 pub use sorted::{HasKey, in_order, put_row};

@@ -23,6 +23,8 @@ pub enum Question {
     Trace(Direction, Node),
     /// Where the goods of this lot or batch are: the lots that have stock, of it and all that it leads to.
     Stands(Node),
+    /// What entered lots, what left them, and what is there: this lot, and all lots that it or this batch leads to.
+    Balance(Node),
     /// The genealogy around this lot or batch, back or forward: its trace, and the edges between what that lists.
     Edges(Direction, Node),
     /// What is known of this recall.
@@ -37,6 +39,8 @@ pub enum Question {
     Recipe(Id, u16),
     /// The control recipe of this batch, with what was booked of each line.
     BatchLines(Id),
+    /// What this order needs, and what there is of it.
+    Needs(Id),
 }
 
 /// What the desk answers.
@@ -54,6 +58,8 @@ pub enum Answer {
     Trace(Items<Node>),
     /// Lots with stock, ascending.
     Stands(Items<StandingLot>),
+    /// Lots with stock or without, ascending.
+    Balance(Items<LotBalance>),
     /// The genealogy around the lot or batch.
     Edges(Genealogy),
     /// What is known of the recall.
@@ -68,6 +74,8 @@ pub enum Answer {
     Recipe(RecipeAnswer),
     /// The control recipe of the batch.
     BatchLines(BatchLines),
+    /// The inputs of the order's recipe, by number.
+    Needs(Items<Need>),
     /// The question names something that isn't there.
     Unknown(Refusal),
 }
@@ -109,6 +117,38 @@ pub struct StandingLot {
     pub recalled: bool,
 }
 
+/// A lot with its stock, and what made it so: all that entered it is all that left it and what is there.
+#[derive(Drop)]
+pub struct LotBalance {
+    /// What is known of the lot, and where its stock is.
+    pub standing: StandingLot,
+    /// The unit of its definition, in which its amounts are counted; `None` where that isn't there, as in no valid state.
+    pub unit: Option<Unit>,
+    /// What entered it and what left it.
+    pub flows: LotFlows,
+}
+
+/// What entered a lot and what left it, by how (material actual of IEC 62264-4). What was divided within it isn't counted.
+#[derive(Clone, Copy)]
+pub struct LotFlows {
+    /// What was received as the lot.
+    pub received: u64,
+    /// What a batch produced as the lot.
+    pub produced: u64,
+    /// What was split off another lot as this one.
+    pub split_in: u64,
+    /// What was merged of other lots as this one.
+    pub merged_in: u64,
+    /// What batches consumed of it.
+    pub consumed: u64,
+    /// What was scrapped of it.
+    pub scrapped: u64,
+    /// What was split off it as other lots.
+    pub split_out: u64,
+    /// What of it was merged as other lots.
+    pub merged_out: u64,
+}
+
 /// A version of a master recipe, with its lines (master recipe of IEC 61512-1).
 #[derive(Drop)]
 pub struct RecipeAnswer {
@@ -145,6 +185,21 @@ pub struct BookedLine {
     pub measured: MeasuredLine,
     /// Of an input what the batch consumed of its definition, of an output what it produced, else 0; 2^64 - 1 where it is more.
     pub booked: u64,
+}
+
+/// An input of an order's recipe, and what there is of it. An amount is 2^64 - 1 where it would be more, as in no desk that a file can hold.
+#[derive(Clone, Copy)]
+pub struct Need {
+    /// The definition that is needed.
+    pub def: Id,
+    /// The unit of the definition, in which the amounts are counted; `None` where it isn't there, as in no valid state.
+    pub unit: Option<Unit>,
+    /// The amount for the order's size, as its batch's control recipe has it or would.
+    pub asked: u64,
+    /// The amount in stock of the definition's lots that are neither held nor recalled.
+    pub usable: u64,
+    /// What is asked and may not be used: 0 where there is enough.
+    pub short: u64,
 }
 
 /// An order with its state and its batch (job order of IEC 62264-4).

@@ -20,7 +20,7 @@ pub trait Worklists: View {
     ghost use Rattle.plant_questions.specs.Worklists.{recipes_in, ledger_of, movements_into};
     ghost use Rattle.plant_questions.specs.Worklists.{orders_by_due, receipts_by_number};
     ghost use Rattle.plant_questions.specs.Worklists.{lots_after, sublots_after, holds_after};
-    ghost use Rattle.plant_questions.specs.Worklists.{sublots_in_stock};
+    ghost use Rattle.plant_questions.specs.Worklists.{movements_of_lot, sublots_in_stock};
     ghost use Rattle.plant_view.specs.DecisionInvariant.{DecisionInvariant};
 
     /// The orders in a state, by their ids.
@@ -108,6 +108,11 @@ pub trait Worklists: View {
     fn movements_into(&mut self, lot: Id) -> Result<Vec<Movement>, Self::Fault>
         ensures { ReadOnly Self.Edges self.old self.new
             (IfOk result (λ rows. rows.items ≡ movements_into (Self.state self.old) lot)) };
+
+    /// The movements of a lot, in their order: those that made it of nothing that was here, and all that take from it.
+    fn movements_of_lot(&mut self, lot: Id) -> Result<Vec<Movement>, Self::Fault>
+        ensures { ReadOnly Self.Edges self.old self.new
+            (IfOk result (λ rows. rows.items ≡ movements_of_lot (Self.state self.old) lot)) };
 
     /// The lots that come after one, by their ids.
     fn lots_after(&mut self, cursor: Option<Id>) -> Result<Page<Lot>, Self::Fault>

@@ -6,11 +6,11 @@ use Rattle.serde_json.specs.View.{items_of, view}
 use Rattle.serde_json.specs.Written.{has_float, items_have_float, compact_text}
 use Rattle.plant_base.specs.{Lifting, Movement, Recall, RecipeLine}
 use Rattle.plant_view.specs.{batch_by, ends_of}
-use Rattle.plant_questions.specs.{BatchLines, BatchView, BookedEdge, BookedLine, Booking, CommandHead, Genealogy, Listed, LotAnswer, NodeAnswer, OpenBatch, OrderAnswer, PlannedBatch, RecallAnswer, RecipeAnswer, StandingLot, StockedLot}
+use Rattle.plant_questions.specs.{BatchLines, BatchView, BookedEdge, BookedLine, Booking, CommandHead, Genealogy, Listed, LotAnswer, LotBalance, Need, NodeAnswer, OpenBatch, OrderAnswer, PlannedBatch, RecallAnswer, RecipeAnswer, StandingLot, StockedLot}
 use Rattle.plant_questions.specs.declared.genealogy.NodeAnswer.TheVariants as known
 use Rattle.plant_questions.specs.declared.listed.Listed.TheVariants as listed
 use Rattle.plant_base.specs.declared.rows.RecipeLine.TheVariants as line
-use Rattle.plant_text_answers.specs.{booking_data, batch_data, recall_data, node_item, edge_item, genealogy_data, node_data, trace_data, order_data, lot_data, standing_data, stands_data, order_item, batch_item, lot_item, hold_item, all_holds_item, recall_item, lifting_or_null, lifted_item, command_data, command_item, class_item, definition_item, recipe_item, movement_item, other_sub, stock_item, stock_row_item, listed_data, id_or_null, unit_or_null, planned_or_null, number_or_null, text_or_null, sublot_data, recipe_line_data, recipe_line_item, booked_line_data, booked_line_item, recipe_data, batch_lines_data}
+use Rattle.plant_text_answers.specs.{balance_item, balances_data, need_item, needs_data, booking_data, batch_data, recall_data, node_item, edge_item, genealogy_data, node_data, trace_data, order_data, lot_data, standing_data, stands_data, order_item, batch_item, lot_item, hold_item, all_holds_item, recall_item, lifting_or_null, lifted_item, command_data, command_item, class_item, definition_item, recipe_item, movement_item, other_sub, stock_item, stock_row_item, listed_data, id_or_null, unit_or_null, planned_or_null, number_or_null, text_or_null, sublot_data, recipe_line_data, recipe_line_item, booked_line_data, booked_line_item, recipe_data, batch_lines_data}
 use Rattle.plant_trace.specs.{Node}
 use Rattle.plant_trace.specs.declared.node.Node.TheVariants.{Lot, Batch}
 use Rattle.plant_questions.specs.{other_lot}
@@ -81,6 +81,20 @@ no_float_in_recipe a = rw (no_float_in_rows recipe_line_item (λ l. no_float_in_
 
 pub no_float_in_batch_lines : (a : BatchLines) → has_float (batch_lines_data a) ≡ false
 no_float_in_batch_lines a = rw (no_float_in_rows booked_line_item (λ b. no_float_in_booked b.measured.line.line b) a.lines) refl
+
+-- ---- balances
+
+no_float_in_balance : (b : LotBalance) → has_float (balance_item b) ≡ false
+no_float_in_balance b = rw (no_float_in_rows sublot_data (λ s. refl) b.standing.known.sublots, no_float_in_unit b.unit) refl
+
+pub no_float_in_balances : (lots : List LotBalance) → has_float (balances_data lots) ≡ false
+no_float_in_balances lots = rw (no_float_in_rows balance_item no_float_in_balance lots) refl
+
+no_float_in_need : (n : Need) → has_float (need_item n) ≡ false
+no_float_in_need n = rw (no_float_in_unit n.unit) refl
+
+pub no_float_in_needs : (needs : List Need) → has_float (needs_data needs) ≡ false
+no_float_in_needs needs = rw (no_float_in_rows need_item no_float_in_need needs) refl
 
 -- ---- genealogy
 

@@ -5,6 +5,7 @@ use Rattle.serde_json.specs.Written.{compact_text}
 use Rattle.plant_base.specs.{job_state_name}
 use Rattle.plant_questions.specs.{Answer, OrderAnswer}
 use Rattle.plant_questions.specs.declared.question.Answer.TheVariants as A
+use Rattle.plant_text_answers.specs.Balances.{balances_data, needs_data}
 use Rattle.plant_text_answers.specs.BatchAnswers.{batch_data}
 use Rattle.plant_text_answers.specs.EdgeAnswers.{genealogy_data}
 use Rattle.plant_text_answers.specs.ListAnswers.{listed_data}
@@ -35,6 +36,7 @@ text_of_answer (A.Order order) = compact_text (order_data order)
 text_of_answer (A.Batch v) = compact_text (batch_data v)
 text_of_answer (A.Trace nodes) = compact_text (trace_data nodes)
 text_of_answer (A.Stands lots) = compact_text (stands_data lots)
+text_of_answer (A.Balance lots) = compact_text (balances_data lots)
 text_of_answer (A.Edges genealogy) = compact_text (genealogy_data genealogy)
 text_of_answer (A.Recall recall) = compact_text (recall_data recall)
 text_of_answer (A.Moment at) = compact_text (moment_data at)
@@ -42,4 +44,5 @@ text_of_answer (A.List page) = compact_text (listed_data page)
 text_of_answer (A.Definition definition) = compact_text (definition_data definition)
 text_of_answer (A.Recipe recipe) = compact_text (recipe_data recipe)
 text_of_answer (A.BatchLines lines) = compact_text (batch_lines_data lines)
+text_of_answer (A.Needs needs) = compact_text (needs_data needs)
 text_of_answer (A.Unknown r) = refusal_text r

@@ -4,6 +4,7 @@ ghost use Rattle.serde_json.specs.View.{view};
 ghost use Rattle.plant_text_answers.specs.Answers.{desk_data, moment_data, order_data};
 ghost use Rattle.plant_text_answers.specs.Answers.{text_of_answer};
 
+use crate::balances::{balances_value, needs_value};
 use crate::batch_answers::batch_value;
 use crate::edge_answers::genealogy_value;
 use crate::list_answers::listed_value;
@@ -53,6 +54,9 @@ fn order_value(alloc: Global, answer: &OrderAnswer) -> Result<Value, AllocError>
 /// - of a trace `{"nodes":[{"lot":ID},{"batch":ID}]}`
 /// - of where goods are
 ///   `{"lots":[{"def":ID,"held":BOOL,"lot":ID,"recalled":BOOL,"stock":N,"sublots":[{"no":N,"place":TEXT,"stock":N}]}]}`
+/// - of a balance `{"lots":[{"def":ID,"entered":{"merged":N,"produced":N,"received":N,"split":N},"held":BOOL,
+///   "left":{"consumed":N,"merged":N,"scrapped":N,"split":N},"lot":ID,"recalled":BOOL,"stock":N,
+///   "sublots":[{"no":N,"place":TEXT,"stock":N}],"unit":UNIT or null}]}`
 /// - of the genealogy around a lot or batch `{"edges":[{"amount":N,"from":{"lot":ID},"to":{"batch":ID}}],
 ///   "nodes":[{"def":ID,"held":BOOL,"lot":ID,"recalled":BOOL,"stock":N,"unit":UNIT},{"batch":ID}]}`
 /// - of a recall `{"lot":ID,"nodes":[{"lot":ID},{"batch":ID}],"recall":ID,"state":WORD}`
@@ -63,6 +67,7 @@ fn order_value(alloc: Global, answer: &OrderAnswer) -> Result<Value, AllocError>
 ///   with `"out"`, `{"kind":"par","name":ID,"value":TEXT}` or `{"kind":"phase","oper":ID,"phase":ID,"unit":ID}`
 /// - of the lines of a batch `{"batch":ID,"lines":[LINE]}`, each LINE, by number,
 ///   `{"asked":N,"booked":N,"def":ID,"kind":"in","unit":UNIT or null}`, the same with `"out"`, or a parameter or a phase as in a recipe
+/// - of what an order needs `{"needs":[{"asked":N,"def":ID,"short":N,"unit":UNIT or null,"usable":N}]}`
 /// - of a page of orders, by their ids or by their due dates, `{"more":BOOL,"orders":[{"due":"YYYY-MM-DD","order":ID,"priority":N,"recipe":ID,"size":N,"version":N}]}`
 /// - of one of open or of closed batches `{"batches":[{"attempt":N,"batch":ID,"next":N,"order":ID,"phase":ID or null,"phases":N,"state":WORD}],"more":BOOL}`
 /// - of one of lots `{"last":ID or null,"lots":[{"held":BOOL,"lot":ID,"recalled":BOOL,"stock":N,"sublots":[{"no":N,"place":TEXT,"stock":N}]}],"more":BOOL}`
@@ -95,6 +100,7 @@ pub fn answer_text(alloc: Global, answer: &Answer) -> Result<String, AllocError>
         Answer::Batch(batch) => batch_value(alloc, batch)?.to_string(alloc),
         Answer::Trace(nodes) => trace_value(alloc, nodes.as_slice())?.to_string(alloc),
         Answer::Stands(lots) => stands_value(alloc, lots.as_slice())?.to_string(alloc),
+        Answer::Balance(lots) => balances_value(alloc, lots.as_slice())?.to_string(alloc),
         Answer::Edges(genealogy) => genealogy_value(alloc, genealogy)?.to_string(alloc),
         Answer::Recall(recall) => recall_value(alloc, recall)?.to_string(alloc),
         Answer::Moment { at } => moment_value(alloc, *at)?.to_string(alloc),
@@ -102,6 +108,7 @@ pub fn answer_text(alloc: Global, answer: &Answer) -> Result<String, AllocError>
         Answer::Definition(definition) => definition_value(alloc, definition)?.to_string(alloc),
         Answer::Recipe(recipe) => recipe_value(alloc, recipe)?.to_string(alloc),
         Answer::BatchLines(lines) => batch_lines_value(alloc, lines)?.to_string(alloc),
+        Answer::Needs(needs) => needs_value(alloc, needs.as_slice())?.to_string(alloc),
         Answer::Unknown(refusal) => String::from_str(alloc, refusal_line(*refusal).as_str()),
     }
 }

@@ -3,6 +3,7 @@
 #![tactic(auto)]
 
 mod answers;
+mod balances;
 mod batch_answers;
 mod batch_rows;
 mod command_rows;

@@ -5,7 +5,7 @@ export function readAddress(hash) {
   const filters = query.split("&").map((it) => it.split("=")).filter(([key, value]) => /^[a-z]+$/.test(key) && /^[A-Za-z0-9%_.~!'()*-]+$/.test(value || ""));
   return { name, words, filters: new Map(filters.map(([key, value]) => [key, decoded(value)])) };
 }
-function decoded(value) {
+export function decoded(value) {
   try { return decodeURIComponent(value); } catch { return ""; }
 }
 const withQuery = (path, filters) => path + (filters.size ? "?" : "") + [...filters].map(([key, value]) => `${key}=${encodeURIComponent(value)}`).join("&");

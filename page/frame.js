@@ -4,12 +4,12 @@
 import { counted, grouped } from "./amounts.js";
 import { lengthOfTime, moment } from "./moments.js";
 import { isId } from "./ids.js";
-import { isAbove, isSamePlace, placeFrom, readAddress, withFilter } from "./addresses.js";
+import { decoded, isAbove, isSamePlace, placeFrom, readAddress, withFilter } from "./addresses.js";
 import { PAGE } from "./cursors.js";
 import { at, h, view } from "./elements.js";
 import { focusAgain, focusRow, keyOf, released } from "./focus.js";
 import { button, card, choice, link, none, notice } from "./parts.js";
-import { Refusal, desk, want, wantedItems } from "./questions.js";
+import { Refusal, desk, want, wantedItems, whyNot } from "./questions.js";
 
 export function more(items, name, what) {
   if (!items.more) return null;
@@ -21,12 +21,13 @@ export function more(items, name, what) {
 // The views by their names, which the start puts in.
 export const VIEWS = {};
 
-// What stands behind # in the address: a view, and then words or ids.
+// What stands behind # in the address: a view, and then words or ids; or `place` and the name of a place in the warehouse, which may be empty.
 export function place() {
   const { name, words } = readAddress(location.hash);
+  if (name === "warehouse" && words[0] === "place") return [name, words.slice(0, 2).map(decoded)];
   const kinds = ["lot", "batch", "recall"];
   const rest = words.map((it) => (kinds.includes(it) ? it : it.toUpperCase())).filter((it) => kinds.includes(it) || isId(it));
-  return Object.hasOwn(VIEWS, name) ? [name, rest] : ["planner", []];
+  return Object.hasOwn(VIEWS, name) ? [name, rest] : ["today", []];
 }
 
 // What the address says of a filter, the first of its options where it says none of them.
@@ -73,14 +74,40 @@ export async function show() {
     if (mine !== showing) return;
     draw(layout, parts);
     view.dataset.ready = `${name} ${desk.seq}`;
+    void readRest(mine);
   } catch (error) {
     if (mine === showing) drawFailure(name, error);
   } finally { clearTimeout(slow); }
 }
 
-// The address that is drawn, and the day on which it was; how far each address was scrolled when it was left.
-let drawn = "", drawnOn = "";
+// What a view has only once it is drawn, since it takes many questions: `read` gives it, and is told whether the view is still shown. Until then there is what
+// was there of this name before.
+const unread = new Map(), lastRead = new Map();
+export function later(name, read) {
+  const it = h("div", { class: "later" }, none("reading\u2026"));
+  unread.set(it, { name, read });
+  return it;
+}
+async function readRest(mine) {
+  const all = [...unread].filter(([it]) => it.isConnected), isShown = () => mine === showing;
+  unread.clear();
+  delete view.dataset.whole;
+  for (const [element, { name }] of all) element.replaceChildren(...(lastRead.get(name) || element.childNodes));
+  for (const [element, { name, read }] of all) {
+    const nodes = isShown() && (await read(isShown).catch((error) => [none(whyNot(error))])).flat(9).filter(Boolean);
+    if (!isShown()) return;
+    const key = element.contains(document.activeElement) ? keyOf(document.activeElement) : null;
+    lastRead.set(name, nodes);
+    element.replaceChildren(...nodes);
+    if (key) focusAgain(key);
+  }
+  view.dataset.whole = view.dataset.ready;
+}
+
+// The address that is drawn, and when it was; how far each address was scrolled when it was left.
+let drawn = "", drawnOn = "", drawnAt = 0;
 export const isDayOver = () => drawnOn !== desk.today();
+export const isDrawnBefore = (seconds) => drawnAt > 0 && desk.time() - drawnAt >= seconds;
 const tops = new Map();
 history.scrollRestoration = "manual";
 
@@ -96,17 +123,18 @@ function draw(layout, parts) {
   else if (key) focusAgain(key);
   drawn = location.hash;
   drawnOn = desk.today();
+  drawnAt = desk.time();
   if (history.state === null) history.replaceState({ isDrawn: true }, "");
   drawStatus();
 }
 // The way back from a thing to the list that it is in.
 const LISTS_OF = { planner: "the orders", shift: "the batches", warehouse: "the materials", quality: "recalls and holds" };
 function drawBack() {
-  const [name, rest] = place(), isOfLot = name === "warehouse" && rest.length > 1;
-  view.classList.toggle("thing", rest.length > 0);
-  at("back").hidden = !rest.length;
-  at("back").href = `#${placeFrom(location.hash, isOfLot ? `warehouse/${rest[0]}` : name)}`;
-  at("back").textContent = `\u2039 Back to ${isOfLot ? `the lots of ${rest[0]}` : LISTS_OF[name]}`;
+  const [name, rest] = place(), isInside = name === "warehouse" && rest.length > 1, isList = !rest.length || (rest.length === 1 && rest[0] === "place");
+  view.classList.toggle("thing", !isList);
+  at("back").hidden = isList;
+  at("back").href = `#${placeFrom(location.hash, isInside ? `warehouse/${rest[0]}` : name)}`;
+  at("back").textContent = `\u2039 Back to ${!isInside ? LISTS_OF[name] : rest[0] === "place" ? "the places" : `the lots of ${rest[0]}`}`;
 }
 function drawFailure(name, error) {
   if (error instanceof Refusal) return draw("", [card("Not here", null, none(error.message, " ", link(name, "Back")))]);

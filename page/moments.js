@@ -21,5 +21,11 @@ export function lengthOfTime(seconds) {
   return `${count} ${unit}${count === 1 ? "" : "s"}`;
 }
 
+// How many days lie between the day of a moment and that of another one, in words.
+export function ageInDays(seconds, now) {
+  const noon = (at) => new Date(at * 1000).setHours(12, 0, 0, 0), count = Math.max(0, Math.round((noon(now) - noon(seconds)) / 86400e3));
+  return count === 0 ? "today" : `${count} day${count === 1 ? "" : "s"}`;
+}
+
 // A word of the clock, by which the ids of holds and recalls differ.
 export const stampWord = () => clock().toString(36).toUpperCase();

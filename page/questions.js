@@ -50,10 +50,18 @@ async function found(path) {
   try { return await asked(path); } catch (error) { if (error instanceof Refusal && error.answer.status === 404) return null; throw error; }
 }
 
-// The items of a list, page by page until there are as many as are wanted; `more` of them says whether others stand behind.
-async function list(path, wanted) {
+// What no booking changes any more, such as the lines of a closed batch: it is asked once for as long as the page is open.
+const lasting = new Map();
+async function askedOnce(name, ask) {
+  if (!lasting.has(name)) lasting.set(name, await ask());
+  return lasting.get(name);
+}
+
+// The items of a list, page by page until there are as many as are wanted, those after a cursor where one is given; `more` of them says whether there are
+// others.
+async function list(path, wanted, cursor) {
   const all = [];
-  let behind = "";
+  let behind = cursor ? "/" + cursor : "";
   do {
     const { items, last } = readPage(path, await asked(`/v1/lists/${path}${behind}`));
     all.push(...items);
@@ -87,8 +95,9 @@ export const desk = {
     return true;
   },
   async lookAtName() {
-    const [first] = (await askedAnew("/v1/lists/commands")).commands;
+    const [first] = (await askedAnew("/v1/lists/commands")).commands, before = this.name;
     this.name = first ? first.ref : null;
+    if (this.name !== before) lasting.clear();
     dispatchEvent(new Event("desk-named"));
   },
   async lookAtMoment() { this.moment = (await askedAnew("/v1/moment")).at; },
@@ -113,6 +122,8 @@ export const desk = {
 
   definition: (id) => found("/v1/definitions/" + id),
   recipe: (id, version) => asked(`/v1/recipes/${id}/${version}`),
+  // The same with the lines alone that matter: those of a version never change.
+  recipeOnce: (id, version) => askedOnce(`recipe ${id} ${version}`, () => desk.recipe(id, version)),
   foundRecipe: (id, version) => found(`/v1/recipes/${id}/${version}`),
 
   // What a recall reaches; null where it isn't there.
@@ -125,6 +136,13 @@ export const desk = {
   },
   // Those lines as they are at this moment, also where nothing is known to have been booked.
   async linesNow(id) { return (await askedAnew(`/v1/batches/${id}/lines`)).lines; },
+  // The lines of a finished order's batch, and the batch; what was booked on it stays as it is. And the ledger of a lot that has so much stock: each booking
+  // that changes its stock makes that less.
+  finishedBatch: (order) => askedOnce(`finished ${order}`, async () => {
+    const { batch } = await asked("/v1/orders/" + order);
+    return { batch, lines: (await asked(`/v1/batches/${batch}/lines`)).lines };
+  }),
+  ledger: (lot, stock, wanted) => askedOnce(`ledger ${lot} ${stock}`, () => list("movements/" + lot, wanted)),
   async record(id) { return readRecord(await asked(`/v1/batches/${id}/record`, true)); },
 
   // The lots that have stock of a lot's or a batch's goods, and the genealogy on either side of it. `kind` is lots or batches.
@@ -136,6 +154,7 @@ export const desk = {
   async lotNode(lot) { return (await this.back("lots", lot)).nodes.find((it) => it.lot === lot); },
 
   orders: (state, wanted) => list("orders_by_due/" + state, wanted),
+  ordersSince: (state, since, wanted) => list("orders_by_due/" + state, wanted, `${since}.A`),
   batches: (wanted) => list("batches", wanted),
   closedBatches: (wanted) => list("closed_batches", wanted),
   holds: (lot, wanted) => list("holds/" + lot, wanted),
@@ -160,7 +179,7 @@ export const desk = {
     const known = await this.definition(def), isMeant = (it) => it.def === def;
     if (!known) return null;
     const first = (await this.stocks(known.class, PAGE)).find(isMeant);
-    return first || (await list(`stocks/${known.class}/${idBefore(def)}`, 1)).find(isMeant) || null;
+    return first || (await list(`stocks/${known.class}`, 1, idBefore(def))).find(isMeant) || null;
   },
 
   // All materials, each with its class and what there is of it.

@@ -39,3 +39,16 @@ export function scaled(amount, base, size) {
 export const withPath = (line) => (line.kind === "phase" ? { kind: "phase", phase: line.phase, path: `${line.unit} ${line.oper} ${line.phase}` } : line);
 
 export const isMaterial = (line) => line.kind === "in" || line.kind === "out";
+
+// The phases of a control recipe, each with the parameters between it and the phase before it; and the parameters after the last one.
+export function procedureOf(lines) {
+  const phases = [];
+  let parameters = [];
+  for (const it of lines) {
+    if (it.kind === "par") parameters.push(it);
+    if (it.kind !== "phase") continue;
+    phases.push({ ...it, parameters });
+    parameters = [];
+  }
+  return { phases, last: parameters };
+}

@@ -3,7 +3,7 @@
 import { capital, doubtOf, excess, grouped } from "./amounts.js";
 import { idOf } from "./ids.js";
 import { moment } from "./moments.js";
-import { isMaterial } from "./recipes.js";
+import { isMaterial, procedureOf } from "./recipes.js";
 import { lotOf } from "./scans.js";
 import { MAY_CLOSE, STATES, TONES } from "./words.js";
 import { openInputs } from "./taking.js";
@@ -13,7 +13,7 @@ import {
 } from "./parts.js";
 import { csvButton } from "./saved.js";
 import { desk, want } from "./questions.js";
-import { filterChoice, filterOf, isNarrow, more, show } from "./frame.js";
+import { filterChoice, filterOf, isNarrow, more, setText, show, textOf } from "./frame.js";
 import { partsToOffer } from "./lots.js";
 import { amountField, lotField, newLotField, noteField, noted, openForm, placeField, say, selectField, textField } from "./forms.js";
 import { act, bookingForm } from "./book.js";
@@ -27,18 +27,29 @@ let batchShown = null;
 
 export async function shift([id]) {
   const areClosedShown = filterOf("batches", WHICH) === "closed";
-  const batches = areClosedShown ? await desk.closedBatches(want("closed")) : (await desk.batches(want("batches"))).sort(byDueDate);
+  const unit = areClosedShown ? "" : textOf("unit"), wanted = unit ? Math.max(MOST_READ_BATCHES, want("batches")) : want("batches");
+  const read = areClosedShown ? await desk.closedBatches(want("closed")) : (await desk.batches(wanted)).sort(byDueDate);
+  const batches = Object.assign(read.filter((it) => !unit || it.phase_unit === unit), { more: read.more });
   const shown = id || (!isNarrow() && batches[0] && batches[0].batch);
   if (!shown || batchShown?.batch !== shown) batchShown = null;
   const rows = batches.map((it) => batchRow(it, it.batch === shown, areClosedShown));
-  const noneOpen = "No batch is open. The planner releases an order, which makes its batch.";
+  const noneOpen = unit ? `No batch has its next phase on ${unit}.` : "No batch is open. The planner releases an order, which makes its batch.";
   const all = table(["Batch", "State", "#Due"], rows, areClosedShown ? "No batch is closed." : noneOpen, true);
   const which = filterChoice("Which batches", "batches", WHICH);
   const csv = csvButton("batches", `batches-${areClosedShown ? "closed" : "open"}`, async () => (await (areClosedShown ? desk.closedBatches(Infinity)
     : desk.batches(Infinity))).map((it) => ({ ...it, ...it.planned, closed: areClosedShown })));
   const without = card("No batch", null, none("Once an order is released, its batch is started, booked and closed here."));
   const one = shown ? await batchCards(shown) : desk.seq === 0 ? firstSteps() : !isNarrow() && without;
-  return ["list", listed(card("Batches", [csv, which], all, more(batches, areClosedShown ? "closed" : "batches"))), h("div", { class: "stack" }, one)];
+  return ["list", listed(card("Batches", [csv, which], !areClosedShown && unitRow(read, unit), all, more(batches, areClosedShown ? "closed" : "batches"))), h("div", { class: "stack" }, one)];
+}
+// The units of the next phases, of which one can be chosen: what is left is the unit's worklist. So many batches are read then.
+const MOST_READ_BATCHES = 2000;
+function unitRow(batches, unit) {
+  const units = [...new Set([...batches.map((it) => it.phase_unit), unit].filter(Boolean))].sort(), option = (value, label) => h("option", { value,
+    selected: value === unit }, label);
+  if (!units.length) return null;
+  return h("div", { class: "body row filter" }, h("select", { id: "batchunit", "aria-label": "Filter the batches by the unit of their next phase",
+    onchange: (event) => setText("unit", event.target.value) }, option("", "all units"), units.map((it) => option(it, `next on ${it}`))));
 }
 // Batches by the due dates of their orders, and of one day those of a higher priority first.
 function byDueDate({ planned: one }, { planned: other }) {
@@ -64,15 +75,29 @@ async function batchCards(id) {
 }
 
 function progressCard(batch) {
-  const done = batch.next - 1, procedure = batch.lines.filter((it) => it.kind === "phase");
-  const path = procedure.map((it, k) => [k ? " \u203a " : "", k === done ? h("b", {}, it.path) : it.path, k < done ? " \u2713" : ""]);
+  const done = batch.next - 1, { phases, last } = procedureOf(batch.lines), next = phases[done];
+  const path = phases.map((it, k) => [k ? " \u203a " : "", k === done ? h("b", {}, it.path) : it.path, k < done ? " \u2713" : ""]);
   const known = [fact("Order", link("planner/" + batch.order, batch.order)), fact("Recipe", `${batch.recipe} ${batch.version}`),
-    fact("Size", grouped(batch.size)), fact("Attempt", batch.attempt), fact("Phases done", `${done} of ${batch.phases}`),
-    batch.lines.filter((it) => it.kind === "par").map((it) => fact(it.name, it.value))];
+    fact("Size", grouped(batch.size)), fact("Attempt", batch.attempt), fact("Phases done", `${done} of ${batch.phases}`)];
   const tools = [pill(batch.closed ? "closed" : batch.state, batch.closed ? "" : TONES[batch.state]),
     link("quality/batch/" + batch.batch, "Record and genealogy"), button("Sheet", () => showSheet(batch.batch), null, { "aria-label": `Sheet of ${batch.batch}` })];
   return card(`Batch ${batch.batch}`, tools, h("div", { class: "body" }, h("div", { class: "facts" }, known), progressBar(done, batch.phases),
-    h("p", { class: "soft small" }, path), h("p", { class: "row" }, moves(batch, procedure[done]))));
+    h("p", { class: "soft small" }, path), parametersOf(next ? `For ${next.path}` : "After the phases", next ? next.parameters : last),
+    h("p", { class: "row" }, moves(batch, next))), procedureTable(phases, last, done));
+}
+// The parameters of the next phase, as its unit wants them.
+function parametersOf(name, parameters) {
+  if (!parameters.length) return null;
+  return h("div", { class: "parameters", role: "group", "aria-label": `Parameters: ${name}` }, h("span", { class: "soft small" }, name),
+    h("div", { class: "facts" }, parameters.map((it) => fact(it.name, it.value))));
+}
+// All phases with their parameters, where there are some.
+function procedureTable(phases, last, done) {
+  if (!last.length && phases.every((it) => !it.parameters.length)) return null;
+  const values = (parameters) => parameters.map((it) => h("div", {}, it.name, " ", h("b", {}, it.value)));
+  const rows = phases.map((it, k) => row(`phase ${k + 1}`, [numberCell(k + 1), cell(values(it.parameters)), cell(it.path), cell(k < done ? "done" : k === done ? "next" : "")]));
+  if (last.length) rows.push(row("after the phases", [cell(), cell(values(last)), cell("after the phases"), cell()]));
+  return h("details", {}, h("summary", {}, "All phases with their parameters"), table(["#No", "Parameters", "Phase", ""], rows, "", true));
 }
 function progressBar(done, phases) {
   const values = { "aria-valuemin": 0, "aria-valuemax": phases, "aria-valuenow": done };

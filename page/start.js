@@ -2,16 +2,18 @@
 
 import { ID_RULE } from "./ids.js";
 import { lotOf } from "./scans.js";
-import { at, dialog, h, operator, view } from "./elements.js";
+import { at, dialog, operator, view } from "./elements.js";
 import { keep, kept } from "./store.js";
 import { nameByLogin, nameOperator } from "./who.js";
 import { focusAgain, isWriting } from "./focus.js";
 import { listenToScans, onceAlone, tone } from "./scanner.js";
 import { button, go, notice } from "./parts.js";
 import { desk, whyNot } from "./questions.js";
-import { VIEWS, isDayOver, place, show, tellStatus } from "./frame.js";
-import { focusBehind, openDialog, openForm } from "./forms.js";
+import { VIEWS, isDayOver, isDrawnBefore, place, show, tellStatus } from "./frame.js";
+import { focusBehind, openForm } from "./forms.js";
 import { drawWaiting, sending } from "./book.js";
+import { help } from "./help.js";
+import { board, today } from "./today.js";
 import { chosenOrders, planner } from "./planner.js";
 import { scanAtBatch, shift } from "./shift.js";
 import { chosen, warehouse } from "./warehouse.js";
@@ -55,29 +57,6 @@ async function findScanned(code) {
   if (!(await find(code))) tone();
 }
 
-// What two words of the desk have in common, and what not.
-const WORDS = {
-  "Move, Split": "Move brings an amount to another place: it stays the same lot, as another part. Split makes an amount a lot of its own.",
-  "Hold, Recall": "A hold keeps one lot from being consumed, split and merged, a recall also all that came of it.",
-  "Stop, Abort": "Stop ends a batch in order before its time, Abort breaks it off. Both can be reset, and begin anew.",
-  "Finish": "Pausing, stopping and the like take time. Finish says that the batch got there.",
-  "Complete, Close": "A complete batch has done its work, and still takes bookings. A closed one takes none, and its order is finished.",
-};
-function help() {
-  const key = (name, what) => h("p", {}, h("kbd", {}, name), " ", what);
-  const keys = [key("1", "planner"), key("2", "shift"), key("3", "warehouse"), key("4", "quality"),
-    key("/", "find a lot, a batch, an order or a recall"), key("r", "look again"), key("Esc", "close a form"),
-    key("Enter", "to the next field of a form; books in the last one")];
-  const scans = "A scanner works wherever the cursor is, and books nothing: at a batch it opens the form with the scanned lot, in a form it chooses the "
-    + "lot, elsewhere it finds.";
-  const text = "A booking can't be taken back: book the opposite, or scrap. It counts once, also where its answer is lost and it is sent again. "
-    + "Views look again every 20 seconds.";
-  const end = h("div", { class: "end" }, h("button", { class: "main" }, "Close"));
-  const words = Object.entries(WORDS).map(([name, what]) => [h("dt", {}, name), h("dd", {}, what)]);
-  const it = h("form", { method: "dialog" }, h("h2", { id: "title" }, "Keys and help"), keys, h("p", { class: "soft" }, scans), h("p", { class: "soft" }, text),
-    h("h2", {}, "Words"), h("dl", {}, words), end);
-  openDialog(it, it.querySelector("button"));
-}
 at("help").addEventListener("click", help);
 dialog.addEventListener("cancel", (event) => { if (sending) event.preventDefault(); });
 // A browser tells of a closed dialog with its next frame only. Until then a field of it can have the keyboard, a key can have led elsewhere, and
@@ -93,21 +72,24 @@ dialog.addEventListener("close", () => {
 addEventListener("keydown", (event) => {
   if (event.ctrlKey || event.altKey || event.metaKey || dialog.open) return;
   if (event.key === "Escape" && document.activeElement === at("find")) return view.focus();
+  if (event.key === "Escape" && place()[0] === "board") return go("today");
   if (isWriting()) return;
-  const role = Object.keys(VIEWS)[Number(event.key) - 1];
+  const role = /^[0-4]$/.test(event.key) && Object.keys(VIEWS)[event.key];
   const act = role ? () => go(role) : { "/": () => at("find").select(), "?": help, r: show }[event.key];
   if (!act) return;
   event.preventDefault();
   onceAlone(act);
 });
-Object.assign(VIEWS, { planner, shift, warehouse, quality });
+Object.assign(VIEWS, { today, planner, shift, warehouse, quality, board });
 operator.value = kept("operator", "");
 operator.addEventListener("input", () => operator.readOnly || keep("operator", operator.value));
 operator.addEventListener("change", () => nameOperator(operator.value));
 operator.addEventListener("keydown", (event) => { if (event.key === "Enter") view.focus(); });
 
-// Every 20 seconds, while the page is seen, it looks whether there are new bookings, and draws its view anew where nobody is at work in it.
-const TURN = 20;
+// Every 20 seconds, while the page is seen, it looks whether there are new bookings, and draws its view anew where nobody is at work in it; a view that says how
+// long something lasts also where a minute is over.
+const TURN = 20, MINUTE = 60;
+const isOld = () => isDayOver() || (["today", "board"].includes(place()[0]) && isDrawnBefore(MINUTE));
 async function lookAgain() {
   if (document.hidden || sending || dialog.open) return;
   drawWaiting();
@@ -115,7 +97,7 @@ async function lookAgain() {
     const isNew = await desk.look(), areChosen = { planner: chosenOrders, warehouse: chosen }[place()[0]]?.size > 0;
     const isAtWork = areChosen || (isWriting() && view.contains(document.activeElement));
     if (isNew && isAtWork) drawNew();
-    else if (isNew || (isDayOver() && !isAtWork) || at("stand").textContent === "no answer") show();
+    else if (isNew || (isOld() && !isAtWork) || at("stand").textContent === "no answer") show();
   } catch { tellStatus("bad", "no answer"); }
 }
 const drawNew = () => tellStatus("warn", "there are new bookings: ", button("Look again", () => show()));

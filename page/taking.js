@@ -14,3 +14,11 @@ export function takenOf(parts, amount) {
 
 // The inputs of which less is booked than was asked, each with what is left.
 export const openInputs = (lines) => lines.filter((it) => it.kind === "in" && it.booked < it.asked).map((it) => ({ ...it, left: it.asked - it.booked }));
+
+// Parts by their places, the places in the order of their names, and of each the oldest part first.
+export function partsByPlace(parts) {
+  const all = new Map();
+  for (const it of parts) all.set(it.place, [...(all.get(it.place) || []), it]);
+  const byAge = (a, b) => (a.seq ?? 0) - (b.seq ?? 0) || (a.lot < b.lot ? -1 : a.lot > b.lot ? 1 : a.sub - b.sub);
+  return [...all].sort(([a], [b]) => (a < b ? -1 : 1)).map(([place, some]) => ({ place, parts: some.sort(byAge), materials: new Set(some.map((it) => it.def)).size }));
+}

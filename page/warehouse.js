@@ -1,7 +1,6 @@
 // The warehouse's view: materials by their classes, and the lots of one.
 
 import { counted, grouped } from "./amounts.js";
-import { dayOf } from "./moments.js";
 import { cameInWords, keyOfPart, placeOfPart } from "./words.js";
 import { h } from "./elements.js";
 import {
@@ -15,12 +14,15 @@ import { amountField, idField, lotField, newLotField, noteField, noted, openForm
 import { wholeLot } from "./lots.js";
 import { showLabels } from "./label.js";
 import { bookingForm } from "./book.js";
+import { moveGoods, scrap, split } from "./goods.js";
+import { byChoice, cameCell, places } from "./places.js";
 
 // The parts of lots that are chosen for a merge, and their material.
 export const chosen = new Map();
 let chosenOf = null;
 
 export async function warehouse([id, lotId]) {
+  if (id === "place") return places(lotId);
   const classes = await desk.classes(), all = classes.flatMap((it) => it.stocks);
   const def = id || (!isNarrow() && all[0] && all[0].def);
   if (def !== chosenOf) chosen.clear();
@@ -38,7 +40,7 @@ function materialsSide(classes, def) {
   const tools = [csvButton("materials", "materials", () => desk.materials()), button("New class", newClass),
     classes.length > 0 && button("New material", () => newMaterial(classes))];
   const without = none("There is no class yet.");
-  return card("Materials", tools, classes.length ? classes.map((it) => classTable(it, def)) : without, more(classes, "classes"));
+  return card("Materials", tools, byChoice("material"), classes.length ? classes.map((it) => classTable(it, def)) : without, more(classes, "classes"));
 }
 function classTable({ id, name, stocks }, def) {
   const named = (it) => idCell(link("warehouse/" + it.def, it.def), it.name && h("div", { class: "under" }, it.name));
@@ -96,7 +98,7 @@ function partRows(lot, known, told) {
     const buttons = [button("Label", () => showLabels(part.lot, part.sub)), button("Move", () => moveGoods(part, known)),
       button("Split", () => split(part, known), null, { disabled: isBarred }), button("Scrap", () => scrap(part, known), "bad")];
     return row(key, [cell(chooseBox(key, part, isBarred, told)), idCell(lotLink(lot.lot), marks), h("td", { class: "num" }, it.no),
-      h("td", { class: "when" }, dayOf(lot.at)), cell(it.place || h("span", { class: "soft" }, "no place")), numberCell(it.stock, known.unit), buttonsCell(buttons)]);
+      cameCell(lot.at), cell(it.place || h("span", { class: "soft" }, "no place")), numberCell(it.stock, known.unit), buttonsCell(buttons)]);
   });
 }
 function chooseBox(key, part, isBarred, told) {
@@ -120,29 +122,6 @@ function receive({ def, unit }) {
   bookingForm(`Receive ${def}`, [newLotField("lot", "Scan or type the new lot"), amountField(unit), placeField(), noteField()], "Receive",
     (v, tell) => tell(`${grouped(v.amount)} ${unit} as ${v.lot} received`,
       noted({ do: "receive", lot: v.lot, def, amount: v.amount, place: v.place }, v.note)));
-}
-
-// The field of the lot that goods are taken of: at first the part whose button was pressed.
-const fromField = ({ def, unit }, part, mayBeBarred) => lotField({ def, unit, part, parts: [part], mayBeBarred });
-function scrap(part, known) {
-  bookingForm(`Scrap ${known.def}`, [fromField(known, part, true), amountField(known.unit), noteField("Why")], "Scrap",
-    ({ from: { lot, sub }, amount, note }, tell) => tell(`${grouped(amount)} ${known.unit} of ${lot} scrapped`,
-      noted({ do: "scrap", lot, sub, amount }, note)), { isGrave: true });
-}
-// All of a part, or as much as is typed, goes to another place as another part of the same lot: the ledger says divided.
-function moveGoods(part, known) {
-  let offered = part.stock;
-  const change = (inputs, it) => { if (Number(inputs.amount.value) === offered) inputs.amount.value = offered = it.stock; };
-  bookingForm(`Move ${known.def}`, [{ ...fromField(known, part, true), change }, say("What is moved becomes another part of the same lot."),
-    amountField(known.unit, part.stock), textField("place", "New place", { required: true }), noteField()], "Move",
-  ({ from: { lot, sub }, amount, place, note }, tell) => tell(`${grouped(amount)} ${known.unit} of ${lot} brought to ${place}`,
-    noted({ do: "divide", lot, sub, amount, place }, note)));
-}
-function split(part, known) {
-  bookingForm(`Split ${known.def}`, [fromField(known, part), say("The amount becomes a lot of its own."), amountField(known.unit),
-    newLotField("new", "New lot"), placeField(), noteField()], "Split",
-    ({ from: { lot, sub }, amount, place, note, ...v }, tell) => tell(`${grouped(amount)} ${known.unit} of ${lot} split off as ${v.new}`,
-      noted({ do: "split", lot, sub, amount, new: v.new, place }, note)));
 }
 
 // Merges the parts that are chosen. A lot that is scanned is one more of them; `values` are those that were typed before.

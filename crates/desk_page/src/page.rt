@@ -15,8 +15,8 @@ pub const PAGE: &[u8] = br##"<!doctype html>
 <body>
 <header>
   <h1>Desk</h1>
-  <nav aria-label="Roles">
-    <a href="#planner">Planner</a><a href="#shift">Shift</a><a href="#warehouse">Warehouse</a><a href="#quality">Quality</a>
+  <nav aria-label="Views">
+    <a href="#today">Today</a><a href="#planner">Planner</a><a href="#shift">Shift</a><a href="#warehouse">Warehouse</a><a href="#quality">Quality</a>
   </nav>
   <form id="finder" role="search">
     <input id="find" data-id maxlength="24" autocomplete="off" spellcheck="false" placeholder="Find by id"
@@ -44,4 +44,4 @@ pub const PAGE: &[u8] = br##"<!doctype html>
 "##;
 
 /// Its entity tag.
-pub const PAGE_TAG: &str = "\"5e1f6afe8682442130f2626242ddfe99\"";
+pub const PAGE_TAG: &str = "\"bbaf1bcc45e40c3320386dfa5f03e057\"";

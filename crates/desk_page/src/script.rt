@@ -352,6 +352,60 @@ function inAll(demands) {
   for (const { def, amount, unit } of demands) all.set(def, { def, unit, asked: (all.get(def)?.asked || 0) + amount });
   return [...all.values()];
 }
+function dayAfter(day, days) {
+  const [year, month, date] = day.split("-").map(Number);
+  return new Date(Date.UTC(year, month - 1, date + days)).toISOString().slice(0, 10);
+}
+const dueBy = (items, today) => ({ late: items.filter((it) => it.due < today), today: items.filter((it) => it.due === today) });
+function dueByDay(items, first, count) {
+  const days = Array.from({ length: count }, (_, k) => ({ day: dayAfter(first, k), count: 0 })), byDay = new Map(days.map((it) => [it.day, it]));
+  let before = 0, after = 0;
+  for (const { due } of items) {
+    if (byDay.has(due)) byDay.get(due).count += 1;
+    else if (due < first) before += 1;
+    else after += 1;
+  }
+  return { days, before, after };
+}
+function shortage(demands, made, stocks) {
+  const all = new Map(), coming = new Map();
+  for (const { def, amount } of made) coming.set(def, (coming.get(def) || 0) + amount);
+  for (const it of [...demands].sort((a, b) => (a.due < b.due ? -1 : a.due > b.due ? 1 : 0))) {
+    const { usable = 0, name = "", unit = it.unit || "" } = stocks.get(it.def) || {}, there = usable + (coming.get(it.def) || 0);
+    const one = all.get(it.def) || { def: it.def, name, unit, asked: 0, free: usable, made: coming.get(it.def) || 0, from: null };
+    one.asked += it.amount;
+    if (one.from === null && one.asked > there) one.from = it.due;
+    all.set(it.def, { ...one, short: one.asked - there });
+  }
+  return [...all.values()].filter((it) => it.short > 0).sort((a, b) => (a.from < b.from ? -1 : a.from > b.from ? 1 : a.def < b.def ? -1 : 1));
+}
+function yieldOf(lines, product) {
+  const outputs = lines.filter((it) => it.kind === "out" && it.def === product), sum = (what) => outputs.reduce((all, it) => all + it[what], 0);
+  const asked = sum("asked"), booked = sum("booked");
+  return asked ? { asked, booked, percent: (100 * booked) / asked, unit: outputs[0].unit || "" } : null;
+}
+function changeOf(movement, lot) {
+  const { kind, amount, to } = movement;
+  if (kind === "divided") return 0;
+  return kind === "received" || kind === "produced" || ((kind === "split" || kind === "merged") && to === lot) ? amount : -amount;
+}
+function stockByDay(ledgers, first, count) {
+  const days = Array.from({ length: count }, (_, k) => ({ day: dayAfter(first, k), stock: 0 })), last = days.at(-1).day;
+  for (const { lot, movements } of ledgers) {
+    for (const it of movements) {
+      const day = dayOf(it.at), change = changeOf(it, lot);
+      const from = day > last ? count : day < first ? 0 : days.findIndex((one) => one.day === day);
+      for (let k = from; k < count; k += 1) days[k].stock += change;
+    }
+  }
+  return days;
+}
+function roundUp(n) {
+  if (n <= 1) return 1;
+  const power = 10 ** Math.floor(Math.log10(n));
+  return [1, 2, 5, 10].map((it) => it * power).find((it) => it >= n);
+}
+const newIn = (keys, before) => [...keys].filter((it) => !before.has(it));
 function filled(element, attributes, children) {
   for (const [name, value] of Object.entries(attributes || {})) {
     if (value === false || value == null) continue;
@@ -609,9 +663,14 @@ async function asked(path, isText) {
 async function found(path) {
   try { return await asked(path); } catch (error) { if (error instanceof Refusal && error.answer.status === 404) return null; throw error; }
 }
-async function list(path, wanted) {
+const lasting = new Map();
+async function askedOnce(name, ask) {
+  if (!lasting.has(name)) lasting.set(name, await ask());
+  return lasting.get(name);
+}
+async function list(path, wanted, cursor) {
   const all = [];
-  let behind = "";
+  let behind = cursor ? "/" + cursor : "";
   do {
     const { items, last } = readPage(path, await asked(`/v1/lists/${path}${behind}`));
     all.push(...items);
@@ -636,8 +695,9 @@ const desk = {
     return true;
   },
   async lookAtName() {
-    const [first] = (await askedAnew("/v1/lists/commands")).commands;
+    const [first] = (await askedAnew("/v1/lists/commands")).commands, before = this.name;
     this.name = first ? first.ref : null;
+    if (this.name !== before) lasting.clear();
     dispatchEvent(new Event("desk-named"));
   },
   async lookAtMoment() { this.moment = (await askedAnew("/v1/moment")).at; },
@@ -653,6 +713,7 @@ const desk = {
   loggedIn: async () => (await found("/v1/operator"))?.operator ?? null,
   definition: (id) => found("/v1/definitions/" + id),
   recipe: (id, version) => asked(`/v1/recipes/${id}/${version}`),
+  recipeOnce: (id, version) => askedOnce(`recipe ${id} ${version}`, () => desk.recipe(id, version)),
   foundRecipe: (id, version) => found(`/v1/recipes/${id}/${version}`),
   recall: (id) => found("/v1/recalls/" + id),
   async batch(id) {
@@ -660,12 +721,18 @@ const desk = {
     return { ...batch, lines: lines.map(withPath) };
   },
   async linesNow(id) { return (await askedAnew(`/v1/batches/${id}/lines`)).lines; },
+  finishedBatch: (order) => askedOnce(`finished ${order}`, async () => {
+    const { batch } = await asked("/v1/orders/" + order);
+    return { batch, lines: (await asked(`/v1/batches/${batch}/lines`)).lines };
+  }),
+  ledger: (lot, stock, wanted) => askedOnce(`ledger ${lot} ${stock}`, () => list("movements/" + lot, wanted)),
   async record(id) { return readRecord(await asked(`/v1/batches/${id}/record`, true)); },
   async stands(kind, id) { return (await asked(`/v1/${kind}/${id}/stands`)).lots; },
   forward: (kind, id) => asked(`/v1/${kind}/${id}/forward_edges`),
   back: (kind, id) => asked(`/v1/${kind}/${id}/back_edges`),
   async lotNode(lot) { return (await this.back("lots", lot)).nodes.find((it) => it.lot === lot); },
   orders: (state, wanted) => list("orders_by_due/" + state, wanted),
+  ordersSince: (state, since, wanted) => list("orders_by_due/" + state, wanted, `${since}.A`),
   batches: (wanted) => list("batches", wanted),
   closedBatches: (wanted) => list("closed_batches", wanted),
   holds: (lot, wanted) => list("holds/" + lot, wanted),
@@ -684,7 +751,7 @@ const desk = {
     const known = await this.definition(def), isMeant = (it) => it.def === def;
     if (!known) return null;
     const first = (await this.stocks(known.class, PAGE)).find(isMeant);
-    return first || (await list(`stocks/${known.class}/${idBefore(def)}`, 1)).find(isMeant) || null;
+    return first || (await list(`stocks/${known.class}`, 1, idBefore(def))).find(isMeant) || null;
   },
   async materials() {
     const all = [];
@@ -712,7 +779,7 @@ function place() {
   const { name, words } = readAddress(location.hash);
   const kinds = ["lot", "batch", "recall"];
   const rest = words.map((it) => (kinds.includes(it) ? it : it.toUpperCase())).filter((it) => kinds.includes(it) || isId(it));
-  return Object.hasOwn(VIEWS, name) ? [name, rest] : ["planner", []];
+  return Object.hasOwn(VIEWS, name) ? [name, rest] : ["today", []];
 }
 function filterOf(name, options) {
   const it = readAddress(location.hash).filters.get(name);
@@ -748,12 +815,33 @@ async function show() {
     if (mine !== showing) return;
     draw(layout, parts);
     view.dataset.ready = `${name} ${desk.seq}`;
+    readRest(mine);
   } catch (error) {
     if (mine === showing) drawFailure(name, error);
   } finally { clearTimeout(slow); }
 }
-let drawn = "", drawnOn = "";
+const unread = new Map(), lastRead = new Map();
+function later(name, read) {
+  const it = h("div", { class: "later" }, lastRead.get(name) || none("reading\u2026"));
+  unread.set(it, { name, read });
+  return it;
+}
+async function readRest(mine) {
+  const all = [...unread], isShown = () => mine === showing;
+  unread.clear();
+  for (const [element, { name, read }] of all) {
+    if (!isShown()) return;
+    const nodes = await read(isShown).catch((error) => [none(whyNot(error))]), now = document.activeElement, key = element.contains(now) ? keyOf(now) : null;
+    if (!isShown()) return;
+    lastRead.set(name, nodes);
+    element.replaceChildren(...nodes.flat(9).filter(Boolean));
+    if (key) focusAgain(key);
+  }
+  view.dataset.whole = view.dataset.ready;
+}
+let drawn = "", drawnOn = "", drawnAt = 0;
 const isDayOver = () => drawnOn !== desk.today();
+const isDrawnBefore = (seconds) => desk.time() - drawnAt >= seconds;
 const tops = new Map();
 history.scrollRestoration = "manual";
 function draw(layout, parts) {
@@ -768,6 +856,7 @@ function draw(layout, parts) {
   else if (key) focusAgain(key);
   drawn = location.hash;
   drawnOn = desk.today();
+  drawnAt = desk.time();
   if (history.state === null) history.replaceState({ isDrawn: true }, "");
   drawStatus();
 }
@@ -1305,4 +1394,4 @@ function bookingForm(title, fields, label, take, more) {
 "##;
 
 /// Its entity tag.
-pub const SCRIPT_TAG: &str = "\"39dffbd41bbf621ed689514664696f39\"";
+pub const SCRIPT_TAG: &str = "\"73d1e5bae4ebba8ce7119ebf4369d9ad\"";

@@ -191,6 +191,30 @@ dialog:has(.sheet) { width: min(860px, 94vw); } .sheet h3 { margin: 14px 0 2px; 
 .tickbox { display: inline-block; width: 5mm; height: 5mm; border: 1px solid var(--ink); vertical-align: middle; } .towrite { min-width: 30mm; width: 40%; }
 .sheet th:first-child, .sheet td:first-child { width: 4em; padding-left: 5px; }
 
+/* The first view: figures, tables and plots side by side, and the same in large letters. */
+@media (min-width: 700px) { main.today { grid-template-columns: repeat(auto-fit, minmax(min(100%, 440px), 1fr)); } }
+.tiles { grid-column: 1 / -1; display: grid; grid-template-columns: repeat(auto-fit, minmax(136px, 1fr)); gap: 12px; }
+.tile { padding: 10px 14px; border-top: 4px solid var(--edge); } .tile h2 { font-size: 14px; color: var(--soft); margin: 0; }
+.tile .number { display: inline-block; min-width: 44px; font-size: 34px; line-height: 44px; font-weight: 600; color: inherit; text-decoration: none; }
+.tile a.number:hover { text-decoration: underline; } .tile p { display: grid; gap: 2px; font-size: 13px; margin: 0; justify-items: start; color: var(--soft); }
+.tile.bad { border-top-color: #c2333f; } .tile.bad .number { color: var(--bad); } .tile.warn { border-top-color: #c08a1e; } .tile.warn .number { color: var(--warn); }
+.tile.good { border-top-color: #2a8f60; } .tile.nothing .number { color: var(--soft); font-weight: 400; }
+.later { min-height: 236px; } .plot { padding: 6px 16px 2px; } .plot svg { display: block; } label.tick { display: flex; align-items: center; gap: 8px; }
+svg .axis { stroke: var(--line); } svg .tick { font-size: 12px; fill: var(--soft); } svg .column { fill: var(--accent); } svg .column.bad { fill: #c2333f; }
+svg .column.warn { fill: #c08a1e; } svg .column.good { fill: #2a8f60; } svg .mark { stroke: var(--ink); stroke-dasharray: 4 3; }
+svg .line { fill: none; stroke: var(--accent); stroke-width: 2; } svg .below { fill: var(--accent); opacity: .16; }
+body:has(main.board) header { display: none; } main.board { max-width: none; padding: 14px 16px 54px; }
+.board .tiles { grid-template-columns: repeat(auto-fit, minmax(max(150px, 12.5vw), 1fr)); } .board .tile h2 { font-size: clamp(16px, 1.6vw, 34px); }
+.board .tile .number { font-size: clamp(48px, 6.4vw, 150px); line-height: 1.15; } .board .tile p { font-size: clamp(14px, 1.1vw, 24px); }
+.board .card h2 { font-size: clamp(17px, 1.3vw, 28px); } .board td, .board td .small, .board td .under, .board .none { font-size: clamp(16px, 1.15vw, 26px); }
+.board th { font-size: clamp(13px, .9vw, 20px); } .board details, .board button, .board .more, body:has(main.board) footer button { display: none; }
+.board td a { color: inherit; text-decoration: none; } .board .plot svg { width: 100%; max-width: none !important; }
+.alarm::after { content: ""; position: fixed; inset: 0; z-index: 10; border: 18px solid #c2333f; pointer-events: none; animation: flash 1s steps(2, jump-none) infinite; }
+@keyframes flash { from { opacity: 1; } to { opacity: 0; } }
+@media (prefers-reduced-motion: reduce) { .alarm::after { animation: none; } }
+dialog:has(.help) { width: min(680px, 94vw); } .help .keys { display: grid; grid-template-columns: repeat(auto-fit, minmax(230px, 1fr)); gap: 4px 16px; }
+.help h3 { margin: 4px 0 0; font-size: 14px; color: var(--soft); }
+
 .picture { overflow-x: auto; padding: 12px 16px 8px; }
 svg text { font-size: 12px; fill: var(--ink); } svg .box { stroke: #8592a6; fill: var(--card); }
 svg .box.held { fill: var(--warn-ground); stroke: #c08a1e; } svg .box.recalled { fill: var(--bad-ground); stroke: var(--bad); }
@@ -269,4 +293,4 @@ svg .word { fill: var(--bad); font-weight: 600; font-size: 10px; }
 "##;
 
 /// Its entity tag.
-pub const STYLE_TAG: &str = "\"f0e071a8050e61763b83805df7b42497\"";
+pub const STYLE_TAG: &str = "\"e5d7df2b058baa73b75f67a849010584\"";

@@ -2,6 +2,274 @@
 
 /// Its bytes: JavaScript in ASCII.
 pub const VIEWS: &[u8] = br##""use strict";
+const EDGE = { left: 52, right: 10, top: 12, bottom: 24 }, HIGH = 190, MOST_WIDE = 560, LEAST_WIDE = 290;
+const wideOf = () => Math.max(LEAST_WIDE, Math.min(MOST_WIDE, document.documentElement.clientWidth - 56));
+function plot(said, values, top, unit, inner) {
+  const wide = wideOf(), across = (wide - EDGE.left - EDGE.right) / values.length, down = HIGH - EDGE.top - EDGE.bottom;
+  const x = (k) => EDGE.left + k * across, y = (n) => EDGE.top + down * (1 - n / top);
+  const line = (n) => [svg("line", { class: "axis", x1: EDGE.left, x2: wide - EDGE.right, y1: y(n), y2: y(n) }),
+    svg("text", { class: "tick", x: EDGE.left - 6, y: y(n) + 4, "text-anchor": "end" }, shortly(n), unit)];
+  const ticks = [0, Math.floor((values.length - 1) / 2), values.length - 1].filter((k, at, all) => all.indexOf(k) === at && values[k].tick);
+  const anchor = (k) => (k === 0 ? "start" : k === values.length - 1 ? "end" : "middle");
+  const at = (k) => (k === 0 ? EDGE.left : k === values.length - 1 ? wide - EDGE.right : x(k + 0.5));
+  const it = svg("svg", { width: wide, height: HIGH, viewBox: `0 0 ${wide} ${HIGH}`, role: "img", "aria-label": said }, [0, top / 2, top].map(line),
+    ticks.map((k) => svg("text", { class: "tick", x: at(k), y: HIGH - 7, "text-anchor": anchor(k) }, values[k].tick)), inner(x, y, across));
+  Object.assign(it.style, { maxWidth: "100%", height: "auto" });
+  return h("div", { class: "plot" }, it);
+}
+const SIZES = [[1e12, "T"], [1e9, "G"], [1e6, "M"], [1e4, "k"]];
+function shortly(n) {
+  const [size, word] = SIZES.find(([it]) => n >= it) || [1, ""], of = word === "k" ? 1e3 : size;
+  return grouped(Number((n / of).toPrecision(3))) + word;
+}
+function barPlot(said, values, unit = "", mark = null) {
+  const top = roundUp(Math.max(mark || 0, ...values.map((it) => it.n)));
+  return plot(said, values, mark ? Math.max(top, mark * 1.2) : top, unit, (x, y, across) => [
+    values.map((it, k) => svg("rect", { class: `column ${it.tone || ""}`.trim(), x: x(k) + across * 0.12, width: Math.max(1, across * 0.76), y: y(it.n),
+      height: Math.max(0, y(0) - y(it.n)) }, svg("title", {}, it.said))),
+    mark !== null && svg("line", { class: "mark", x1: x(0), x2: x(values.length), y1: y(mark), y2: y(mark) })].filter(Boolean));
+}
+function stepPlot(said, values, unit = "") {
+  const top = roundUp(Math.max(...values.map((it) => it.n)));
+  return plot(said, values, top, unit, (x, y) => {
+    const path = values.map((it, k) => `${k ? "V" : `M${x(0)} `}${y(it.n)}H${x(k + 1)}`).join("");
+    return [svg("path", { class: "below", d: `${path}V${y(0)}H${x(0)}Z` }), svg("path", { class: "line", d: path })];
+  });
+}
+function valuesOf(heads, rows) {
+  return h("details", { class: "noprint" }, h("summary", {}, "The values as a table"), table(heads, rows, "", true));
+}
+const valueRow = (name, ...values) => row(`value ${name}`, [cell(name), ...values.map(([n, unit]) => numberCell(n, unit))]);
+function alarmBox() {
+  const change = (event) => { keep("alarm", event.target.checked); if (event.target.checked) tone(); };
+  return h("label", { class: "tick" }, h("input", { type: "checkbox", id: "alarm", checked: kept("alarm", false), onchange: change }),
+    h("span", {}, "A tone and a flash at a new hold or recall"));
+}
+let known = null, knownOf = null;
+function watchFor(holds, recalls) {
+  const all = new Map([...recalls.map((it) => [`recall ${it.recall}`, `Recall ${it.recall} of lot ${it.lot}, by ${it.by}.`]),
+    ...holds.map((it) => [`hold ${it.lot}.${it.hold}`, `Hold ${it.hold} on lot ${it.lot}, by ${it.by}.`])]);
+  const news = known && knownOf === desk.name ? newIn(all.keys(), known) : [];
+  known = new Set(all.keys());
+  knownOf = desk.name;
+  if (news.length && kept("alarm", false)) alarm(news.map((it) => all.get(it)));
+}
+const TONES_OF_ALARM = 3, APART = 600, LASTS = 12_000;
+let ending;
+function alarm(texts) {
+  for (let k = 0; k < TONES_OF_ALARM; k += 1) setTimeout(tone, k * APART);
+  notice("bad", texts.join(" "));
+  document.body.classList.add("alarm");
+  clearTimeout(ending);
+  ending = setTimeout(() => document.body.classList.remove("alarm"), LASTS);
+}
+const KEYS_OF_VIEWS = [["0", "today"], ["1", "planner"], ["2", "shift"], ["3", "warehouse"], ["4", "quality"]];
+const OTHER_KEYS = [["/", "find a lot, a batch, an order or a recall"], ["r", "look again"], ["?", "this help"],
+  ["Esc", "close a form, leave the board"], ["Enter", "to the next field of a form; books in the last one"]];
+const SCANS = "A scanner works wherever the cursor is, and books nothing: at a batch it opens the form with the scanned lot, in a form it chooses the lot, "
+  + "elsewhere it finds.";
+const BOOKINGS = "A booking can't be taken back: book the opposite, or scrap. It counts once, also where its answer is lost and it is sent again. Views look "
+  + "again every 20 seconds.";
+const WORDS = {
+  "Orders and recipes": {
+    "Draft, Approve, Withdraw": "A new version of a recipe is a draft. Once it is approved, orders of it can be taken in and released. A withdrawn one is for no "
+      + "further release; batches go on.",
+    "Order, Batch": "An order says what is wanted by when. Its release makes one batch, which the shift makes.",
+    "Open, Released, Finished": "An open order waits for its release. A released one has a batch. It is finished once that batch is closed.",
+    "Late": "Its due date is over, and it is neither finished nor cancelled.",
+  },
+  "Batches": {
+    "Consume, Produce": "Consume books what goes into a batch, of the lot that it is taken of. Produce books what comes out, as a new lot.",
+    "Asked, Booked, Left": "What the recipe wants at the order's size, what was consumed or produced so far, and what is missing of it.",
+    "Pause, Hold (of a batch)": "Both interrupt a batch. After a pause it is resumed, after a hold restarted. A hold of a lot is another thing: see below.",
+    "Stop, Abort": "Stop ends a batch in order before its time, Abort breaks it off. Both can be reset, and begin anew.",
+    "Reset, Attempt": "A reset batch begins anew from its first phase, as another attempt. What was booked on it stays booked.",
+    "Finish": "Pausing, stopping and the like take time. Finish says that the batch got there.",
+    "Complete, Close": "A complete batch has done its work, and still takes bookings. A closed one takes none, and its order is finished.",
+    "Parameter": "A value that the recipe gives for the phase after it, such as a temperature. The desk notes no measured value: book a step with a note.",
+  },
+  "Lots": {
+    "Class, Material, Lot, Part": "A class is a group of materials. A lot is an amount of one material that is known by its id. Its parts are where it is: F-1/2 is "
+      + "part 2 of lot F-1.",
+    "Free, On hold, Recalled": "Free goods may be used. A hold keeps one lot from being consumed, split and merged, a recall also all that came of it.",
+    "Hold, Recall": "Hold what may be wrong, and take the hold off once it is known. Recall what is wrong: it also reaches what was made of it, and running batches.",
+    "Take off, Lift": "A hold is taken off, a recall is lifted. The desk keeps who did it.",
+    "Move, Split": "Move brings an amount to another place: it stays the same lot, as another part; the ledger says divided. Split makes an amount a lot of its own.",
+    "Merge": "Makes one new lot of parts of several lots of the same material.",
+    "Scrap": "Books goods out that are spoiled or lost.",
+    "Genealogy, Ledger, Record": "The genealogy shows what a lot came of and what came of it. The ledger has each booking of a lot, the record all of a batch.",
+  },
+  "This page": {
+    "Number, Reference": "Each booking has a number, one after the other. Its reference keeps it from counting twice.",
+    "Send again": "No answer came to a booking, which may have been taken or not. Sent again, it counts once.",
+    "Short": "Orders and batches ask for more of a material than is free and is to be made until then.",
+  },
+};
+function help() {
+  const key = ([name, what]) => h("p", {}, h("kbd", {}, name), " ", what);
+  const words = Object.entries(WORDS).map(([about, all]) => [h("h3", {}, about),
+    h("dl", {}, Object.entries(all).map(([name, what]) => [h("dt", {}, name), h("dd", {}, what)]))]);
+  const end = h("div", { class: "end" }, h("button", { class: "main" }, "Close"));
+  const it = h("form", { method: "dialog", class: "help" }, h("h2", { id: "title" }, "Keys and help"), h("div", { class: "keys" }, [...KEYS_OF_VIEWS, ...OTHER_KEYS].map(key)),
+    h("p", { class: "soft" }, SCANS), h("p", { class: "soft" }, BOOKINGS), h("h2", {}, "Words"), words, end);
+  openDialog(it, it.querySelector("button"));
+}
+const MOST = 1000, MOST_LINES = 40, MOST_ROWS = 8;
+const AHEAD = ["7 days", "1 day", "30 days"];
+const today = () => overview(false);
+const board = () => overview(true);
+async function overview(isBoard) {
+  const it = await figures(), parts = [tiles(it, isBoard), runningBatches(it), latestBars(it), shortCard(it, isBoard)];
+  const plots = [dueCard(it), card("Yield", null, later("yield", (isShown) => yieldPlot(isShown, isBoard))),
+    card("Stock over 90 days", null, later("stock", (isShown) => stockPlot(it, isShown, isBoard)))];
+  return [isBoard ? "today board" : "today", desk.seq === 0 && firstSteps(), ...parts, ...plots, !isBoard && boardCard()];
+}
+async function figures() {
+  const day = desk.today(), ahead = filterOf("ahead", AHEAD), until = dayAfter(day, parseInt(ahead, 10));
+  const orders = await desk.orders("open", MOST), batches = await desk.batches(MOST), holds = await desk.allHolds(MOST), recalls = await desk.recalls(MOST);
+  const stocks = new Map((await desk.materials()).map((it) => [it.def, it]));
+  watchFor(holds, recalls);
+  const dated = batches.filter((it) => it.planned).map((it) => ({ ...it, due: it.planned.due }));
+  const wanted = await demands(orders.filter((it) => it.due <= until), dated.filter((it) => it.due <= until));
+  return { day, ahead, until, orders, batches, dated, holds, recalls, stocks, isWhole: wanted.isWhole, short: shortage(wanted.asked, wanted.made, stocks) };
+}
+async function demands(orders, batches) {
+  const asked = [], made = [];
+  const add = (line, amount, due) => (line.kind === "in" ? asked : made).push({ def: line.def, unit: line.unit, amount, due });
+  const isUntouched = (it) => it.state === "idle" && it.attempt === 1, going = batches.filter((it) => !MAY_CLOSE.includes(it.state));
+  for (const { recipe, version, size, due } of [...orders, ...going.filter(isUntouched).map((it) => it.planned)]) {
+    const { lines, base } = await desk.recipeOnce(recipe, version);
+    for (const it of lines) if (it.def) add(it, scaled(it.qty, base, size), due);
+  }
+  const begun = going.filter((it) => !isUntouched(it)).sort((a, b) => (a.due < b.due ? -1 : 1));
+  for (const { batch, due } of begun.slice(0, MOST_LINES)) {
+    const { lines } = await desk.batch(batch);
+    for (const it of lines) if (it.def && it.booked < it.asked) add(it, it.asked - it.booked, due);
+  }
+  return { asked, made, isWhole: !orders.more && begun.length <= MOST_LINES };
+}
+const many = (list, one, several) => `${grouped(list.length)}${list.more ? " and more" : ""} ${list.length === 1 && !list.more ? one : several}`;
+function tile({ name, list, tone, place, more = [] }, isBoard) {
+  const count = `${grouped(list.length)}${list.more ? "+" : ""}`, number = isBoard ? h("b", { class: "number" }, count)
+    : h("a", { class: "number", href: `#${place}`, "aria-label": `${name}: ${count}` }, count);
+  const told = more.filter(Boolean).map(([where, text]) => (isBoard || !where ? h("span", {}, text) : link(where, text)));
+  return h("section", { class: `card tile ${list.length ? tone || "" : "nothing"}`.trim() }, h("h2", { tabindex: -1 }, name), number, h("p", {}, told));
+}
+function tiles(it, isBoard) {
+  const orders = dueBy(it.orders, it.day), batches = dueBy(it.dated, it.day), all = [[...orders.late, ...batches.late], [...orders.today, ...batches.today]];
+  const due = (mine, theirs, where = "planner") => [mine.length && [where, many(mine, "order isn't released", "orders aren't released")],
+    theirs.length && ["shift", many(theirs, "batch is open", "batches are open")]];
+  const running = it.batches.filter((one) => one.state === "running"), idle = it.batches.filter((one) => one.state === "idle");
+  const broken = it.batches.filter((one) => !["running", "idle", "complete"].includes(one.state)), soon = it.orders.filter((one) => one.due <= it.until);
+  const lots = Object.assign([...new Set(it.holds.map((one) => one.lot))], { more: it.holds.more });
+  const of = (mine, theirs) => (mine.length || !theirs.length ? "planner" : "shift");
+  const first = (list, place, name) => list.slice(0, 2).map((one) => [place(one), name(one)]);
+  const figures = [
+    { name: "Late", list: all[0], tone: "bad", place: of(orders.late, batches.late), more: due(orders.late, batches.late) },
+    { name: "Due today", list: all[1], tone: "warn", place: orders.today.length ? `planner?text=${it.day}` : of(orders.today, batches.today), more: due(orders.today, batches.today, `planner?text=${it.day}`) },
+    { name: "Running", list: running, tone: "good", place: "shift",
+      more: [idle.length && ["shift", `${grouped(idle.length)} to be started`], broken.length && ["shift", `${grouped(broken.length)} paused, held or ended early`]] },
+    { name: "Waiting", list: it.orders, place: "planner", more: [[null, `${grouped(soon.length)} due within ${it.ahead}`]] },
+    { name: "On hold", list: lots, tone: "warn", place: "quality", more: first(lots, (one) => `quality/lot/${one}`, (one) => one) },
+    { name: "Recalled", list: it.recalls, tone: "bad", place: "quality", more: first(it.recalls, (one) => `quality/recall/${one.recall}`, (one) => one.recall) },
+    { name: "Short", list: it.short, tone: "bad", place: it.short.length ? `warehouse/${it.short[0].def}` : "warehouse",
+      more: first(it.short, (one) => `warehouse/${one.def}`, (one) => one.def) },
+  ];
+  return h("div", { class: "tiles" }, figures.map((one) => tile(one, isBoard)));
+}
+const restOf = (rows, place, text) => rows.length > MOST_ROWS && h("div", { class: "more" }, `${grouped(rows.length - MOST_ROWS)} more: `, link(place, text));
+function runningBatches({ batches }) {
+  const now = desk.time(), going = batches.filter((it) => it.state !== "idle" && it.state !== "complete").sort((a, b) => a.at - b.at);
+  const made = ({ planned }) => planned && h("div", { class: "under" }, planned.title || planned.product);
+  const rows = going.slice(0, MOST_ROWS).map((it) => row(it.batch, [idCell(batchLink(it.batch), made(it)), cell(pill(it.state, TONES[it.state])),
+    cell(it.phase ? `${it.phase} on ${it.phase_unit}` : "all phases done"), cell(lengthOfTime(now - it.at), h("div", { class: "soft small" }, moment(it.at)))]));
+  return card("Running, the longest first", null, table(["Batch", "State", "Next", "Since its last step"], rows, "No batch runs.", true), restOf(going, "shift", "all batches"));
+}
+function latestBars({ holds, recalls }) {
+  const all = [...holds.map((it) => ({ ...it, what: `hold ${it.hold}` })),
+    ...recalls.map((it) => ({ ...it, what: ["recall ", link(`quality/recall/${it.recall}`, it.recall)], isRecall: true }))].sort((a, b) => b.at - a.at);
+  const rows = all.slice(0, MOST_ROWS).map((it) => row(`${it.lot} ${it.hold || it.recall}`, [idCell(lotLink(it.lot)),
+    cell(h("span", { class: it.isRecall ? "over" : null }, it.what), it.note && h("div", { class: "soft small" }, it.note)), cell(it.by), momentCell(it.at)]));
+  return card("On hold and recalled, the last first", null, table(["Lot", "What", "By", "Since"], rows, "No lot is on hold, and none is recalled.", true),
+    restOf(all, "quality", "all holds and recalls"));
+}
+function shortCard({ short, until, ahead, isWhole }, isBoard) {
+  const amount = (n, unit) => cell(n ? `${grouped(n)} ${unit}` : "");
+  const rows = short.slice(0, MOST_ROWS).map((it) => row(it.def, [idCell(link("warehouse/" + it.def, it.def), it.name && h("div", { class: "under" }, it.name)),
+    numberCell(it.asked, it.unit), numberCell(it.free, it.unit), amount(it.made, it.unit), h("td", { class: "num" }, h("span", { class: "over" }, grouped(it.short), " ", it.unit)),
+    cell(it.from)]));
+  const days = ["1 day", "7 days", "30 days"], pick = choice("Days to look ahead", days, ahead, (it) => setFilter("ahead", AHEAD, it));
+  return card(`Short by ${until}`, !isBoard && pick,
+    table(["Material", "#Asked", "#Free", "Made by then", "#Short", "From"], rows, "Nothing is short for the open orders and batches that are due by then.", false),
+    restOf(short, "warehouse", "the warehouse"),
+    !isWhole && h("p", { class: "none" }, `The first ${grouped(MOST)} orders and the lines of ${MOST_LINES} batches are counted, and there are more.`));
+}
+const BEFORE = 14, DAYS = 29;
+function dueCard({ day, orders, dated }) {
+  const { days, before, after } = dueByDay([...orders, ...dated], dayAfter(day, -BEFORE), DAYS), shortDay = (it) => it.slice(5);
+  const values = days.map((it) => ({ n: it.count, tone: it.day < day ? "bad" : it.day === day ? "warn" : "", tick: it.day === day ? `today, ${shortDay(day)}` : shortDay(it.day),
+    said: `${it.day}: ${grouped(it.count)}` }));
+  const late = before + days.filter((it) => it.day < day).reduce((sum, it) => sum + it.count, 0);
+  const rest = [before && `${grouped(before)} due before these days`, after && `${grouped(after)} after them`].filter(Boolean).join(", ");
+  return card("Orders and batches by their due dates", null, barPlot(`Open orders and batches by their due dates, ${late} late`, values),
+    rest && h("p", { class: "none" }, `${rest}.`), valuesOf(["Due", "#Open"], days.filter((it) => it.count).map((it) => valueRow(it.day, [it.count]))));
+}
+function plotOf(name, id, label, values, on) {
+  return h("div", { class: "body row" }, h("select", { id, "aria-label": label, onchange: (event) => setText(name, event.target.value) },
+    values.map((it) => h("option", { value: it, selected: it === on }, it))));
+}
+const LAST_BATCHES = 30, MOST_FINISHED = 2000, BACK = [14, 60, 240, 4000];
+async function lastFinished(recipe, isShown) {
+  let found = [], all = [], of = recipe;
+  for (const days of BACK) {
+    if (!isShown()) break;
+    all = await desk.ordersSince("finished", dayAfter(desk.today(), -days), MOST_FINISHED);
+    of ||= all.at(-1)?.recipe || "";
+    found = all.filter((it) => it.recipe === of).slice(-LAST_BATCHES);
+    if (found.length === LAST_BATCHES || all.more) break;
+  }
+  return { of, found, recipes: [...new Set([...all.map((it) => it.recipe), of])].filter(Boolean).sort() };
+}
+async function yieldPlot(isShown, isBoard) {
+  const { of, found, recipes } = await lastFinished(textOf("recipe"), isShown), values = [];
+  if (!found.length) return [!isBoard && recipes.length > 1 && plotOf("recipe", "yieldrecipe", "Recipe of the yields", recipes, of), none("No order is finished.")];
+  for (const order of found) {
+    if (!isShown()) return [];
+    const { batch, lines } = await desk.finishedBatch(order.order), { product } = await desk.recipeOnce(order.recipe, order.version), it = yieldOf(lines, product);
+    if (it) values.push({ ...it, n: it.percent, batch, due: order.due, tone: it.percent < 95 ? "bad" : "good", tick: order.due.slice(5),
+      said: `${batch}: ${it.percent.toFixed(1)} %, ${grouped(it.booked)} of ${grouped(it.asked)} ${it.unit}` });
+  }
+  const asked = values.reduce((sum, it) => sum + it.asked, 0), booked = values.reduce((sum, it) => sum + it.booked, 0);
+  const rows = values.map((it) => row(`yield ${it.batch}`, [idCell(batchLink(it.batch)), numberCell(it.asked, it.unit), numberCell(it.booked, it.unit),
+    h("td", { class: "num" }, it.percent.toFixed(1))]));
+  const told = `${of}: the last ${counted(values.length, "batch", "batches")} made ${((100 * booked) / asked).toFixed(1)} % of what was asked`;
+  return [!isBoard && plotOf("recipe", "yieldrecipe", "Recipe of the yields", recipes, of), h("p", { class: "none" }, `${told}.`), barPlot(told, values, " %", 100),
+    valuesOf(["Batch", "#Asked", "#Booked", "#Percent"], rows)];
+}
+const STOCK_DAYS = 90, MOST_LOTS = 100, MOST_MOVEMENTS = 500;
+async function stockPlot({ stocks, short, day }, isShown, isBoard) {
+  const there = [...stocks.values()].filter((it) => it.lots > 0), most = [...there].sort((a, b) => b.lots - a.lots)[0];
+  const def = textOf("def") || short.find((it) => stocks.get(it.def)?.lots)?.def || most?.def, known = stocks.get(def);
+  const pick = !isBoard && there.length > 0 && plotOf("def", "stockdef", "Material of the stock", [...new Set([...there.map((it) => it.def), def])].sort(), def);
+  if (!known?.lots) return [pick, none(def ? `There is no ${def} in stock.` : "Nothing is in stock.")];
+  const lots = await desk.stock(def, MOST_LOTS), ledgers = [];
+  for (const { lot, stock } of lots) {
+    if (!isShown()) return [];
+    const movements = await desk.ledger(lot, stock, MOST_MOVEMENTS);
+    if (!movements.more) ledgers.push({ lot, movements });
+  }
+  const left = lots.length - ledgers.length, days = stockByDay(ledgers, dayAfter(day, 1 - STOCK_DAYS), STOCK_DAYS), now = days.at(-1).stock;
+  const told = `${known.name || def}: ${grouped(now)} ${known.unit} of ${counted(ledgers.length, "lot", "lots")} in stock`;
+  const limits = [lots.more && `the ${MOST_LOTS} oldest lots alone`, left > 0 && `${counted(left, "lot", "lots")} of more than ${MOST_MOVEMENTS} bookings left out`];
+  const said = ["Lots that are used up meanwhile aren't counted", ...limits].filter(Boolean).join(", ");
+  const weeks = days.filter((it, k) => (STOCK_DAYS - 1 - k) % 7 === 0);
+  return [pick, h("p", { class: "none" }, `${told}. ${said}.`), stepPlot(`${told}, day by day`, days.map((it) => ({ n: it.stock, tick: it.day.slice(5) })), ""),
+    valuesOf(["Day", "#Stock"], weeks.map((it) => valueRow(it.day, [it.stock, known.unit])))];
+}
+function boardCard() {
+  return card("The board", null, h("div", { class: "body" }, h("p", {}, link(location.hash.replace(/^#?\w*/, "board"), "Open the board"), ": the same in large letters, without buttons, for a screen on the wall. "
+    + "Esc leads back here."), alarmBox()));
+}
 const nameOf = (node) => (node.lot ? "lot " + node.lot : "batch " + node.batch);
 const LARGEST_PICTURE = 300;
 function genealogyCard({ back, forward }, here) {
@@ -992,28 +1260,6 @@ async function findScanned(code) {
   if (dialog.open) dialog.close();
   if (!(await find(code))) tone();
 }
-const WORDS = {
-  "Move, Split": "Move brings an amount to another place: it stays the same lot, as another part. Split makes an amount a lot of its own.",
-  "Hold, Recall": "A hold keeps one lot from being consumed, split and merged, a recall also all that came of it.",
-  "Stop, Abort": "Stop ends a batch in order before its time, Abort breaks it off. Both can be reset, and begin anew.",
-  "Finish": "Pausing, stopping and the like take time. Finish says that the batch got there.",
-  "Complete, Close": "A complete batch has done its work, and still takes bookings. A closed one takes none, and its order is finished.",
-};
-function help() {
-  const key = (name, what) => h("p", {}, h("kbd", {}, name), " ", what);
-  const keys = [key("1", "planner"), key("2", "shift"), key("3", "warehouse"), key("4", "quality"),
-    key("/", "find a lot, a batch, an order or a recall"), key("r", "look again"), key("Esc", "close a form"),
-    key("Enter", "to the next field of a form; books in the last one")];
-  const scans = "A scanner works wherever the cursor is, and books nothing: at a batch it opens the form with the scanned lot, in a form it chooses the "
-    + "lot, elsewhere it finds.";
-  const text = "A booking can't be taken back: book the opposite, or scrap. It counts once, also where its answer is lost and it is sent again. "
-    + "Views look again every 20 seconds.";
-  const end = h("div", { class: "end" }, h("button", { class: "main" }, "Close"));
-  const words = Object.entries(WORDS).map(([name, what]) => [h("dt", {}, name), h("dd", {}, what)]);
-  const it = h("form", { method: "dialog" }, h("h2", { id: "title" }, "Keys and help"), keys, h("p", { class: "soft" }, scans), h("p", { class: "soft" }, text),
-    h("h2", {}, "Words"), h("dl", {}, words), end);
-  openDialog(it, it.querySelector("button"));
-}
 at("help").addEventListener("click", help);
 dialog.addEventListener("cancel", (event) => { if (sending) event.preventDefault(); });
 dialog.addEventListener("close", () => {
@@ -1026,19 +1272,21 @@ dialog.addEventListener("close", () => {
 addEventListener("keydown", (event) => {
   if (event.ctrlKey || event.altKey || event.metaKey || dialog.open) return;
   if (event.key === "Escape" && document.activeElement === at("find")) return view.focus();
+  if (event.key === "Escape" && place()[0] === "board") return go("today");
   if (isWriting()) return;
-  const role = Object.keys(VIEWS)[Number(event.key) - 1];
+  const role = /^[0-4]$/.test(event.key) && Object.keys(VIEWS)[event.key];
   const act = role ? () => go(role) : { "/": () => at("find").select(), "?": help, r: show }[event.key];
   if (!act) return;
   event.preventDefault();
   onceAlone(act);
 });
-Object.assign(VIEWS, { planner, shift, warehouse, quality });
+Object.assign(VIEWS, { today, planner, shift, warehouse, quality, board });
 operator.value = kept("operator", "");
 operator.addEventListener("input", () => operator.readOnly || keep("operator", operator.value));
 operator.addEventListener("change", () => nameOperator(operator.value));
 operator.addEventListener("keydown", (event) => { if (event.key === "Enter") view.focus(); });
-const TURN = 20;
+const TURN = 20, MINUTE = 60;
+const isOld = () => isDayOver() || (["today", "board"].includes(place()[0]) && isDrawnBefore(MINUTE));
 async function lookAgain() {
   if (document.hidden || sending || dialog.open) return;
   drawWaiting();
@@ -1046,7 +1294,7 @@ async function lookAgain() {
     const isNew = await desk.look(), areChosen = { planner: chosenOrders, warehouse: chosen }[place()[0]]?.size > 0;
     const isAtWork = areChosen || (isWriting() && view.contains(document.activeElement));
     if (isNew && isAtWork) drawNew();
-    else if (isNew || (isDayOver() && !isAtWork) || at("stand").textContent === "no answer") show();
+    else if (isNew || (isOld() && !isAtWork) || at("stand").textContent === "no answer") show();
   } catch { tellStatus("bad", "no answer"); }
 }
 const drawNew = () => tellStatus("warn", "there are new bookings: ", button("Look again", () => show()));
@@ -1060,4 +1308,4 @@ desk.loggedIn().then(nameByLogin).catch((error) => notice("bad", whyNot(error)))
 "##;
 
 /// Its entity tag.
-pub const VIEWS_TAG: &str = "\"c1754203d6a8c17b9df1db9398158ba1\"";
+pub const VIEWS_TAG: &str = "\"15f18b97382a5ae0d0b68deeb5e8df85\"";

@@ -5,26 +5,26 @@ import { roundUp } from "./figures.js";
 import { h, svg } from "./elements.js";
 import { cell, numberCell, row, table } from "./parts.js";
 
-const EDGE = { left: 52, right: 10, top: 12, bottom: 24, high: 190, mostWide: 860, leastWide: 290, ofBoard: 400 };
+const EDGE = { left: 52, right: 10, top: 12, bottom: 24, high: 190, mostWide: 860, leastWide: 290 }, ON_BOARD = { wide: 400, high: 128 };
 
-// How wide a plot is: as its card, so that its letters are as large as others; on the board it is made larger.
-function wideOf() {
+// How wide and high a plot is: as its card, so that its letters are as large as others; on the board it is drawn small, and made larger.
+function sizeOf() {
   const wide = document.documentElement.clientWidth;
-  if (location.hash.startsWith("#board")) return EDGE.ofBoard;
-  return Math.round(Math.max(EDGE.leastWide, Math.min(EDGE.mostWide, wide / (wide < 980 ? 1 : 2) - 66)));
+  if (location.hash.startsWith("#board")) return ON_BOARD;
+  return { wide: Math.round(Math.max(EDGE.leastWide, Math.min(EDGE.mostWide, wide / (wide < 980 ? 1 : 2) - 66))), high: EDGE.high };
 }
 
 // The frame of a plot: its axis with two numbers, and the words below it. `inner` draws what is in it, given the place of a value and the width of a column.
 function plot(said, values, top, lines, unit, inner) {
-  const wide = wideOf(), across = (wide - EDGE.left - EDGE.right) / values.length, down = EDGE.high - EDGE.top - EDGE.bottom;
+  const { wide, high } = sizeOf(), across = (wide - EDGE.left - EDGE.right) / values.length, down = high - EDGE.top - EDGE.bottom;
   const x = (k) => EDGE.left + k * across, y = (n) => EDGE.top + down * (1 - n / top);
   const line = (n) => [svg("line", { class: "axis", x1: EDGE.left, x2: wide - EDGE.right, y1: y(n), y2: y(n) }),
     svg("text", { class: "tick", x: EDGE.left - 6, y: y(n) + 4, "text-anchor": "end" }, shortly(n), unit)];
   const ticks = [0, Math.floor((values.length - 1) / 2), values.length - 1].filter((k, at, all) => all.indexOf(k) === at && values[k].tick);
   const anchor = (k) => (k === 0 ? "start" : k === values.length - 1 ? "end" : "middle");
   const at = (k) => (k === 0 ? EDGE.left : k === values.length - 1 ? wide - EDGE.right : x(k + 0.5));
-  const it = svg("svg", { width: wide, height: EDGE.high, viewBox: `0 0 ${wide} ${EDGE.high}`, role: "img", "aria-label": said }, lines.map(line),
-    ticks.map((k) => svg("text", { class: "tick", x: at(k), y: EDGE.high - 7, "text-anchor": anchor(k) }, values[k].tick)), inner(x, y, across));
+  const it = svg("svg", { width: wide, height: high, viewBox: `0 0 ${wide} ${high}`, role: "img", "aria-label": said }, lines.map(line),
+    ticks.map((k) => svg("text", { class: "tick", x: at(k), y: high - 7, "text-anchor": anchor(k) }, values[k].tick)), inner(x, y, across));
   Object.assign(it.style, { maxWidth: "100%", height: "auto" });
   return h("div", { class: "plot" }, it);
 }

@@ -34,7 +34,7 @@ export async function shift([id]) {
   if (!shown || batchShown?.batch !== shown) batchShown = null;
   const rows = batches.map((it) => batchRow(it, it.batch === shown, areClosedShown));
   const noneOpen = unit ? `No batch has its next phase on ${unit}.` : "No batch is open. The planner releases an order, which makes its batch.";
-  const all = table(["Batch", "State", "#Due"], rows, areClosedShown ? "No batch is closed." : noneOpen, true);
+  const all = h("div", { class: "batches" }, table(["Batch", "State", "#Due"], rows, areClosedShown ? "No batch is closed." : noneOpen, true));
   const which = filterChoice("Which batches", "batches", WHICH);
   const csv = csvButton("batches", `batches-${areClosedShown ? "closed" : "open"}`, async () => (await (areClosedShown ? desk.closedBatches(Infinity)
     : desk.batches(Infinity))).map((it) => ({ ...it, ...it.planned, closed: areClosedShown })));
@@ -66,7 +66,7 @@ function batchRow(batch, isShown, isClosed) {
 }
 function dueMark(due) {
   const today = desk.today();
-  return due < today ? pill(due + " late", "bad") : due === today ? pill(due + " today", "warn") : due;
+  return [due, due <= today && h("div", {}, pill(due < today ? "late" : "today", due < today ? "bad" : "warn"))];
 }
 async function batchCards(id) {
   const batch = await desk.batch(id);

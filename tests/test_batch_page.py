@@ -40,6 +40,56 @@ class Worklist(BrowserTestCase):
             self.check(f"tables at {width} that are scrolled sideways", tab.run(wide), 0)
         self.check("what the console tells of errors", tab.errors(), [])
 
+    def test_list_of_a_unit_has_the_batches_whose_next_phase_is_there(self) -> None:
+        self.serve()
+        for order, batch in (("O-4", "B-4"), ("O-5", "B-5")):
+            self.served.told(at=self.served.ask("/moment")["at"], by="anna", do="release", order=order, batch=batch)
+        rows = "[...document.querySelectorAll('.listed [data-row]')].map((it) => it.dataset.row).join(' ')"
+        tab = self.open("shift")
+        self.check("the units", tab.run("[...document.getElementById('batchunit').options].map((it) => it.label)"), ["all units", "next on MIX", "next on OVEN"])
+        tab.fill("batchunit", "MIX")
+        tab.until(f"{rows} === 'B-2 B-5'", "the batches of MIX")
+        self.check("the address", tab.run("location.hash"), "#shift?unit=MIX")
+        tab.has("Batch B-2")
+        tab.click("B-5", tag="a")
+        tab.until("location.hash === '#shift/B-5?unit=MIX' && drawn === location.hash")
+        tab.reload()
+        tab.until(f"view.dataset.ready && {rows} === 'B-2 B-5'", "the same after a reload")
+        tab.run("location.hash = 'shift?unit=OVEN'")
+        tab.until(f"{rows} === 'B-4'", "the batch of OVEN")
+        tab.run("location.hash = 'shift?unit=FRYER'")
+        tab.has("No batch has its next phase on FRYER.")
+        tab.click("closed")
+        tab.until(f"{rows} === 'B-1'", "closed batches, which have no next phase")
+        self.check("what the console tells of errors", tab.errors(), [])
+
+    def test_parameters_are_shown_with_the_phase_that_they_precede(self) -> None:
+        self.serve()
+        par, phase = ({"kind": "par", "name": it, "value": f"{it} value"} for it in ("P-1", "P-2", "P-3")), {"kind": "phase", "unit": "U", "oper": "O"}
+        first, second, last = par
+        lines = [{"kind": "out", "def": "BREAD", "qty": 100}, first, {**phase, "phase": "ONE"}, second, {**phase, "phase": "TWO"}, last]
+        recipe = {"recipe": "PARS", "version": 1, "product": "BREAD", "base": 100, "min": 1, "max": 900, "title": "", "lines": lines}
+        order = {"order": "O-9", "recipe": "PARS", "version": 1, "size": 100, "due": "2030-03-01", "priority": 5}
+        now = self.served.ask("/moment")["at"]
+        for command in (
+            {"do": "add_recipe", **recipe}, {"do": "approve", "recipe": "PARS", "version": 1}, {"do": "import_orders", "orders": [order]},
+            {"do": "release", "order": "O-9", "batch": "B-9"}, {"do": "batch", "batch": "B-9", "word": "start"},
+        ):
+            self.served.told(at=now, by="anna", **command)
+        tab, shown = self.open("shift/B-9"), "document.querySelector('.parameters')"
+        for name, there, button in (("For U O ONE", "P-1", "Phase ONE done"), ("For U O TWO", "P-2", "Phase TWO done"), ("After the phases", "P-3", None)):
+            tab.has(name, shown)
+            self.check(f"parameters {name}", tab.text(shown).split("\n"), [name, there, f"{there} value"])
+            if button:
+                tab.click(button)
+        tab.run("document.querySelector('#view details').open = true")
+        table = tab.run("[...document.querySelectorAll('#view details tbody tr')].map((it) => it.innerText.replace(/\\s+/g, ' ').trim())")
+        self.check("all phases", table, ["1 P-1 P-1 value U O ONE done", "2 P-2 P-2 value U O TWO done", "P-3 P-3 value after the phases"])
+        tab.run("location.hash = 'shift/B-2'")
+        tab.has("Batch B-2")
+        self.check("a batch without parameters", tab.run("document.querySelectorAll('.parameters, #view details').length"), 0)
+        self.check("what the console tells of errors", tab.errors(), [])
+
 
 class Overbooking(BrowserTestCase):
     """Amounts above what was asked."""

@@ -12,7 +12,8 @@ MANY = 24
 
 # The places that are looked at for what is too low or too wide.
 PLACES = (
-    "planner", "planner/O-4", "shift", "shift/B-3", "warehouse", "warehouse/FLOUR", "warehouse/FLOUR/F-1", "quality", "quality/lot/F-1",
+    "today", "board", "planner", "planner/O-4", "shift", "shift/B-3", "warehouse", "warehouse/FLOUR", "warehouse/FLOUR/F-1", "warehouse/place",
+    "warehouse/place/A1", "quality", "quality/lot/F-1",
     "quality/recall/RC-1", "quality/batch/B-1",
 )
 

@@ -29,9 +29,10 @@ class Modules(CountedTestCase):
     def test_modules_can_be_read_as_scripts(self) -> None:
         node = self.run_node("--version")
         assert node.returncode == 0
-        for name in page_tool.SCRIPTS:
+        texts = {name: page_tool.joined_script(name) for name in page_tool.SCRIPTS}
+        for name, text in {**texts, "all, which share their names": "\n".join(texts.values())}.items():
             script = subprocess.run(
-                [shutil.which("node") or "", "--check", "-"], input=page_tool.joined_script(name), capture_output=True, text=True, timeout=SECONDS,
+                [shutil.which("node") or "", "--check", "-"], input=text, capture_output=True, text=True, timeout=SECONDS,
             )
             self.check(name, (script.returncode, script.stderr), (0, ""))
 

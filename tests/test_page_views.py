@@ -111,7 +111,8 @@ class Views(BrowserTestCase):
         tab.lacks("Take orders in")
         tab.click("?")
         tab.has("Move, Split", FORM)
-        tab.has("Complete, Close", FORM)
+        for it in ("Complete, Close", "Hold, Recall", "Stop, Abort", "Free, On hold, Recalled", "Draft, Approve, Withdraw", "Take off, Lift", "Finish", "0 today"):
+            tab.has(it, FORM)
         tab.key("Escape")
         self.served.start_again()
         tab.click("Try again")
@@ -133,7 +134,7 @@ class Views(BrowserTestCase):
         self.serve()
         self.served.told(at=self.now(), by="ben", do="hold", lot="F-2", hold="H-2", note="still wet")
         tab = self.open("planner")
-        for place in ("planner", "planner/O-4", "shift/B-3", "warehouse/FLOUR", "quality", "quality/lot/F-2", "quality/batch/B-1"):
+        for place in ("today", "planner", "planner/O-4", "shift/B-3", "warehouse/place/A1", "warehouse/FLOUR", "quality", "quality/lot/F-2", "quality/batch/B-1"):
             self.go(tab, place)
             self.check(f"names in {place} that are there twice", tab.run(TWICE), [])
         self.go(tab, "planner")
@@ -207,6 +208,8 @@ class Views(BrowserTestCase):
         for scheme in ("light", "dark"):
             tab = self.open("planner")
             tab.call("Emulation.setEmulatedMedia", features=[{"name": "prefers-color-scheme", "value": scheme}])
+            self.go(tab, "today")
+            self.check(f"contrasts in today, {scheme}", tab.run(CONTRASTS), [True, True, True])
             for place, press in (("planner", "One order by hand"), ("shift/B-3", "Consume"), ("warehouse/FLOUR", "Receive a lot"), ("quality/lot/F-1", "Hold")):
                 self.go(tab, place)
                 tab.click(press)

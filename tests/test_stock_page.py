@@ -254,3 +254,64 @@ class Stock(BrowserTestCase):
                 wide = "[...document.querySelectorAll('.wide')].filter((it) => it.scrollWidth > it.clientWidth).length"
                 self.check(f"tables of {place} at {width} that are scrolled sideways", tab.run(wide), 0)
                 self.end(tab)
+
+
+class Places(BrowserTestCase):
+    """What is at each place."""
+
+    IS_LONG = True
+
+    def at(self, tab: Tab, address: str) -> None:
+        """Waits until an address is drawn."""
+        tab.until(f"location.hash === '#{address}' && drawn === location.hash", address)
+
+    def test_goods_are_listed_by_their_places(self) -> None:
+        self.serve()
+        tab = self.open("warehouse")
+        tab.click("place")
+        self.at(tab, "warehouse/place")
+        listed = "[...document.querySelectorAll('.listed [data-row]')].map((it) => it.innerText.replace(/\\s+/g, ' ').trim())"
+        self.check("the places, with their parts and materials", tab.run(listed), ["A1 1 1", "A2 1 1", "C1 1 1", "COLD 1 1", "SHOP 1 1"])
+        tab.has("At A1")
+        tab.click("A2", tag="a")
+        self.at(tab, "warehouse/place/A2")
+        self.check("what is there", tab.run(ROWS), ["F-2/0", "total FLOUR"])
+        tab.has("on hold", "document.querySelector('[data-row=\"F-2/0\"]')")
+        tab.click("material")
+        self.at(tab, "warehouse")
+        self.check("what the console tells of errors", tab.errors(), [])
+
+    def test_goods_are_moved_from_their_place(self) -> None:
+        self.serve()
+        tab = self.open("warehouse/place/A1")
+        tab.click("Move", row="F-1/0")
+        for name, value in (("amount", "40"), ("place", "Cold room 1/2, \"back\" & #3")):
+            tab.fill(name, value)
+        tab.click("Move", within=FORM)
+        tab.until("!dialog.open", "the form to be closed")
+        tab.click("Cold room 1/2, \"back\" & #3", tag="a")
+        tab.has("At Cold room 1/2, \"back\" & #3")
+        self.check("what is there", tab.run(ROWS), ["F-1/2", "total FLOUR"])
+        tab.has("40 kg", "document.querySelector('.stack [data-row=\"F-1/2\"]')")
+        tab.reload()
+        tab.has("At Cold room 1/2, \"back\" & #3")
+        self.check("what the console tells of errors", tab.errors(), [])
+
+    def test_goods_without_a_place_are_found(self) -> None:
+        self.serve()
+        self.served.told(at=self.served.ask("/moment")["at"], by="carl", do="receive", lot="N-1", **{"def": "FLOUR"}, amount=7, place="")
+        for width in (390, 1280):
+            tab = self.open("warehouse/place", width=width)
+            tab.click("no place", tag="a")
+            self.at(tab, "warehouse/place/")
+            tab.has("At no place")
+            self.check(f"what is there at {width}", tab.run(ROWS), ["N-1/0", "total FLOUR"])
+            self.check(f"the way back at {width}", tab.run("document.getElementById('back').textContent"), "\u2039 Back to the places")
+            tab.run("location.hash = 'warehouse/place/nowhere'")
+            tab.has("Nothing in stock is there.")
+
+    def test_lots_have_their_age_in_days(self) -> None:
+        self.serve()
+        tab = self.open("warehouse/FLOUR/F-1")
+        came = tab.text("document.querySelector('[data-row=\"F-1/0\"] td.when')").split("\n")
+        self.check_true(f"the day and the age: {came}", came in ([day(0), "today"], [day(1), "1 day"]))

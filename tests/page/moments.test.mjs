@@ -2,7 +2,7 @@ import assert from "node:assert/strict";
 import test from "node:test";
 
 process.env.TZ = "Europe/Berlin";
-const { clock, clockOffset, day, dayOf, lengthOfTime, moment, stampWord } = await import("../../page/moments.js");
+const { ageInDays, clock, clockOffset, day, dayOf, lengthOfTime, moment, stampWord } = await import("../../page/moments.js");
 
 test("a moment is told in the time of the machine", () => {
   assert.equal(moment(0), "1970-01-01 01:00");
@@ -30,4 +30,12 @@ test("a length of time is told in the largest unit that is there twice", () => {
 test("the clock tells whole seconds, and its word is an id's part", () => {
   assert.equal(clock(), Math.floor(Date.now() / 1000));
   assert.match(stampWord(), /^[0-9A-Z]{6,7}$/);
+});
+
+test("an age is counted in days of the calendar", () => {
+  const at = (text) => new Date(text).getTime() / 1000;
+  assert.equal(ageInDays(at("2027-03-02T00:01:00"), at("2027-03-02T23:59:00")), "today");
+  assert.equal(ageInDays(at("2027-03-01T23:59:00"), at("2027-03-02T00:01:00")), "1 day");
+  assert.equal(ageInDays(at("2026-12-31T12:00:00"), at("2027-03-31T12:00:00")), "90 days");
+  assert.equal(ageInDays(at("2027-03-03T12:00:00"), at("2027-03-02T12:00:00")), "today");
 });

@@ -1,7 +1,7 @@
 import assert from "node:assert/strict";
 import test from "node:test";
 
-import { LINES_EXAMPLE, LINES_HINT, isMaterial, linesText, recipeLines, scaled, withPath } from "../../page/recipes.js";
+import { LINES_EXAMPLE, LINES_HINT, isMaterial, linesText, procedureOf, recipeLines, scaled, withPath } from "../../page/recipes.js";
 
 test("the example of the form is read", () => {
   assert.deepEqual(recipeLines(LINES_EXAMPLE), [[
@@ -37,4 +37,12 @@ test("amounts are scaled as the desk scales them", () => {
   assert.equal(scaled(1, 3, 1), 0);
   assert.equal(scaled(10 ** 15, 10 ** 15, 999999999999999), 999999999999999);
   assert.equal(scaled(10 ** 15 - 1, 3, 3), 10 ** 15 - 1);
+});
+
+test("parameters belong to the phase after them, and those after the last phase to none", () => {
+  const par = (name) => ({ kind: "par", name, value: "1" }), phase = (path) => ({ kind: "phase", path });
+  const { phases, last } = procedureOf([{ kind: "in", def: "FLOUR" }, par("A"), par("B"), phase("P1"), phase("P2"), par("C"), { kind: "out", def: "DOUGH" }, phase("P3"), par("D")]);
+  assert.deepEqual(phases.map((it) => [it.path, it.parameters.map((one) => one.name).join("")]), [["P1", "AB"], ["P2", ""], ["P3", "C"]]);
+  assert.deepEqual(last, [par("D")]);
+  assert.deepEqual(procedureOf([]), { phases: [], last: [] });
 });

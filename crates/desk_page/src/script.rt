@@ -26,6 +26,10 @@ function lengthOfTime(seconds) {
   const count = Math.max(1, Math.round(seconds / size));
   return `${count} ${unit}${count === 1 ? "" : "s"}`;
 }
+function ageInDays(seconds, now) {
+  const noon = (at) => new Date(at * 1000).setHours(12, 0, 0, 0), count = Math.max(0, Math.round((noon(now) - noon(seconds)) / 86400e3));
+  return count === 0 ? "today" : `${count} day${count === 1 ? "" : "s"}`;
+}
 const stampWord = () => clock().toString(36).toUpperCase();
 const isId = (text) => /^[A-Z][A-Z0-9-]{0,23}$/.test(text);
 const idOf = (...parts) => parts.join("-").slice(0, 24);
@@ -159,6 +163,17 @@ function scaled(amount, base, size) {
 }
 const withPath = (line) => (line.kind === "phase" ? { kind: "phase", phase: line.phase, path: `${line.unit} ${line.oper} ${line.phase}` } : line);
 const isMaterial = (line) => line.kind === "in" || line.kind === "out";
+function procedureOf(lines) {
+  const phases = [];
+  let parameters = [];
+  for (const it of lines) {
+    if (it.kind === "par") parameters.push(it);
+    if (it.kind !== "phase") continue;
+    phases.push({ ...it, parameters });
+    parameters = [];
+  }
+  return { phases, last: parameters };
+}
 const SECTIONS = { "CONTROL RECIPE": "lines", EVENTS: "events", CONSUMED: "consumed", PRODUCED: "produced", TOTALS: "totals", END: "end" };
 function readRecord(text) {
   const record = { text, head: [], lines: [], events: [], consumed: [], produced: [], totals: [], end: [] };
@@ -334,6 +349,12 @@ function takenOf(parts, amount) {
   return { taken, short };
 }
 const openInputs = (lines) => lines.filter((it) => it.kind === "in" && it.booked < it.asked).map((it) => ({ ...it, left: it.asked - it.booked }));
+function partsByPlace(parts) {
+  const all = new Map();
+  for (const it of parts) all.set(it.place, [...(all.get(it.place) || []), it]);
+  const byAge = (a, b) => (a.seq ?? 0) - (b.seq ?? 0) || (a.lot < b.lot ? -1 : a.lot > b.lot ? 1 : a.sub - b.sub);
+  return [...all].sort(([a], [b]) => (a < b ? -1 : 1)).map(([place, some]) => ({ place, parts: some.sort(byAge), materials: new Set(some.map((it) => it.def)).size }));
+}
 const ORDER_SORTS = ["due", "order", "priority", "recipe", "size"];
 const compared = (a, b) => (a < b ? -1 : a > b ? 1 : 0);
 const bySooner = (a, b) => compared(a.due, b.due) || b.priority - a.priority;
@@ -401,9 +422,8 @@ function stockByDay(ledgers, first, count) {
   return days;
 }
 function roundUp(n) {
-  if (n <= 1) return 1;
-  const power = 10 ** Math.floor(Math.log10(n));
-  return [1, 2, 5, 10].map((it) => it * power).find((it) => it >= n);
+  const power = 10 ** Math.floor(Math.log10(Math.max(n, 1)));
+  return [2, 4, 6, 10, 20].map((it) => it * power).find((it) => it >= n);
 }
 const newIn = (keys, before) => [...keys].filter((it) => !before.has(it));
 function filled(element, attributes, children) {
@@ -777,6 +797,7 @@ function more(items, name, what) {
 const VIEWS = {};
 function place() {
   const { name, words } = readAddress(location.hash);
+  if (name === "warehouse" && words[0] === "place") return [name, words.slice(0, 2).map(decoded)];
   const kinds = ["lot", "batch", "recall"];
   const rest = words.map((it) => (kinds.includes(it) ? it : it.toUpperCase())).filter((it) => kinds.includes(it) || isId(it));
   return Object.hasOwn(VIEWS, name) ? [name, rest] : ["today", []];
@@ -815,33 +836,35 @@ async function show() {
     if (mine !== showing) return;
     draw(layout, parts);
     view.dataset.ready = `${name} ${desk.seq}`;
-    readRest(mine);
+    void readRest(mine);
   } catch (error) {
     if (mine === showing) drawFailure(name, error);
   } finally { clearTimeout(slow); }
 }
 const unread = new Map(), lastRead = new Map();
 function later(name, read) {
-  const it = h("div", { class: "later" }, lastRead.get(name) || none("reading\u2026"));
+  const it = h("div", { class: "later" }, none("reading\u2026"));
   unread.set(it, { name, read });
   return it;
 }
 async function readRest(mine) {
-  const all = [...unread], isShown = () => mine === showing;
+  const all = [...unread].filter(([it]) => it.isConnected), isShown = () => mine === showing;
   unread.clear();
+  delete view.dataset.whole;
+  for (const [element, { name }] of all) element.replaceChildren(...(lastRead.get(name) || element.childNodes));
   for (const [element, { name, read }] of all) {
+    const nodes = isShown() && (await read(isShown).catch((error) => [none(whyNot(error))])).flat(9).filter(Boolean);
     if (!isShown()) return;
-    const nodes = await read(isShown).catch((error) => [none(whyNot(error))]), now = document.activeElement, key = element.contains(now) ? keyOf(now) : null;
-    if (!isShown()) return;
+    const key = element.contains(document.activeElement) ? keyOf(document.activeElement) : null;
     lastRead.set(name, nodes);
-    element.replaceChildren(...nodes.flat(9).filter(Boolean));
+    element.replaceChildren(...nodes);
     if (key) focusAgain(key);
   }
   view.dataset.whole = view.dataset.ready;
 }
 let drawn = "", drawnOn = "", drawnAt = 0;
 const isDayOver = () => drawnOn !== desk.today();
-const isDrawnBefore = (seconds) => desk.time() - drawnAt >= seconds;
+const isDrawnBefore = (seconds) => drawnAt > 0 && desk.time() - drawnAt >= seconds;
 const tops = new Map();
 history.scrollRestoration = "manual";
 function draw(layout, parts) {
@@ -862,11 +885,11 @@ function draw(layout, parts) {
 }
 const LISTS_OF = { planner: "the orders", shift: "the batches", warehouse: "the materials", quality: "recalls and holds" };
 function drawBack() {
-  const [name, rest] = place(), isOfLot = name === "warehouse" && rest.length > 1;
-  view.classList.toggle("thing", rest.length > 0);
-  at("back").hidden = !rest.length;
-  at("back").href = `#${placeFrom(location.hash, isOfLot ? `warehouse/${rest[0]}` : name)}`;
-  at("back").textContent = `\u2039 Back to ${isOfLot ? `the lots of ${rest[0]}` : LISTS_OF[name]}`;
+  const [name, rest] = place(), isInside = name === "warehouse" && rest.length > 1, isList = !rest.length || (rest.length === 1 && rest[0] === "place");
+  view.classList.toggle("thing", !isList);
+  at("back").hidden = isList;
+  at("back").href = `#${placeFrom(location.hash, isInside ? `warehouse/${rest[0]}` : name)}`;
+  at("back").textContent = `\u2039 Back to ${!isInside ? LISTS_OF[name] : rest[0] === "place" ? "the places" : `the lots of ${rest[0]}`}`;
 }
 function drawFailure(name, error) {
   if (error instanceof Refusal) return draw("", [card("Not here", null, none(error.message, " ", link(name, "Back")))]);
@@ -1394,4 +1417,4 @@ function bookingForm(title, fields, label, take, more) {
 "##;
 
 /// Its entity tag.
-pub const SCRIPT_TAG: &str = "\"73d1e5bae4ebba8ce7119ebf4369d9ad\"";
+pub const SCRIPT_TAG: &str = "\"0bdc92ed6d3afcf60805d4016c622045\"";

@@ -104,7 +104,7 @@ main.list > .listed td.do button { white-space: normal; }
 td.id, .id { font-weight: 600; overflow-wrap: normal; white-space: nowrap; }
 td.id a, .id a { color: inherit; text-decoration: none; } td.id a:hover, .id a:hover { text-decoration: underline; }
 td.when { white-space: nowrap; } td .under { font-weight: 400; font-size: 13px; color: var(--soft); white-space: normal; }
-td.num .pill { margin-top: 3px; } .stocks td.id { width: 100%; white-space: normal; overflow-wrap: anywhere; }
+td.num .pill { margin-top: 3px; } .batches td:nth-child(2) { min-width: 8.5em; } .stocks td.id { width: 100%; white-space: normal; overflow-wrap: anywhere; }
 .record th.num:first-child { width: 6em; } .over { color: var(--bad); font-weight: 600; } .stamp .when { white-space: nowrap; }
 .printed, .sign { display: none; } td:has(> span > input[type=checkbox]) { width: 3.5em; }
 tr.on > td { background: var(--chosen); }
@@ -137,7 +137,7 @@ input[type=checkbox] { width: 17px; height: 17px; }
 }
 .pill.good { background: var(--good-ground); color: var(--good); } .pill.warn { background: var(--warn-ground); color: var(--warn); }
 .pill.bad { background: var(--bad-ground); color: var(--bad); }
-.facts { display: flex; flex-wrap: wrap; gap: 6px 22px; } .facts div { color: var(--soft); font-size: 13px; }
+.parameters { background: var(--chosen); border-radius: 6px; padding: 8px 12px; margin: 8px 0; } .facts { display: flex; flex-wrap: wrap; gap: 6px 22px; } .facts div { color: var(--soft); font-size: 13px; }
 .facts b { display: block; color: var(--ink); font-size: 15px; font-weight: 600; overflow-wrap: anywhere; }
 .bar { height: 6px; border-radius: 3px; background: var(--idle-ground); overflow: hidden; margin: 10px 0 4px; }
 .bar i { display: block; height: 100%; background: var(--accent); }
@@ -192,8 +192,8 @@ dialog:has(.sheet) { width: min(860px, 94vw); } .sheet h3 { margin: 14px 0 2px; 
 .sheet th:first-child, .sheet td:first-child { width: 4em; padding-left: 5px; }
 
 /* The first view: figures, tables and plots side by side, and the same in large letters. */
-@media (min-width: 700px) { main.today { grid-template-columns: repeat(auto-fit, minmax(min(100%, 440px), 1fr)); } }
-.tiles { grid-column: 1 / -1; display: grid; grid-template-columns: repeat(auto-fit, minmax(136px, 1fr)); gap: 12px; }
+@media (min-width: 980px) { main.today { grid-template-columns: repeat(2, minmax(0, 1fr)); } main.board { grid-template-columns: repeat(3, minmax(0, 1fr)); } }
+.tiles { grid-column: 1 / -1; display: grid; grid-template-columns: repeat(auto-fit, minmax(150px, 1fr)); gap: 12px; }
 .tile { padding: 10px 14px; border-top: 4px solid var(--edge); } .tile h2 { font-size: 14px; color: var(--soft); margin: 0; }
 .tile .number { display: inline-block; min-width: 44px; font-size: 34px; line-height: 44px; font-weight: 600; color: inherit; text-decoration: none; }
 .tile a.number:hover { text-decoration: underline; } .tile p { display: grid; gap: 2px; font-size: 13px; margin: 0; justify-items: start; color: var(--soft); }
@@ -205,10 +205,10 @@ svg .column.warn { fill: #c08a1e; } svg .column.good { fill: #2a8f60; } svg .mar
 svg .line { fill: none; stroke: var(--accent); stroke-width: 2; } svg .below { fill: var(--accent); opacity: .16; }
 body:has(main.board) header { display: none; } main.board { max-width: none; padding: 14px 16px 54px; }
 .board .tiles { grid-template-columns: repeat(auto-fit, minmax(max(150px, 12.5vw), 1fr)); } .board .tile h2 { font-size: clamp(16px, 1.6vw, 34px); }
-.board .tile .number { font-size: clamp(48px, 6.4vw, 150px); line-height: 1.15; } .board .tile p { font-size: clamp(14px, 1.1vw, 24px); }
-.board .card h2 { font-size: clamp(17px, 1.3vw, 28px); } .board td, .board td .small, .board td .under, .board .none { font-size: clamp(16px, 1.15vw, 26px); }
+.board .tile .number { font-size: clamp(48px, 5vw, 150px); line-height: 1.1; } .board .tile p { font-size: clamp(14px, 1.1vw, 24px); }
+.board .card h2 { font-size: clamp(17px, 1.3vw, 28px); } .board td, .board td .small, .board td .under, .board .none { font-size: clamp(15px, 1vw, 30px); }
 .board th { font-size: clamp(13px, .9vw, 20px); } .board details, .board button, .board .more, body:has(main.board) footer button { display: none; }
-.board td a { color: inherit; text-decoration: none; } .board .plot svg { width: 100%; max-width: none !important; }
+.board .tiles { gap: 10px; } main.board, .board .stack { gap: 10px; } .board td a { color: inherit; text-decoration: none; } .board .plot svg { width: 100%; } .board .later { min-height: 0; } .board .pill { font-size: inherit; }
 .alarm::after { content: ""; position: fixed; inset: 0; z-index: 10; border: 18px solid #c2333f; pointer-events: none; animation: flash 1s steps(2, jump-none) infinite; }
 @keyframes flash { from { opacity: 1; } to { opacity: 0; } }
 @media (prefers-reduced-motion: reduce) { .alarm::after { animation: none; } }
@@ -236,6 +236,7 @@ svg .word { fill: var(--bad); font-weight: 600; font-size: 10px; }
   #help { width: 44px; }
   button, select, summary, input, dialog textarea { min-height: 44px; } button { padding: 7px 13px; }
   td a, .facts a, .top a { display: inline-block; padding: 12px 0; margin: -12px 0; min-width: 44px; }
+  .tile p a { display: inline-flex; align-items: center; min-height: 44px; }
   .row > a { display: inline-flex; align-items: center; min-height: 44px; min-width: 44px; }
   summary { padding: 11px 16px; }
   input[type=checkbox] {
@@ -254,7 +255,7 @@ svg .word { fill: var(--bad); font-weight: 600; font-size: 10px; }
 @media (max-width: 620px) {
   header { padding: 0 10px; } header > h1 { display: none; } header > .who { font-size: 0; flex-basis: 110px; } header > .who input { font-size: 15px; }
   .choice button { padding: 7px 8px; }
-  header nav { width: 100%; justify-content: space-between; } header nav a { padding: 0 9px; } #back { width: 100%; }
+  header nav { width: 100%; justify-content: space-between; } header nav a { padding: 0 5px; } #back { width: 100%; }
   main { padding: 10px 10px 70px; }
   .filter .phone { display: block; flex: 1 1 8em; } .sheet .block td { width: auto; }
   /* A row of a table stands as a block of named values. */
@@ -293,4 +294,4 @@ svg .word { fill: var(--bad); font-weight: 600; font-size: 10px; }
 "##;
 
 /// Its entity tag.
-pub const STYLE_TAG: &str = "\"e5d7df2b058baa73b75f67a849010584\"";
+pub const STYLE_TAG: &str = "\"243897c1420ec1c95137949b1d161ba6\"";

@@ -2,18 +2,22 @@
 
 /// Its bytes: JavaScript in ASCII.
 pub const VIEWS: &[u8] = br##""use strict";
-const EDGE = { left: 52, right: 10, top: 12, bottom: 24 }, HIGH = 190, MOST_WIDE = 560, LEAST_WIDE = 290;
-const wideOf = () => Math.max(LEAST_WIDE, Math.min(MOST_WIDE, document.documentElement.clientWidth - 56));
-function plot(said, values, top, unit, inner) {
-  const wide = wideOf(), across = (wide - EDGE.left - EDGE.right) / values.length, down = HIGH - EDGE.top - EDGE.bottom;
+const EDGE = { left: 52, right: 10, top: 12, bottom: 24, high: 190, mostWide: 860, leastWide: 290 }, ON_BOARD = { wide: 400, high: 128 };
+function sizeOf() {
+  const wide = document.documentElement.clientWidth;
+  if (location.hash.startsWith("#board")) return ON_BOARD;
+  return { wide: Math.round(Math.max(EDGE.leastWide, Math.min(EDGE.mostWide, wide / (wide < 980 ? 1 : 2) - 66))), high: EDGE.high };
+}
+function plot(said, values, top, lines, unit, inner) {
+  const { wide, high } = sizeOf(), across = (wide - EDGE.left - EDGE.right) / values.length, down = high - EDGE.top - EDGE.bottom;
   const x = (k) => EDGE.left + k * across, y = (n) => EDGE.top + down * (1 - n / top);
   const line = (n) => [svg("line", { class: "axis", x1: EDGE.left, x2: wide - EDGE.right, y1: y(n), y2: y(n) }),
     svg("text", { class: "tick", x: EDGE.left - 6, y: y(n) + 4, "text-anchor": "end" }, shortly(n), unit)];
   const ticks = [0, Math.floor((values.length - 1) / 2), values.length - 1].filter((k, at, all) => all.indexOf(k) === at && values[k].tick);
   const anchor = (k) => (k === 0 ? "start" : k === values.length - 1 ? "end" : "middle");
   const at = (k) => (k === 0 ? EDGE.left : k === values.length - 1 ? wide - EDGE.right : x(k + 0.5));
-  const it = svg("svg", { width: wide, height: HIGH, viewBox: `0 0 ${wide} ${HIGH}`, role: "img", "aria-label": said }, [0, top / 2, top].map(line),
-    ticks.map((k) => svg("text", { class: "tick", x: at(k), y: HIGH - 7, "text-anchor": anchor(k) }, values[k].tick)), inner(x, y, across));
+  const it = svg("svg", { width: wide, height: high, viewBox: `0 0 ${wide} ${high}`, role: "img", "aria-label": said }, lines.map(line),
+    ticks.map((k) => svg("text", { class: "tick", x: at(k), y: high - 7, "text-anchor": anchor(k) }, values[k].tick)), inner(x, y, across));
   Object.assign(it.style, { maxWidth: "100%", height: "auto" });
   return h("div", { class: "plot" }, it);
 }
@@ -23,15 +27,15 @@ function shortly(n) {
   return grouped(Number((n / of).toPrecision(3))) + word;
 }
 function barPlot(said, values, unit = "", mark = null) {
-  const top = roundUp(Math.max(mark || 0, ...values.map((it) => it.n)));
-  return plot(said, values, mark ? Math.max(top, mark * 1.2) : top, unit, (x, y, across) => [
+  const most = Math.max(...values.map((it) => it.n)), top = mark ? Math.max(1.2 * mark, most) : roundUp(most);
+  return plot(said, values, top, mark ? [0, mark / 2, mark] : [0, top / 2, top], unit, (x, y, across) => [
     values.map((it, k) => svg("rect", { class: `column ${it.tone || ""}`.trim(), x: x(k) + across * 0.12, width: Math.max(1, across * 0.76), y: y(it.n),
       height: Math.max(0, y(0) - y(it.n)) }, svg("title", {}, it.said))),
     mark !== null && svg("line", { class: "mark", x1: x(0), x2: x(values.length), y1: y(mark), y2: y(mark) })].filter(Boolean));
 }
 function stepPlot(said, values, unit = "") {
   const top = roundUp(Math.max(...values.map((it) => it.n)));
-  return plot(said, values, top, unit, (x, y) => {
+  return plot(said, values, top, [0, top / 2, top], unit, (x, y) => {
     const path = values.map((it, k) => `${k ? "V" : `M${x(0)} `}${y(it.n)}H${x(k + 1)}`).join("");
     return [svg("path", { class: "below", d: `${path}V${y(0)}H${x(0)}Z` }), svg("path", { class: "line", d: path })];
   });
@@ -114,15 +118,19 @@ function help() {
     h("p", { class: "soft" }, SCANS), h("p", { class: "soft" }, BOOKINGS), h("h2", {}, "Words"), words, end);
   openDialog(it, it.querySelector("button"));
 }
-const MOST = 1000, MOST_LINES = 40, MOST_ROWS = 8;
+const MOST = 1000, MOST_LINES = 40, MOST_ROWS = 8, MOST_ON_WALL = 4;
+const firstOf = (rows, isBoard) => rows.slice(0, isBoard ? MOST_ON_WALL : MOST_ROWS);
 const AHEAD = ["7 days", "1 day", "30 days"];
 const today = () => overview(false);
 const board = () => overview(true);
 async function overview(isBoard) {
-  const it = await figures(), parts = [tiles(it, isBoard), runningBatches(it), latestBars(it), shortCard(it, isBoard)];
-  const plots = [dueCard(it), card("Yield", null, later("yield", (isShown) => yieldPlot(isShown, isBoard))),
-    card("Stock over 90 days", null, later("stock", (isShown) => stockPlot(it, isShown, isBoard)))];
-  return [isBoard ? "today board" : "today", desk.seq === 0 && firstSteps(), ...parts, ...plots, !isBoard && boardCard()];
+  const it = await figures(), stack = (...cards) => h("div", { class: "stack" }, cards);
+  if (desk.seq === 0) return ["", firstSteps()];
+  const running = runningBatches(it, isBoard), bars = latestBars(it, isBoard), short = shortCard(it, isBoard), due = dueCard(it);
+  const yields = card("Yield", null, later("yield", (isShown) => yieldPlot(isShown, isBoard)));
+  const stock = card(`Stock over ${STOCK_DAYS} days`, null, later("stock", (isShown) => stockPlot(it, isShown, isBoard)));
+  if (isBoard) return ["today board", tiles(it, true), stack(running, stock), stack(bars, short), stack(due, yields)];
+  return ["today", tiles(it, false), stack(running, short, yields), stack(bars, due, stock, boardCard())];
 }
 async function figures() {
   const day = desk.today(), ahead = filterOf("ahead", AHEAD), until = dayAfter(day, parseInt(ahead, 10));
@@ -178,29 +186,31 @@ function tiles(it, isBoard) {
   return h("div", { class: "tiles" }, figures.map((one) => tile(one, isBoard)));
 }
 const restOf = (rows, place, text) => rows.length > MOST_ROWS && h("div", { class: "more" }, `${grouped(rows.length - MOST_ROWS)} more: `, link(place, text));
-function runningBatches({ batches }) {
+function runningBatches({ batches }, isBoard) {
   const now = desk.time(), going = batches.filter((it) => it.state !== "idle" && it.state !== "complete").sort((a, b) => a.at - b.at);
   const made = ({ planned }) => planned && h("div", { class: "under" }, planned.title || planned.product);
-  const rows = going.slice(0, MOST_ROWS).map((it) => row(it.batch, [idCell(batchLink(it.batch), made(it)), cell(pill(it.state, TONES[it.state])),
-    cell(it.phase ? `${it.phase} on ${it.phase_unit}` : "all phases done"), cell(lengthOfTime(now - it.at), h("div", { class: "soft small" }, moment(it.at)))]));
-  return card("Running, the longest first", null, table(["Batch", "State", "Next", "Since its last step"], rows, "No batch runs.", true), restOf(going, "shift", "all batches"));
+  const rows = firstOf(going, isBoard).map((it) => row(it.batch, [idCell(batchLink(it.batch), made(it)), cell(pill(it.state, TONES[it.state])),
+    cell(it.phase ? `${it.phase} on ${it.phase_unit}` : "all phases done"),
+    cell(h("div", {}, lengthOfTime(now - it.at)), !isBoard && h("div", { class: "soft small" }, moment(it.at)))]));
+  return card("Running, the longest first", null, table(["Batch", "State", "Next", "Last step ago"], rows, "No batch runs."), restOf(going, "shift", "all batches"));
 }
-function latestBars({ holds, recalls }) {
+function latestBars({ holds, recalls }, isBoard) {
   const all = [...holds.map((it) => ({ ...it, what: `hold ${it.hold}` })),
     ...recalls.map((it) => ({ ...it, what: ["recall ", link(`quality/recall/${it.recall}`, it.recall)], isRecall: true }))].sort((a, b) => b.at - a.at);
-  const rows = all.slice(0, MOST_ROWS).map((it) => row(`${it.lot} ${it.hold || it.recall}`, [idCell(lotLink(it.lot)),
-    cell(h("span", { class: it.isRecall ? "over" : null }, it.what), it.note && h("div", { class: "soft small" }, it.note)), cell(it.by), momentCell(it.at)]));
-  return card("On hold and recalled, the last first", null, table(["Lot", "What", "By", "Since"], rows, "No lot is on hold, and none is recalled.", true),
+  const rows = firstOf(all, isBoard).map((it) => row(`${it.lot} ${it.hold || it.recall}`, [idCell(lotLink(it.lot)),
+    cell(h("div", { class: it.isRecall ? "over" : null }, it.what), it.note && h("div", { class: "soft small" }, it.note)),
+    cell(h("div", {}, it.by), h("div", { class: "soft small when" }, moment(it.at)))]));
+  return card("On hold and recalled, the last first", null, table(["Lot", "What", "By, since"], rows, "No lot is on hold, and none is recalled."),
     restOf(all, "quality", "all holds and recalls"));
 }
 function shortCard({ short, until, ahead, isWhole }, isBoard) {
-  const amount = (n, unit) => cell(n ? `${grouped(n)} ${unit}` : "");
-  const rows = short.slice(0, MOST_ROWS).map((it) => row(it.def, [idCell(link("warehouse/" + it.def, it.def), it.name && h("div", { class: "under" }, it.name)),
+  const amount = (n, unit) => (n ? numberCell(n, unit) : cell());
+  const rows = firstOf(short, isBoard).map((it) => row(it.def, [idCell(link("warehouse/" + it.def, it.def), it.name && h("div", { class: "under" }, it.name)),
     numberCell(it.asked, it.unit), numberCell(it.free, it.unit), amount(it.made, it.unit), h("td", { class: "num" }, h("span", { class: "over" }, grouped(it.short), " ", it.unit)),
     cell(it.from)]));
   const days = ["1 day", "7 days", "30 days"], pick = choice("Days to look ahead", days, ahead, (it) => setFilter("ahead", AHEAD, it));
   return card(`Short by ${until}`, !isBoard && pick,
-    table(["Material", "#Asked", "#Free", "Made by then", "#Short", "From"], rows, "Nothing is short for the open orders and batches that are due by then.", false),
+    table(["Material", "#Asked", "#Free", "#Made by then", "#Short", "From"], rows, "Nothing is short for the open orders and batches that are due by then.", false),
     restOf(short, "warehouse", "the warehouse"),
     !isWhole && h("p", { class: "none" }, `The first ${grouped(MOST)} orders and the lines of ${MOST_LINES} batches are counted, and there are more.`));
 }
@@ -218,7 +228,7 @@ function plotOf(name, id, label, values, on) {
   return h("div", { class: "body row" }, h("select", { id, "aria-label": label, onchange: (event) => setText(name, event.target.value) },
     values.map((it) => h("option", { value: it, selected: it === on }, it))));
 }
-const LAST_BATCHES = 30, MOST_FINISHED = 2000, BACK = [14, 60, 240, 4000];
+const LAST_BATCHES = 30, LOW_YIELD = 95, MOST_FINISHED = 2000, BACK = [14, 60, 240, 4000];
 async function lastFinished(recipe, isShown) {
   let found = [], all = [], of = recipe;
   for (const days of BACK) {
@@ -236,14 +246,14 @@ async function yieldPlot(isShown, isBoard) {
   for (const order of found) {
     if (!isShown()) return [];
     const { batch, lines } = await desk.finishedBatch(order.order), { product } = await desk.recipeOnce(order.recipe, order.version), it = yieldOf(lines, product);
-    if (it) values.push({ ...it, n: it.percent, batch, due: order.due, tone: it.percent < 95 ? "bad" : "good", tick: order.due.slice(5),
+    if (it) values.push({ ...it, n: it.percent, batch, due: order.due, tone: it.percent < LOW_YIELD ? "bad" : "good", tick: order.due.slice(5),
       said: `${batch}: ${it.percent.toFixed(1)} %, ${grouped(it.booked)} of ${grouped(it.asked)} ${it.unit}` });
   }
   const asked = values.reduce((sum, it) => sum + it.asked, 0), booked = values.reduce((sum, it) => sum + it.booked, 0);
   const rows = values.map((it) => row(`yield ${it.batch}`, [idCell(batchLink(it.batch)), numberCell(it.asked, it.unit), numberCell(it.booked, it.unit),
     h("td", { class: "num" }, it.percent.toFixed(1))]));
   const told = `${of}: the last ${counted(values.length, "batch", "batches")} made ${((100 * booked) / asked).toFixed(1)} % of what was asked`;
-  return [!isBoard && plotOf("recipe", "yieldrecipe", "Recipe of the yields", recipes, of), h("p", { class: "none" }, `${told}.`), barPlot(told, values, " %", 100),
+  return [!isBoard && plotOf("recipe", "yieldrecipe", "Recipe of the yields", recipes, of), h("p", { class: "none" }, `${told}. Red is below ${LOW_YIELD} %.`), barPlot(told, values, " %", 100),
     valuesOf(["Batch", "#Asked", "#Booked", "#Percent"], rows)];
 }
 const STOCK_DAYS = 90, MOST_LOTS = 100, MOST_MOVEMENTS = 500;
@@ -798,18 +808,28 @@ const WHICH = ["open", "closed"];
 let batchShown = null;
 async function shift([id]) {
   const areClosedShown = filterOf("batches", WHICH) === "closed";
-  const batches = areClosedShown ? await desk.closedBatches(want("closed")) : (await desk.batches(want("batches"))).sort(byDueDate);
+  const unit = areClosedShown ? "" : textOf("unit"), wanted = unit ? Math.max(MOST_READ_BATCHES, want("batches")) : want("batches");
+  const read = areClosedShown ? await desk.closedBatches(want("closed")) : (await desk.batches(wanted)).sort(byDueDate);
+  const batches = Object.assign(read.filter((it) => !unit || it.phase_unit === unit), { more: read.more });
   const shown = id || (!isNarrow() && batches[0] && batches[0].batch);
   if (!shown || batchShown?.batch !== shown) batchShown = null;
   const rows = batches.map((it) => batchRow(it, it.batch === shown, areClosedShown));
-  const noneOpen = "No batch is open. The planner releases an order, which makes its batch.";
-  const all = table(["Batch", "State", "#Due"], rows, areClosedShown ? "No batch is closed." : noneOpen, true);
+  const noneOpen = unit ? `No batch has its next phase on ${unit}.` : "No batch is open. The planner releases an order, which makes its batch.";
+  const all = h("div", { class: "batches" }, table(["Batch", "State", "#Due"], rows, areClosedShown ? "No batch is closed." : noneOpen, true));
   const which = filterChoice("Which batches", "batches", WHICH);
   const csv = csvButton("batches", `batches-${areClosedShown ? "closed" : "open"}`, async () => (await (areClosedShown ? desk.closedBatches(Infinity)
     : desk.batches(Infinity))).map((it) => ({ ...it, ...it.planned, closed: areClosedShown })));
   const without = card("No batch", null, none("Once an order is released, its batch is started, booked and closed here."));
   const one = shown ? await batchCards(shown) : desk.seq === 0 ? firstSteps() : !isNarrow() && without;
-  return ["list", listed(card("Batches", [csv, which], all, more(batches, areClosedShown ? "closed" : "batches"))), h("div", { class: "stack" }, one)];
+  return ["list", listed(card("Batches", [csv, which], !areClosedShown && unitRow(read, unit), all, more(batches, areClosedShown ? "closed" : "batches"))), h("div", { class: "stack" }, one)];
+}
+const MOST_READ_BATCHES = 2000;
+function unitRow(batches, unit) {
+  const units = [...new Set([...batches.map((it) => it.phase_unit), unit].filter(Boolean))].sort(), option = (value, label) => h("option", { value,
+    selected: value === unit }, label);
+  if (!units.length) return null;
+  return h("div", { class: "body row filter" }, h("select", { id: "batchunit", "aria-label": "Filter the batches by the unit of their next phase",
+    onchange: (event) => setText("unit", event.target.value) }, option("", "all units"), units.map((it) => option(it, `next on ${it}`))));
 }
 function byDueDate({ planned: one }, { planned: other }) {
   if (!one || !other) return Boolean(other) - Boolean(one);
@@ -825,7 +845,7 @@ function batchRow(batch, isShown, isClosed) {
 }
 function dueMark(due) {
   const today = desk.today();
-  return due < today ? pill(due + " late", "bad") : due === today ? pill(due + " today", "warn") : due;
+  return [due, due <= today && h("div", {}, pill(due < today ? "late" : "today", due < today ? "bad" : "warn"))];
 }
 async function batchCards(id) {
   const batch = await desk.batch(id);
@@ -833,15 +853,27 @@ async function batchCards(id) {
   return [progressCard(batch), await materialsCard(batch), bookingsCard(batch)];
 }
 function progressCard(batch) {
-  const done = batch.next - 1, procedure = batch.lines.filter((it) => it.kind === "phase");
-  const path = procedure.map((it, k) => [k ? " \u203a " : "", k === done ? h("b", {}, it.path) : it.path, k < done ? " \u2713" : ""]);
+  const done = batch.next - 1, { phases, last } = procedureOf(batch.lines), next = phases[done];
+  const path = phases.map((it, k) => [k ? " \u203a " : "", k === done ? h("b", {}, it.path) : it.path, k < done ? " \u2713" : ""]);
   const known = [fact("Order", link("planner/" + batch.order, batch.order)), fact("Recipe", `${batch.recipe} ${batch.version}`),
-    fact("Size", grouped(batch.size)), fact("Attempt", batch.attempt), fact("Phases done", `${done} of ${batch.phases}`),
-    batch.lines.filter((it) => it.kind === "par").map((it) => fact(it.name, it.value))];
+    fact("Size", grouped(batch.size)), fact("Attempt", batch.attempt), fact("Phases done", `${done} of ${batch.phases}`)];
   const tools = [pill(batch.closed ? "closed" : batch.state, batch.closed ? "" : TONES[batch.state]),
     link("quality/batch/" + batch.batch, "Record and genealogy"), button("Sheet", () => showSheet(batch.batch), null, { "aria-label": `Sheet of ${batch.batch}` })];
   return card(`Batch ${batch.batch}`, tools, h("div", { class: "body" }, h("div", { class: "facts" }, known), progressBar(done, batch.phases),
-    h("p", { class: "soft small" }, path), h("p", { class: "row" }, moves(batch, procedure[done]))));
+    h("p", { class: "soft small" }, path), parametersOf(next ? `For ${next.path}` : "After the phases", next ? next.parameters : last),
+    h("p", { class: "row" }, moves(batch, next))), procedureTable(phases, last, done));
+}
+function parametersOf(name, parameters) {
+  if (!parameters.length) return null;
+  return h("div", { class: "parameters", role: "group", "aria-label": `Parameters: ${name}` }, h("span", { class: "soft small" }, name),
+    h("div", { class: "facts" }, parameters.map((it) => fact(it.name, it.value))));
+}
+function procedureTable(phases, last, done) {
+  if (!last.length && phases.every((it) => !it.parameters.length)) return null;
+  const values = (parameters) => parameters.map((it) => h("div", {}, it.name, " ", h("b", {}, it.value)));
+  const rows = phases.map((it, k) => row(`phase ${k + 1}`, [numberCell(k + 1), cell(values(it.parameters)), cell(it.path), cell(k < done ? "done" : k === done ? "next" : "")]));
+  if (last.length) rows.push(row("after the phases", [cell(), cell(values(last)), cell("after the phases"), cell()]));
+  return h("details", {}, h("summary", {}, "All phases with their parameters"), table(["#No", "Parameters", "Phase", ""], rows, "", true));
 }
 function progressBar(done, phases) {
   const values = { "aria-valuemin": 0, "aria-valuemax": phases, "aria-valuenow": done };
@@ -981,9 +1013,69 @@ async function pointToPhase({ batch, next, phases, state }, number) {
   notice("", `Phase ${number} of ${batch} is next. Nothing is booked yet: press its button, or Enter.`);
   return true;
 }
+const fromField = ({ def, unit }, part, mayBeBarred) => lotField({ def, unit, part, parts: [part], mayBeBarred });
+function scrap(part, known) {
+  bookingForm(`Scrap ${known.def}`, [fromField(known, part, true), amountField(known.unit), noteField("Why")], "Scrap",
+    ({ from: { lot, sub }, amount, note }, tell) => tell(`${grouped(amount)} ${known.unit} of ${lot} scrapped`,
+      noted({ do: "scrap", lot, sub, amount }, note)), { isGrave: true });
+}
+function moveGoods(part, known) {
+  let offered = part.stock;
+  const change = (inputs, it) => { if (Number(inputs.amount.value) === offered) inputs.amount.value = offered = it.stock; };
+  bookingForm(`Move ${known.def}`, [{ ...fromField(known, part, true), change }, say("What is moved becomes another part of the same lot."),
+    amountField(known.unit, part.stock), textField("place", "New place", { required: true }), noteField()], "Move",
+  ({ from: { lot, sub }, amount, place, note }, tell) => tell(`${grouped(amount)} ${known.unit} of ${lot} brought to ${place}`,
+    noted({ do: "divide", lot, sub, amount, place }, note)));
+}
+function split(part, known) {
+  bookingForm(`Split ${known.def}`, [fromField(known, part), say("The amount becomes a lot of its own."), amountField(known.unit),
+    newLotField("new", "New lot"), placeField(), noteField()], "Split",
+    ({ from: { lot, sub }, amount, place, note, ...v }, tell) => tell(`${grouped(amount)} ${known.unit} of ${lot} split off as ${v.new}`,
+      noted({ do: "split", lot, sub, amount, new: v.new, place }, note)));
+}
+const GOODS_BY = ["material", "place"];
+const byChoice = (by) => h("div", { class: "body row filter" }, choice("By what goods are listed", GOODS_BY, by, (it) => go("warehouse", it === "place" && it)));
+const cameCell = (at) => h("td", { class: "when" }, h("span", {}, dayOf(at), at !== null && h("div", { class: "soft small" }, ageInDays(at, desk.time()))));
+const MOST_READ_LOTS = 3000;
+async function allParts() {
+  const parts = [], left = [];
+  let count = 0;
+  for (const { def, name, unit, lots } of (await desk.materials()).filter((it) => it.lots > 0)) {
+    if (count + lots > MOST_READ_LOTS) { left.push(def); continue; }
+    count += lots;
+    for (const lot of await desk.stock(def, Infinity)) {
+      const barred = lot.held ? "on hold" : lot.recalled ? "recalled" : "";
+      parts.push(...lot.sublots.filter((it) => it.stock > 0).map((it) => ({ ...it, ...lot, stock: it.stock, sub: it.no, def, name, unit, barred })));
+    }
+  }
+  return { parts, left };
+}
+const placeLink = (place, text) => link(`warehouse/place/${encodeURIComponent(place)}`, text || place || "no place");
+async function places(shown) {
+  const { parts, left } = await allParts(), all = partsByPlace(parts), at = shown ?? (isNarrow() ? undefined : all[0]?.place);
+  const rows = all.map((it) => row(encodeURIComponent(it.place), [cell(placeLink(it.place)), numberCell(it.parts.length), numberCell(it.materials)],
+    `warehouse/place/${encodeURIComponent(it.place)}`, it.place === at));
+  const list = card("Places", null, byChoice("place"), table(["Place", "#Parts", "#Materials"], rows, "Nothing is in stock.", true),
+    left.length > 0 && none(`These materials have too many lots to be read here: ${left.join(", ")}.`));
+  return ["list", listed(list), at !== undefined && h("div", { class: "stack" }, placeCard(at, all.find((it) => it.place === at)?.parts || []))];
+}
+function placeCard(place, parts) {
+  const name = place || "no place", marks = (it) => it.barred && [" ", pill(it.barred, it.held ? "warn" : "bad")];
+  const buttons = (it) => [button("Label", () => showLabels(it.lot, it.sub)), button("Move", () => moveGoods(it, it)), button("Scrap", () => scrap(it, it), "bad")];
+  const rows = parts.map((it) => row(`${it.lot}/${it.sub}`, [idCell(lotLink(it.lot, it.sub), marks(it)),
+    cell(link("warehouse/" + it.def, it.def), it.name && h("div", { class: "soft small" }, it.name)), cameCell(it.at), numberCell(it.stock, it.unit), buttonsCell(buttons(it))]));
+  const totals = new Map();
+  for (const it of parts) totals.set(it.def, { ...it, sum: (totals.get(it.def)?.sum || 0) + it.stock });
+  const sums = [...totals.values()].map((it) => row(`total ${it.def}`, [idCell(it.def), numberCell(it.sum, it.unit)]));
+  const csv = csvButton("stands", `place-${name}`, () => parts.map((it) => ({ ...it, place, seen: "" })));
+  return card(place ? `At ${place}` : "At no place", parts.length > 0 && [h("span", { class: "soft small" }, counted(parts.length, "part", "parts")), csv],
+    table(["Lot and part", "Material", "Came", "#Stock", ""], rows, "Nothing in stock is there."),
+    parts.length > 0 && [h("h3", {}, "In all"), table(["Material", "#Stock"], sums, "", true)]);
+}
 const chosen = new Map();
 let chosenOf = null;
 async function warehouse([id, lotId]) {
+  if (id === "place") return places(lotId);
   const classes = await desk.classes(), all = classes.flatMap((it) => it.stocks);
   const def = id || (!isNarrow() && all[0] && all[0].def);
   if (def !== chosenOf) chosen.clear();
@@ -1000,7 +1092,7 @@ function materialsSide(classes, def) {
   const tools = [csvButton("materials", "materials", () => desk.materials()), button("New class", newClass),
     classes.length > 0 && button("New material", () => newMaterial(classes))];
   const without = none("There is no class yet.");
-  return card("Materials", tools, classes.length ? classes.map((it) => classTable(it, def)) : without, more(classes, "classes"));
+  return card("Materials", tools, byChoice("material"), classes.length ? classes.map((it) => classTable(it, def)) : without, more(classes, "classes"));
 }
 function classTable({ id, name, stocks }, def) {
   const named = (it) => idCell(link("warehouse/" + it.def, it.def), it.name && h("div", { class: "under" }, it.name));
@@ -1054,7 +1146,7 @@ function partRows(lot, known, told) {
     const buttons = [button("Label", () => showLabels(part.lot, part.sub)), button("Move", () => moveGoods(part, known)),
       button("Split", () => split(part, known), null, { disabled: isBarred }), button("Scrap", () => scrap(part, known), "bad")];
     return row(key, [cell(chooseBox(key, part, isBarred, told)), idCell(lotLink(lot.lot), marks), h("td", { class: "num" }, it.no),
-      h("td", { class: "when" }, dayOf(lot.at)), cell(it.place || h("span", { class: "soft" }, "no place")), numberCell(it.stock, known.unit), buttonsCell(buttons)]);
+      cameCell(lot.at), cell(it.place || h("span", { class: "soft" }, "no place")), numberCell(it.stock, known.unit), buttonsCell(buttons)]);
   });
 }
 function chooseBox(key, part, isBarred, told) {
@@ -1076,26 +1168,6 @@ function receive({ def, unit }) {
   bookingForm(`Receive ${def}`, [newLotField("lot", "Scan or type the new lot"), amountField(unit), placeField(), noteField()], "Receive",
     (v, tell) => tell(`${grouped(v.amount)} ${unit} as ${v.lot} received`,
       noted({ do: "receive", lot: v.lot, def, amount: v.amount, place: v.place }, v.note)));
-}
-const fromField = ({ def, unit }, part, mayBeBarred) => lotField({ def, unit, part, parts: [part], mayBeBarred });
-function scrap(part, known) {
-  bookingForm(`Scrap ${known.def}`, [fromField(known, part, true), amountField(known.unit), noteField("Why")], "Scrap",
-    ({ from: { lot, sub }, amount, note }, tell) => tell(`${grouped(amount)} ${known.unit} of ${lot} scrapped`,
-      noted({ do: "scrap", lot, sub, amount }, note)), { isGrave: true });
-}
-function moveGoods(part, known) {
-  let offered = part.stock;
-  const change = (inputs, it) => { if (Number(inputs.amount.value) === offered) inputs.amount.value = offered = it.stock; };
-  bookingForm(`Move ${known.def}`, [{ ...fromField(known, part, true), change }, say("What is moved becomes another part of the same lot."),
-    amountField(known.unit, part.stock), textField("place", "New place", { required: true }), noteField()], "Move",
-  ({ from: { lot, sub }, amount, place, note }, tell) => tell(`${grouped(amount)} ${known.unit} of ${lot} brought to ${place}`,
-    noted({ do: "divide", lot, sub, amount, place }, note)));
-}
-function split(part, known) {
-  bookingForm(`Split ${known.def}`, [fromField(known, part), say("The amount becomes a lot of its own."), amountField(known.unit),
-    newLotField("new", "New lot"), placeField(), noteField()], "Split",
-    ({ from: { lot, sub }, amount, place, note, ...v }, tell) => tell(`${grouped(amount)} ${known.unit} of ${lot} split off as ${v.new}`,
-      noted({ do: "split", lot, sub, amount, new: v.new, place }, note)));
 }
 const MOST_PARTS = 16;
 function merge(known, values = {}) {
@@ -1308,4 +1380,4 @@ desk.loggedIn().then(nameByLogin).catch((error) => notice("bad", whyNot(error)))
 "##;
 
 /// Its entity tag.
-pub const VIEWS_TAG: &str = "\"15f18b97382a5ae0d0b68deeb5e8df85\"";
+pub const VIEWS_TAG: &str = "\"6f889cef5d711edd78e5a745f685f073\"";

@@ -118,6 +118,7 @@ function draw(layout, parts) {
   view.className = layout;
   view.replaceChildren(...parts.filter(Boolean));
   drawBack();
+  doDrawn();
   if (isAnother) scrollTo(0, (isBack && tops.get(location.hash)) || 0);
   if (isBack && (key || now === at("back"))) focusRow(before);
   else if (key) focusAgain(key);
@@ -127,6 +128,15 @@ function draw(layout, parts) {
   if (history.state === null) history.replaceState({ isDrawn: true }, "");
   drawStatus();
 }
+// What is done to parts of a view once they are drawn, and have their places.
+let toDo = [];
+export function onceDrawn(act) { toDo.push(act); }
+function doDrawn() {
+  const all = toDo;
+  toDo = [];
+  for (const act of all) act();
+}
+
 // The way back from a thing to the list that it is in.
 const LISTS_OF = { planner: "the orders", shift: "the batches", warehouse: "the materials", quality: "recalls and holds" };
 function drawBack() {

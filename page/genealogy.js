@@ -1,23 +1,50 @@
 // The picture of a genealogy: each lot and batch stands to the right of all that it came of.
 
 import { counted, grouped } from "./amounts.js";
-import { h, svg } from "./elements.js";
+import { depthsOf, groupsOf, nameOfNode } from "./groups.js";
+import { h, svg, view } from "./elements.js";
 import { card, cell, link, none, numberCell, row, table } from "./parts.js";
+import { filterChoice, filterOf, onceDrawn } from "./frame.js";
 
-const nameOf = (node) => (node.lot ? "lot " + node.lot : "batch " + node.batch);
-const LARGEST_PICTURE = 300;
+// A picture of more nodes is drawn by materials alone; one of fewer is so where that is chosen.
+const LARGEST_PICTURE = 300, PICTURES = ["each", "by material"];
 
 export function genealogyCard({ back, forward }, here) {
-  const nodes = new Map([...back.nodes, ...forward.nodes].map((it) => [nameOf(it), it]));
-  const named = [...back.edges, ...forward.edges].map((it) => ({ from: nameOf(it.from), to: nameOf(it.to), amount: it.amount }));
+  const nodes = new Map([...back.nodes, ...forward.nodes].map((it) => [nameOfNode(it), it]));
+  const named = [...back.edges, ...forward.edges].map((it) => ({ from: nameOfNode(it.from), to: nameOfNode(it.to), amount: it.amount }));
   const edges = [...new Map(named.map((it) => [`${it.from}>${it.to}`, it])).values()];
   if (nodes.size === 1) return card("Genealogy", null, none("It came of nothing that is booked, and nothing came of it."));
-  const isLarge = nodes.size > LARGEST_PICTURE;
-  return card("Genealogy", h("span", { class: "soft small" }, `${counted(nodes.size - 1, "other", "others")}`),
-    isLarge ? none(`${grouped(nodes.size)} lots and batches are too many for a picture.`) : picture(nodes, edges, here),
-    edgesList(nodes, edges));
+  const before = new Set(back.nodes.map(nameOfNode)), isLarge = nodes.size > LARGEST_PICTURE;
+  const tools = [h("span", { class: "soft small" }, `${counted(nodes.size - 1, "other", "others")}`),
+    !isLarge && filterChoice("How the genealogy is drawn", "picture", PICTURES)];
+  if (isLarge || filterOf("picture", PICTURES) === "by material") {
+    return card("Genealogy", tools, isLarge && none(`${grouped(nodes.size)} lots and batches are drawn by their materials.`),
+      picturesOfGroups(groupsOf(nodes, edges, here, (it) => before.has(it)), here), edgesList(nodes, edges));
+  }
+  const boxes = new Map([...nodes].map(([name, it]) => [name, boxOf(it, name === here)]));
+  return card("Genealogy", tools, picture(boxes, edges, here), edgesList(nodes, edges));
 }
 const unitOf = (nodes, edge) => nodes.get(edge.from).unit || nodes.get(edge.to).unit || "";
+
+// What is drawn of a lot or a batch, and of a group of them.
+const boxOf = (node, isHere) => ({ unit: node.unit, isHere, isOfLots: Boolean(node.lot), tone: node.recalled ? "recalled" : node.held ? "held" : "",
+  texts: [node.lot || node.batch, node.lot ? node.def : "batch", node.lot ? `${grouped(node.stock)} ${node.unit}` : ""],
+  marks: [node.held && "HELD", node.recalled && "RECALLED"].filter(Boolean).join(" "), place: node.lot ? `quality/lot/${node.lot}` : `quality/batch/${node.batch}` });
+function boxOfGroup(it) {
+  const isOne = it.count === 1, [kind, id] = it.first.split(" "), name = isOne ? id : counted(it.count, it.isOfLots ? "lot" : "batch", it.isOfLots ? "lots" : "batches");
+  return { unit: it.unit, isHere: it.side === "here", isOfLots: it.isOfLots, tone: it.recalled ? "recalled" : it.held ? "held" : "",
+    texts: [name, it.isOfLots ? it.def : it.def ? `of ${it.def}` : "batch", it.isOfLots ? `${grouped(it.stock)} ${it.unit}` : ""],
+    marks: [it.held && [!isOne && grouped(it.held), "HELD"], it.recalled && [!isOne && grouped(it.recalled), "RECALLED"]].flat().filter(Boolean).join(" "),
+    place: isOne ? `quality/${kind}/${id}` : it.def ? `warehouse/${it.def}` : null };
+}
+function picturesOfGroups({ groups, edges, left }, here) {
+  const boxes = new Map([...groups].map(([key, it]) => [key, boxOfGroup(it)]));
+  const sides = { back: "before it", here: "itself", forward: "of it" };
+  const rows = [...groups.values()].sort((a, b) => a.depth - b.depth || (a.def < b.def ? -1 : 1)).map((it) => row(it.key, [cell(sides[it.side]), cell(it.isOfLots ? "lots" : "batches"), cell(it.def), numberCell(it.count),
+    it.isOfLots ? numberCell(it.stock, it.unit) : cell(), numberCell(it.held), numberCell(it.recalled)]));
+  return [picture(boxes, edges, here), left > 0 && none(`${counted(left, "step leads", "steps lead")} back to an earlier material, and ${left === 1 ? "isn't" : "aren't"} drawn.`),
+    h("details", {}, h("summary", {}, "The materials as a table"), table(["Came", "What", "Material", "#Count", "#In stock", "#On hold", "#Recalled"], rows, ""))];
+}
 
 // The edges in words, for those who can't see the picture.
 function edgesList(nodes, edges) {
@@ -31,13 +58,11 @@ const MOST_STEPS = 1000;
 
 const BOX = { high: 62, across: 88, down: 16 };
 
-// Where each node stands: its column is behind those of all that leads to it, its row close to theirs.
-function placed(nodes, edges) {
-  const into = new Map([...nodes.keys()].map((it) => [it, []]));
+// Where each node is drawn: its column is after those of all that leads to it, its row close to theirs.
+function placed(boxes, edges) {
+  const into = new Map([...boxes.keys()].map((it) => [it, []])), depth = depthsOf([...boxes.keys()], edges), columns = [], rows = new Map();
   for (const it of edges) into.get(it.to).push(it.from);
-  const depth = new Map(), columns = [], rows = new Map();
-  const deep = (name) => { if (!depth.has(name)) depth.set(name, Math.max(-1, ...into.get(name).map(deep)) + 1); return depth.get(name); };
-  for (const name of nodes.keys()) (columns[deep(name)] ||= []).push(name);
+  for (const [name, deep] of depth) (columns[deep] ||= []).push(name);
   for (const column of columns) {
     const wish = (name) => into.get(name).reduce((sum, it) => sum + rows.get(it), 0) / (into.get(name).length || 1);
     const middle = column.length / 2;
@@ -45,10 +70,9 @@ function placed(nodes, edges) {
   }
   return { depth, rows, columns };
 }
-function picture(nodes, edges, here) {
-  const { depth, rows, columns } = placed(nodes, edges);
-  const label = (it) => [it.lot || it.batch, it.lot ? it.def : "batch", it.lot ? `${grouped(it.stock)} ${it.unit}` : ""];
-  const width = Math.max(104, ...[...nodes.values()].map((it) => 22 + 7.9 * Math.max(...label(it).map((text) => text.length))));
+function picture(boxes, edges, here) {
+  const { depth, rows, columns } = placed(boxes, edges);
+  const width = Math.max(104, ...[...boxes.values()].map((it) => 22 + 7.9 * Math.max(...[...it.texts, it.marks].map((text) => text.length))));
   const tall = Math.max(...columns.map((it) => it.length));
   const x = (name) => 8 + depth.get(name) * (width + BOX.across), y = (name) => 8 + (rows.get(name) + tall / 2 - 0.5) * (BOX.high + BOX.down);
   const wide = 16 + columns.length * (width + BOX.across) - BOX.across, high = 16 + tall * (BOX.high + BOX.down) - BOX.down;
@@ -57,23 +81,34 @@ function picture(nodes, edges, here) {
       svg("path", { class: "tip", d: "M0 0L8 4L0 8z" }))),
     edges.map((edge) => edgeLine(x(edge.from) + width, y(edge.from) + BOX.high / 2, x(edge.to), y(edge.to) + BOX.high / 2)),
     edges.map((edge) => svg("text", { class: "amount", "text-anchor": "middle", x: x(edge.to) - BOX.across / 2,
-      y: y(edge.to) + BOX.high / 2 + amountDrop(x, y, edge, width) - 4 }, `${grouped(edge.amount)} ${unitOf(nodes, edge)}`)),
-    [...nodes].map(([name, node]) => nodeBox(node, label(node), x(name), y(name), width, name === here)));
+      y: y(edge.to) + BOX.high / 2 + amountDrop(x, y, edge, width) - 4 }, `${grouped(edge.amount)} ${unitOf(boxes, edge)}`)),
+    [...boxes].map(([name, box]) => nodeBox(box, x(name), y(name), width)));
   // A picture that is a little too wide is made smaller; a wider one is scrolled.
   Object.assign(it.style, { maxWidth: "100%", minWidth: `${Math.round(wide * 0.75)}px`, height: "auto" });
-  return h("div", { class: "picture", tabindex: 0, role: "group", "aria-label": "Picture, can be scrolled" }, it);
+  return scrolledToHere(h("div", { class: "picture", tabindex: 0, role: "group", "aria-label": "Picture, can be scrolled", "data-of": `${here} ${boxes.size}` }, it));
 }
-// An amount stands on its edge, in the gap before the node to which it leads.
+// A picture begins at what is looked at, and is left where it was scrolled to as long as it is of that.
+function scrolledToHere(frame) {
+  const before = [...view.querySelectorAll(".picture")].find((it) => it.dataset.of === frame.dataset.of), was = before && [before.scrollLeft, before.scrollTop];
+  onceDrawn(() => {
+    const box = frame.querySelector(".here"), outer = frame.getBoundingClientRect();
+    if (was) { [frame.scrollLeft, frame.scrollTop] = was; return; }
+    if (!box) return;
+    const inner = box.getBoundingClientRect();
+    frame.scrollLeft += inner.left + inner.width / 2 - outer.left - frame.clientWidth / 2;
+    frame.scrollTop += inner.top + inner.height / 2 - outer.top - frame.clientHeight / 2;
+  });
+  return frame;
+}
+// An amount is written on its edge, in the gap before the node to which it leads.
 function amountDrop(x, y, edge, width) {
   const run = x(edge.to) - x(edge.from) - width;
   return ((y(edge.from) - y(edge.to)) * BOX.across) / 2 / run;
 }
 const edgeLine = (x1, y1, x2, y2) => svg("line", { class: "edge", x1, y1, x2, y2, "marker-end": "url(#tip)" });
-function nodeBox(node, [id, sub, stock], x, y, width, isHere) {
+function nodeBox({ texts: [id, sub, stock], marks, tone, isHere, isOfLots, place }, x, y, width) {
   const text = (style, down, words) => svg("text", { class: style, x: x + width / 2, y: y + down, "text-anchor": "middle" }, words);
-  const marks = [node.held && "HELD", node.recalled && "RECALLED"].filter(Boolean).join(" ");
-  return svg("a", { href: node.lot ? "#quality/lot/" + node.lot : "#quality/batch/" + node.batch },
-    svg("rect", { class: ["box", node.recalled ? "recalled" : node.held ? "held" : "", isHere ? "here" : ""].join(" ").trim(), x, y, width,
-      height: BOX.high, rx: node.lot ? 14 : 2 }),
+  return svg(place ? "a" : "g", place ? { href: `#${place}` } : {},
+    svg("rect", { class: ["box", tone, isHere ? "here" : ""].join(" ").trim(), x, y, width, height: BOX.high, rx: isOfLots ? 14 : 2 }),
     text("name", 17, id), text("sub", 31, sub), stock && text("sub", 44, stock), marks && text("word", 56, marks));
 }

@@ -5,6 +5,7 @@ import shutil
 import subprocess
 import time
 
+from tests.support import Json
 from tests.support.browser import Tab
 from tests.support.pages import MORNINGS, BrowserTestCase
 
@@ -65,16 +66,17 @@ class Worklist(BrowserTestCase):
 
     def test_parameters_are_shown_with_the_phase_that_they_precede(self) -> None:
         self.serve()
-        par, phase = ({"kind": "par", "name": it, "value": f"{it} value"} for it in ("P-1", "P-2", "P-3")), {"kind": "phase", "unit": "U", "oper": "O"}
-        first, second, last = par
-        lines = [{"kind": "out", "def": "BREAD", "qty": 100}, first, {**phase, "phase": "ONE"}, second, {**phase, "phase": "TWO"}, last]
-        recipe = {"recipe": "PARS", "version": 1, "product": "BREAD", "base": 100, "min": 1, "max": 900, "title": "", "lines": lines}
+        first, second, last = ({"kind": "par", "name": it, "value": f"{it} value"} for it in ("P-1", "P-2", "P-3"))
+        phase = {"kind": "phase", "unit": "U", "oper": "O"}
+        lines: list[Json] = [{"kind": "out", "def": "BREAD", "qty": 100}, first, {**phase, "phase": "ONE"}, second, {**phase, "phase": "TWO"}, last]
+        recipe: Json = {"recipe": "PARS", "version": 1, "product": "BREAD", "base": 100, "min": 1, "max": 900, "title": "", "lines": lines}
         order = {"order": "O-9", "recipe": "PARS", "version": 1, "size": 100, "due": "2030-03-01", "priority": 5}
         now = self.served.ask("/moment")["at"]
-        for command in (
+        commands: tuple[Json, ...] = (
             {"do": "add_recipe", **recipe}, {"do": "approve", "recipe": "PARS", "version": 1}, {"do": "import_orders", "orders": [order]},
             {"do": "release", "order": "O-9", "batch": "B-9"}, {"do": "batch", "batch": "B-9", "word": "start"},
-        ):
+        )
+        for command in commands:
             self.served.told(at=now, by="anna", **command)
         tab, shown = self.open("shift/B-9"), "document.querySelector('.parameters')"
         for name, there, button in (("For U O ONE", "P-1", "Phase ONE done"), ("For U O TWO", "P-2", "Phase TWO done"), ("After the phases", "P-3", None)):

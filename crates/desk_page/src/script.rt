@@ -426,6 +426,50 @@ function roundUp(n) {
   return [2, 4, 6, 10, 20].map((it) => it * power).find((it) => it >= n);
 }
 const newIn = (keys, before) => [...keys].filter((it) => !before.has(it));
+const nameOfNode = (node) => (node.lot ? "lot " + node.lot : "batch " + node.batch);
+function depthsOf(names, edges) {
+  const next = new Map(names.map((it) => [it, []])), waits = new Map(names.map((it) => [it, 0])), depth = new Map();
+  for (const { from, to } of edges) {
+    next.get(from).push(to);
+    waits.set(to, waits.get(to) + 1);
+  }
+  const ready = names.filter((it) => !waits.get(it));
+  for (const name of ready) {
+    if (!depth.has(name)) depth.set(name, 0);
+    for (const to of next.get(name)) {
+      depth.set(to, Math.max(depth.get(to) || 0, depth.get(name) + 1));
+      waits.set(to, waits.get(to) - 1);
+      if (!waits.get(to)) ready.push(to);
+    }
+  }
+  return depth;
+}
+function groupsOf(nodes, edges, here, isBack) {
+  const depth = depthsOf([...nodes.keys()], edges), made = new Map(), groups = new Map(), groupOf = new Map();
+  for (const { from, to } of edges) if (nodes.get(from).batch && !made.has(from)) made.set(from, nodes.get(to).def);
+  for (const [name, node] of nodes) {
+    const def = node.def || made.get(name) || "", side = name === here ? "here" : isBack(name) ? "back" : "forward";
+    const key = `${side} ${node.lot ? "lots" : "batches"} ${def}`;
+    if (!groups.has(key)) groups.set(key, { key, side, def, isOfLots: Boolean(node.lot), unit: node.unit, count: 0, stock: 0, held: 0, recalled: 0, first: name, depth: Infinity });
+    const it = groups.get(key);
+    it.count += 1;
+    it.stock += node.stock || 0;
+    it.held += node.held ? 1 : 0;
+    it.recalled += node.recalled ? 1 : 0;
+    it.depth = Math.min(it.depth, depth.get(name) ?? 0);
+    groupOf.set(name, key);
+  }
+  const sums = new Map();
+  let left = 0;
+  for (const { from, to, amount } of edges) {
+    const [one, other] = [groupOf.get(from), groupOf.get(to)];
+    if (one === other) continue;
+    if (groups.get(one).depth >= groups.get(other).depth) { left += 1; continue; }
+    const key = `${one}>${other}`;
+    sums.set(key, { from: one, to: other, amount: (sums.get(key)?.amount || 0) + amount });
+  }
+  return { groups, edges: [...sums.values()], left };
+}
 function filled(element, attributes, children) {
   for (const [name, value] of Object.entries(attributes || {})) {
     if (value === false || value == null) continue;
@@ -874,6 +918,7 @@ function draw(layout, parts) {
   view.className = layout;
   view.replaceChildren(...parts.filter(Boolean));
   drawBack();
+  doDrawn();
   if (isAnother) scrollTo(0, (isBack && tops.get(location.hash)) || 0);
   if (isBack && (key || now === at("back"))) focusRow(before);
   else if (key) focusAgain(key);
@@ -882,6 +927,13 @@ function draw(layout, parts) {
   drawnAt = desk.time();
   if (history.state === null) history.replaceState({ isDrawn: true }, "");
   drawStatus();
+}
+let toDo = [];
+function onceDrawn(act) { toDo.push(act); }
+function doDrawn() {
+  const all = toDo;
+  toDo = [];
+  for (const act of all) act();
 }
 const LISTS_OF = { planner: "the orders", shift: "the batches", warehouse: "the materials", quality: "recalls and holds" };
 function drawBack() {
@@ -1417,4 +1469,4 @@ function bookingForm(title, fields, label, take, more) {
 "##;
 
 /// Its entity tag.
-pub const SCRIPT_TAG: &str = "\"0bdc92ed6d3afcf60805d4016c622045\"";
+pub const SCRIPT_TAG: &str = "\"37254211e47aba761488a945ee5d4767\"";

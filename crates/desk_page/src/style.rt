@@ -100,7 +100,7 @@ tr:last-child > td { border-bottom: 0; }
 th:first-child, td:first-child { padding-left: 16px; } th:last-child, td:last-child { padding-right: 16px; }
 td.num, th.num { text-align: right; font-variant-numeric: tabular-nums; white-space: nowrap; }
 td.do { text-align: right; } td.do > div { display: inline-flex; flex-wrap: wrap; gap: 6px; justify-content: flex-end; }
-main.list > .listed td.do button { white-space: normal; }
+main.list > .listed td.do button { white-space: normal; min-width: 6.4em; }
 td.id, .id { font-weight: 600; overflow-wrap: normal; white-space: nowrap; }
 td.id a, .id a { color: inherit; text-decoration: none; } td.id a:hover, .id a:hover { text-decoration: underline; }
 td.when { white-space: nowrap; } td .under { font-weight: 400; font-size: 13px; color: var(--soft); white-space: normal; }
@@ -215,7 +215,7 @@ body:has(main.board) header { display: none; } main.board { max-width: none; pad
 dialog:has(.help) { width: min(680px, 94vw); } .help .keys { display: grid; grid-template-columns: repeat(auto-fit, minmax(230px, 1fr)); gap: 4px 16px; }
 .help h3 { margin: 4px 0 0; font-size: 14px; color: var(--soft); }
 
-.picture { overflow-x: auto; padding: 12px 16px 8px; }
+.picture { overflow: auto; max-height: 74vh; padding: 12px 16px 8px; }
 svg text { font-size: 12px; fill: var(--ink); } svg .box { stroke: #8592a6; fill: var(--card); }
 svg .box.held { fill: var(--warn-ground); stroke: #c08a1e; } svg .box.recalled { fill: var(--bad-ground); stroke: var(--bad); }
 svg .box.here { stroke-width: 2.5; stroke: var(--accent); } svg .edge { stroke: #8592a6; fill: none; } svg .tip { fill: #8592a6; }
@@ -279,7 +279,7 @@ svg .word { fill: var(--bad); font-weight: 600; font-size: 10px; }
   .thing .listed { display: none; } header, footer, #clock, #waiting, button, .choice, .noprint, .chosen { display: none !important; }
   body { background: #fff; font-size: 10pt; } main, .stack { display: block; padding: 0; max-width: none; } .card { border: 0; }
   main:has(.record) .card:not(.record) { display: none; } tr, h3 { break-inside: avoid; } h3 { break-after: avoid; }
-  .card .wide, pre { overflow: visible; } pre { white-space: pre-wrap; overflow-wrap: break-word; }
+  .card .wide, .picture, pre { overflow: visible; max-height: none; } pre { white-space: pre-wrap; overflow-wrap: break-word; }
   table { font-size: 9pt; } th, td, th:first-child, td:first-child, th:last-child, td:last-child { padding: 3px 5px; }
   th { white-space: normal; } td.id, .id { white-space: normal; overflow-wrap: break-word; } a { color: inherit; text-decoration: none; }
   body:has(#paper > *) > :not(#paper) { display: none !important; } #paper { display: block; }
@@ -294,4 +294,4 @@ svg .word { fill: var(--bad); font-weight: 600; font-size: 10px; }
 "##;
 
 /// Its entity tag.
-pub const STYLE_TAG: &str = "\"243897c1420ec1c95137949b1d161ba6\"";
+pub const STYLE_TAG: &str = "\"eb39178f788c38c4203f309a4ab90e0a\"";

@@ -1,7 +1,7 @@
 // The picture of a genealogy: each lot and batch stands to the right of all that it came of.
 
 import { counted, grouped } from "./amounts.js";
-import { depthsOf, groupsOf, nameOfNode } from "./groups.js";
+import { depthsOf, groupsOf, nameOfNode, productsOf } from "./groups.js";
 import { h, svg, view } from "./elements.js";
 import { card, cell, link, none, numberCell, row, table } from "./parts.js";
 import { filterChoice, filterOf, onceDrawn } from "./frame.js";
@@ -21,14 +21,14 @@ export function genealogyCard({ back, forward }, here) {
     return card("Genealogy", tools, isLarge && none(`${grouped(nodes.size)} lots and batches are drawn by their materials.`),
       picturesOfGroups(groupsOf(nodes, edges, here, (it) => before.has(it)), here), edgesList(nodes, edges));
   }
-  const boxes = new Map([...nodes].map(([name, it]) => [name, boxOf(it, name === here)]));
+  const made = productsOf(nodes, edges), boxes = new Map([...nodes].map(([name, it]) => [name, boxOf(it, made.get(name), name === here)]));
   return card("Genealogy", tools, picture(boxes, edges, here), edgesList(nodes, edges));
 }
 const unitOf = (nodes, edge) => nodes.get(edge.from).unit || nodes.get(edge.to).unit || "";
 
 // What is drawn of a lot or a batch, and of a group of them.
-const boxOf = (node, isHere) => ({ unit: node.unit, isHere, isOfLots: Boolean(node.lot), tone: node.recalled ? "recalled" : node.held ? "held" : "",
-  texts: [node.lot || node.batch, node.lot ? node.def : "batch", node.lot ? `${grouped(node.stock)} ${node.unit}` : ""],
+const boxOf = (node, product, isHere) => ({ unit: node.unit, isHere, isOfLots: Boolean(node.lot), tone: node.recalled ? "recalled" : node.held ? "held" : "",
+  texts: [node.lot || node.batch, node.lot ? node.def : product ? `batch of ${product}` : "batch", node.lot ? `${grouped(node.stock)} ${node.unit}` : ""],
   marks: [node.held && "HELD", node.recalled && "RECALLED"].filter(Boolean).join(" "), place: node.lot ? `quality/lot/${node.lot}` : `quality/batch/${node.batch}` });
 function boxOfGroup(it) {
   const isOne = it.count === 1, [kind, id] = it.first.split(" "), name = isOne ? id : counted(it.count, it.isOfLots ? "lot" : "batch", it.isOfLots ? "lots" : "batches");

@@ -21,12 +21,18 @@ export function depthsOf(names, edges) {
   return depth;
 }
 
+// What each batch made, by the lots that came of it.
+export function productsOf(nodes, edges) {
+  const made = new Map();
+  for (const { from, to } of edges) if (nodes.get(from).batch && !made.has(from)) made.set(from, nodes.get(to).def);
+  return made;
+}
+
 // The same genealogy by materials: the lots of one material are a group, and so are the batches that made one; what came before the lot or batch `here` and
 // what came of it are groups apart, and `here` is one of its own. `isBack` says of a name whether it came before. Steps within a group aren't shown; those
 // that lead to a group which begins no later are counted in `left`.
 export function groupsOf(nodes, edges, here, isBack) {
-  const depth = depthsOf([...nodes.keys()], edges), made = new Map(), groups = new Map(), groupOf = new Map();
-  for (const { from, to } of edges) if (nodes.get(from).batch && !made.has(from)) made.set(from, nodes.get(to).def);
+  const depth = depthsOf([...nodes.keys()], edges), made = productsOf(nodes, edges), groups = new Map(), groupOf = new Map();
   for (const [name, node] of nodes) {
     const def = node.def || made.get(name) || "", side = name === here ? "here" : isBack(name) ? "back" : "forward";
     const key = `${side} ${node.lot ? "lots" : "batches"} ${def}`;

@@ -4,7 +4,7 @@ import { h } from "./elements.js";
 import { openDialog } from "./forms.js";
 
 const KEYS_OF_VIEWS = [["0", "today"], ["1", "planner"], ["2", "shift"], ["3", "warehouse"], ["4", "quality"]];
-const OTHER_KEYS = [["/", "find a lot, a batch, an order or a recall"], ["r", "look again"], ["?", "this help"],
+const OTHER_KEYS = [["/", "find a lot, a batch, an order or a recall"], ["n", "to the button of a batch's next phase"], ["r", "look again"], ["?", "this help"],
   ["Esc", "close a form, leave the board"], ["Enter", "to the next field of a form; books in the last one"]];
 
 const SCANS = "A scanner works wherever the cursor is, and books nothing: at a batch it opens the form with the scanned lot, in a form it chooses the lot, "

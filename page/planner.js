@@ -230,7 +230,7 @@ function withdraw(it) {
 
 function newRecipe(values = {}) {
   const fields = [
-    halfField("recipe", "id", "Recipe"),
+    say("A draft can't be changed: a slip wants another version."), halfField("recipe", "id", "Recipe"),
     halfField("version", "amount", "Version, 1 to 999", { value: 1, more: { pattern: "0*[1-9][0-9]{0,2}" } }),
     halfField("title", "text", "Title"), halfField("product", "id", "Product, a material"),
     { name: "base", kind: "amount", label: "Base size, for which the lines are written" },

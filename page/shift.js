@@ -240,6 +240,9 @@ export async function scanAtBatch(code, isAgain) {
   return line && !isOther ? produce(batch, line, code, isAgain) : false;
 }
 
+// Leads the keyboard to the button of the next phase, where there is one.
+export const focusNextPhase = () => at(NEXT_PHASE)?.focus();
+
 // What is scanned of a phase on the batch's sheet leads the keyboard to the button of that phase, and says why where it can't.
 async function pointToPhase({ batch, next, phases, state }, number) {
   if (number < 1 || number > phases) return `Batch ${batch} has no phase ${number}.`;

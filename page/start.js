@@ -15,7 +15,7 @@ import { drawWaiting, sending } from "./book.js";
 import { help } from "./help.js";
 import { board, today } from "./today.js";
 import { chosenOrders, planner } from "./planner.js";
-import { scanAtBatch, shift } from "./shift.js";
+import { focusNextPhase, scanAtBatch, shift } from "./shift.js";
 import { chosen, warehouse } from "./warehouse.js";
 import { quality } from "./quality.js";
 
@@ -75,7 +75,7 @@ addEventListener("keydown", (event) => {
   if (event.key === "Escape" && place()[0] === "board") return go("today");
   if (isWriting()) return;
   const role = /^[0-4]$/.test(event.key) && Object.keys(VIEWS)[event.key];
-  const act = role ? () => go(role) : { "/": () => at("find").select(), "?": help, r: show }[event.key];
+  const act = role ? () => go(role) : { "/": () => at("find").select(), "?": help, r: show, n: focusNextPhase }[event.key];
   if (!act) return;
   event.preventDefault();
   onceAlone(act);

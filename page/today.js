@@ -97,7 +97,7 @@ function runningBatches({ batches }, isBoard) {
   const now = desk.time(), going = batches.filter((it) => it.state !== "idle" && it.state !== "complete").sort((a, b) => a.at - b.at);
   const made = ({ planned }) => planned && h("div", { class: "under" }, planned.title || planned.product);
   const rows = firstOf(going, isBoard).map((it) => row(it.batch, [idCell(batchLink(it.batch), made(it)), cell(pill(it.state, TONES[it.state])),
-    cell(it.phase ? `${it.phase} on ${it.phase_unit}` : "all phases done"),
+    cell(it.phase ? [h("div", {}, it.phase), h("div", { class: "soft small nowrap" }, `on ${it.phase_unit}`)] : "all phases done"),
     cell(h("div", {}, lengthOfTime(now - it.at)), !isBoard && h("div", { class: "soft small" }, moment(it.at)))]));
   return card("Running, the longest first", null, table(["Batch", "State", "Next", "Last step ago"], rows, "No batch runs."), restOf(going, "shift", "all batches"));
 }
@@ -116,11 +116,11 @@ function latestBars({ holds, recalls }, isBoard) {
 function shortCard({ short, until, ahead, isWhole }, isBoard) {
   const amount = (n, unit) => (n ? numberCell(n, unit) : cell());
   const rows = firstOf(short, isBoard).map((it) => row(it.def, [idCell(link("warehouse/" + it.def, it.def), it.name && h("div", { class: "under" }, it.name)),
-    numberCell(it.asked, it.unit), numberCell(it.free, it.unit), amount(it.made, it.unit), h("td", { class: "num" }, h("span", { class: "over" }, grouped(it.short), " ", it.unit)),
-    cell(it.from)]));
+    !isBoard && [numberCell(it.asked, it.unit), numberCell(it.free, it.unit), amount(it.made, it.unit)],
+    h("td", { class: "num" }, h("span", { class: "over" }, grouped(it.short), " ", it.unit)), cell(it.from)].flat().filter(Boolean)));
+  const heads = ["Material", ...(isBoard ? [] : ["#Asked", "#Free", "#Made by then"]), "#Short", "From"];
   const days = ["1 day", "7 days", "30 days"], pick = choice("Days to look ahead", days, ahead, (it) => setFilter("ahead", AHEAD, it));
-  return card(`Short by ${until}`, !isBoard && pick,
-    table(["Material", "#Asked", "#Free", "#Made by then", "#Short", "From"], rows, "Nothing is short for the open orders and batches that are due by then.", false),
+  return card(`Short by ${until}`, !isBoard && pick, table(heads, rows, "Nothing is short for the open orders and batches that are due by then."),
     restOf(short, "warehouse", "the warehouse"),
     !isWhole && h("p", { class: "none" }, `The first ${grouped(MOST)} orders and the lines of ${MOST_LINES} batches are counted, and there are more.`));
 }
@@ -134,7 +134,7 @@ function dueCard({ day, orders, dated }) {
   const late = before + days.filter((it) => it.day < day).reduce((sum, it) => sum + it.count, 0);
   const rest = [before && `${grouped(before)} due before these days`, after && `${grouped(after)} after them`].filter(Boolean).join(", ");
   return card("Orders and batches by their due dates", null, barPlot(`Open orders and batches by their due dates, ${late} late`, values),
-    rest && h("p", { class: "none" }, `${rest}.`), valuesOf(["Due", "#Open"], days.filter((it) => it.count).map((it) => valueRow(it.day, [it.count]))));
+    rest && h("p", { class: "none" }, `${rest}.`), valuesOf("Due dates", ["Due", "#Open"], days.filter((it) => it.count).map((it) => valueRow(it.day, [it.count]))));
 }
 
 // A field that chooses what a plot is of.
@@ -170,7 +170,7 @@ async function yieldPlot(isShown, isBoard) {
     h("td", { class: "num" }, it.percent.toFixed(1))]));
   const told = `${of}: the last ${counted(values.length, "batch", "batches")} made ${((100 * booked) / asked).toFixed(1)} % of what was asked`;
   return [!isBoard && plotOf("recipe", "yieldrecipe", "Recipe of the yields", recipes, of), h("p", { class: "none" }, `${told}. Red is below ${LOW_YIELD} %.`), barPlot(told, values, " %", 100),
-    valuesOf(["Batch", "#Asked", "#Booked", "#Percent"], rows)];
+    valuesOf("Yield", ["Batch", "#Asked", "#Booked", "#Percent"], rows)];
 }
 
 // The stock of a material in the last days, by the ledgers of its lots. The desk lists no lot that is used up, so that these are left out.
@@ -192,7 +192,7 @@ async function stockPlot({ stocks, short, day }, isShown, isBoard) {
   const said = ["Lots that are used up meanwhile aren't counted", ...limits].filter(Boolean).join(", ");
   const weeks = days.filter((it, k) => (STOCK_DAYS - 1 - k) % 7 === 0);
   return [pick, h("p", { class: "none" }, `${told}. ${said}.`), stepPlot(`${told}, day by day`, days.map((it) => ({ n: it.stock, tick: it.day.slice(5) })), ""),
-    valuesOf(["Day", "#Stock"], weeks.map((it) => valueRow(it.day, [it.stock, known.unit])))];
+    valuesOf("Stock", ["Day", "#Stock"], weeks.map((it) => valueRow(it.day, [it.stock, known.unit])))];
 }
 
 function boardCard() {

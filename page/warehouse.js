@@ -55,12 +55,12 @@ function freeCellOf({ usable, held, recalled, unit }) {
 }
 
 function newClass() {
-  bookingForm("New class", [say("A class is a group of materials, such as RAW or GOODS."), idField("group", "New class"),
+  bookingForm("New class", [say("A class is a group of materials, such as RAW or GOODS. It can't be changed once it is made."), idField("group", "New class"),
     textField("name", "Name")], "Make it",
   (v, tell) => tell(`Class ${v.group} made`, { do: "add_class", class: v.group, name: v.name }));
 }
 function newMaterial(classes) {
-  bookingForm("New material", [idField("def", "New material"), textField("name", "Name"),
+  bookingForm("New material", [say("It can't be changed once it is made."), idField("def", "New material"), textField("name", "Name"),
     selectField("group", "Class", classes.map((it) => ({ value: it.id, label: it.name ? `${it.id} (${it.name})` : it.id }))),
     textField("unit", "Unit in which it is counted, such as kg or pcs",
       { pattern: "[A-Za-z0-9]{1,8}", title: "1 to 8 letters and digits", required: true })], "Make it",

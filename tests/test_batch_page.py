@@ -89,6 +89,8 @@ class Worklist(BrowserTestCase):
         self.check("all phases", table, ["1 P-1 P-1 value U O ONE done", "2 P-2 P-2 value U O TWO done", "P-3 P-3 value after the phases"])
         tab.run("location.hash = 'shift/B-2'")
         tab.has("Batch B-2")
+        tab.key("n")
+        tab.until("document.activeElement.innerText === 'Phase RISE done'", "the keyboard at the next phase")
         self.check("a batch without parameters", tab.run("document.querySelectorAll('.parameters, #view details').length"), 0)
         self.check("what the console tells of errors", tab.errors(), [])
 

@@ -82,7 +82,9 @@ class Genealogies(BrowserTestCase):
     def test_small_genealogy_is_drawn_by_materials_where_that_is_chosen(self) -> None:
         self.serve()
         tab = self.open("quality/lot/D-1")
-        self.check("each is a box", tab.run(f"{BOXES}.length"), 6)
+        self.check("each is a box", sorted(it for it, _ in tab.run(BOXES)), sorted([
+            "F-1 FLOUR 100 kg", "Y-1 YEAST 14 000 g", "B-1 batch of DOUGH", "D-1 DOUGH 176 kg", "B-3 batch of BREAD", "BR-1 BREAD 196 pcs",
+        ]))
         tab.click("by material")
         tab.until("location.hash === '#quality/lot/D-1?picture=by%20material' && drawn === location.hash")
         self.check("the boxes", sorted(it for it, _ in tab.run(BOXES)), sorted([

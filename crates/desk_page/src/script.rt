@@ -444,9 +444,13 @@ function depthsOf(names, edges) {
   }
   return depth;
 }
-function groupsOf(nodes, edges, here, isBack) {
-  const depth = depthsOf([...nodes.keys()], edges), made = new Map(), groups = new Map(), groupOf = new Map();
+function productsOf(nodes, edges) {
+  const made = new Map();
   for (const { from, to } of edges) if (nodes.get(from).batch && !made.has(from)) made.set(from, nodes.get(to).def);
+  return made;
+}
+function groupsOf(nodes, edges, here, isBack) {
+  const depth = depthsOf([...nodes.keys()], edges), made = productsOf(nodes, edges), groups = new Map(), groupOf = new Map();
   for (const [name, node] of nodes) {
     const def = node.def || made.get(name) || "", side = name === here ? "here" : isBack(name) ? "back" : "forward";
     const key = `${side} ${node.lot ? "lots" : "batches"} ${def}`;
@@ -1469,4 +1473,4 @@ function bookingForm(title, fields, label, take, more) {
 "##;
 
 /// Its entity tag.
-pub const SCRIPT_TAG: &str = "\"37254211e47aba761488a945ee5d4767\"";
+pub const SCRIPT_TAG: &str = "\"cdfc9935cf0f81c291829c56786bc7bd\"";

@@ -199,7 +199,7 @@ dialog:has(.sheet) { width: min(860px, 94vw); } .sheet h3 { margin: 14px 0 2px; 
 .tile a.number:hover { text-decoration: underline; } .tile p { display: grid; gap: 2px; font-size: 13px; margin: 0; justify-items: start; color: var(--soft); }
 .tile.bad { border-top-color: #c2333f; } .tile.bad .number { color: var(--bad); } .tile.warn { border-top-color: #c08a1e; } .tile.warn .number { color: var(--warn); }
 .tile.good { border-top-color: #2a8f60; } .tile.nothing .number { color: var(--soft); font-weight: 400; }
-.later { min-height: 236px; } .plot { padding: 6px 16px 2px; } .plot svg { display: block; } label.tick { display: flex; align-items: center; gap: 8px; }
+.nowrap { white-space: nowrap; } .later { min-height: 236px; } .plot { padding: 6px 16px 2px; } .plot svg { display: block; } label.tick { display: flex; align-items: center; gap: 8px; }
 svg .axis { stroke: var(--line); } svg .tick { font-size: 12px; fill: var(--soft); } svg .column { fill: var(--accent); } svg .column.bad { fill: #c2333f; }
 svg .column.warn { fill: #c08a1e; } svg .column.good { fill: #2a8f60; } svg .mark { stroke: var(--ink); stroke-dasharray: 4 3; }
 svg .line { fill: none; stroke: var(--accent); stroke-width: 2; } svg .below { fill: var(--accent); opacity: .16; }
@@ -236,7 +236,7 @@ svg .word { fill: var(--bad); font-weight: 600; font-size: 10px; }
   #help { width: 44px; }
   button, select, summary, input, dialog textarea { min-height: 44px; } button { padding: 7px 13px; }
   td a, .facts a, .top a { display: inline-block; padding: 12px 0; margin: -12px 0; min-width: 44px; }
-  .tile p a { display: inline-flex; align-items: center; min-height: 44px; }
+  .tile p { gap: 0; } .tile p a { display: inline-flex; align-items: center; min-height: 44px; }
   .row > a { display: inline-flex; align-items: center; min-height: 44px; min-width: 44px; }
   summary { padding: 11px 16px; }
   input[type=checkbox] {
@@ -294,4 +294,4 @@ svg .word { fill: var(--bad); font-weight: 600; font-size: 10px; }
 "##;
 
 /// Its entity tag.
-pub const STYLE_TAG: &str = "\"eb39178f788c38c4203f309a4ab90e0a\"";
+pub const STYLE_TAG: &str = "\"f1d7374e233dfa4110da90b6856a0d3f\"";

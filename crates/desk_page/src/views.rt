@@ -40,8 +40,8 @@ function stepPlot(said, values, unit = "") {
     return [svg("path", { class: "below", d: `${path}V${y(0)}H${x(0)}Z` }), svg("path", { class: "line", d: path })];
   });
 }
-function valuesOf(heads, rows) {
-  return h("details", { class: "noprint" }, h("summary", {}, "The values as a table"), table(heads, rows, "", true));
+function valuesOf(what, heads, rows) {
+  return h("details", { class: "noprint" }, h("summary", { "aria-label": `${what}: the values as a table` }, "The values as a table"), table(heads, rows, "", true));
 }
 const valueRow = (name, ...values) => row(`value ${name}`, [cell(name), ...values.map(([n, unit]) => numberCell(n, unit))]);
 function alarmBox() {
@@ -68,7 +68,7 @@ function alarm(texts) {
   ending = setTimeout(() => document.body.classList.remove("alarm"), LASTS);
 }
 const KEYS_OF_VIEWS = [["0", "today"], ["1", "planner"], ["2", "shift"], ["3", "warehouse"], ["4", "quality"]];
-const OTHER_KEYS = [["/", "find a lot, a batch, an order or a recall"], ["r", "look again"], ["?", "this help"],
+const OTHER_KEYS = [["/", "find a lot, a batch, an order or a recall"], ["n", "to the button of a batch's next phase"], ["r", "look again"], ["?", "this help"],
   ["Esc", "close a form, leave the board"], ["Enter", "to the next field of a form; books in the last one"]];
 const SCANS = "A scanner works wherever the cursor is, and books nothing: at a batch it opens the form with the scanned lot, in a form it chooses the lot, "
   + "elsewhere it finds.";
@@ -190,7 +190,7 @@ function runningBatches({ batches }, isBoard) {
   const now = desk.time(), going = batches.filter((it) => it.state !== "idle" && it.state !== "complete").sort((a, b) => a.at - b.at);
   const made = ({ planned }) => planned && h("div", { class: "under" }, planned.title || planned.product);
   const rows = firstOf(going, isBoard).map((it) => row(it.batch, [idCell(batchLink(it.batch), made(it)), cell(pill(it.state, TONES[it.state])),
-    cell(it.phase ? `${it.phase} on ${it.phase_unit}` : "all phases done"),
+    cell(it.phase ? [h("div", {}, it.phase), h("div", { class: "soft small nowrap" }, `on ${it.phase_unit}`)] : "all phases done"),
     cell(h("div", {}, lengthOfTime(now - it.at)), !isBoard && h("div", { class: "soft small" }, moment(it.at)))]));
   return card("Running, the longest first", null, table(["Batch", "State", "Next", "Last step ago"], rows, "No batch runs."), restOf(going, "shift", "all batches"));
 }
@@ -206,11 +206,11 @@ function latestBars({ holds, recalls }, isBoard) {
 function shortCard({ short, until, ahead, isWhole }, isBoard) {
   const amount = (n, unit) => (n ? numberCell(n, unit) : cell());
   const rows = firstOf(short, isBoard).map((it) => row(it.def, [idCell(link("warehouse/" + it.def, it.def), it.name && h("div", { class: "under" }, it.name)),
-    numberCell(it.asked, it.unit), numberCell(it.free, it.unit), amount(it.made, it.unit), h("td", { class: "num" }, h("span", { class: "over" }, grouped(it.short), " ", it.unit)),
-    cell(it.from)]));
+    !isBoard && [numberCell(it.asked, it.unit), numberCell(it.free, it.unit), amount(it.made, it.unit)],
+    h("td", { class: "num" }, h("span", { class: "over" }, grouped(it.short), " ", it.unit)), cell(it.from)].flat().filter(Boolean)));
+  const heads = ["Material", ...(isBoard ? [] : ["#Asked", "#Free", "#Made by then"]), "#Short", "From"];
   const days = ["1 day", "7 days", "30 days"], pick = choice("Days to look ahead", days, ahead, (it) => setFilter("ahead", AHEAD, it));
-  return card(`Short by ${until}`, !isBoard && pick,
-    table(["Material", "#Asked", "#Free", "#Made by then", "#Short", "From"], rows, "Nothing is short for the open orders and batches that are due by then.", false),
+  return card(`Short by ${until}`, !isBoard && pick, table(heads, rows, "Nothing is short for the open orders and batches that are due by then."),
     restOf(short, "warehouse", "the warehouse"),
     !isWhole && h("p", { class: "none" }, `The first ${grouped(MOST)} orders and the lines of ${MOST_LINES} batches are counted, and there are more.`));
 }
@@ -222,7 +222,7 @@ function dueCard({ day, orders, dated }) {
   const late = before + days.filter((it) => it.day < day).reduce((sum, it) => sum + it.count, 0);
   const rest = [before && `${grouped(before)} due before these days`, after && `${grouped(after)} after them`].filter(Boolean).join(", ");
   return card("Orders and batches by their due dates", null, barPlot(`Open orders and batches by their due dates, ${late} late`, values),
-    rest && h("p", { class: "none" }, `${rest}.`), valuesOf(["Due", "#Open"], days.filter((it) => it.count).map((it) => valueRow(it.day, [it.count]))));
+    rest && h("p", { class: "none" }, `${rest}.`), valuesOf("Due dates", ["Due", "#Open"], days.filter((it) => it.count).map((it) => valueRow(it.day, [it.count]))));
 }
 function plotOf(name, id, label, values, on) {
   return h("div", { class: "body row" }, h("select", { id, "aria-label": label, onchange: (event) => setText(name, event.target.value) },
@@ -254,7 +254,7 @@ async function yieldPlot(isShown, isBoard) {
     h("td", { class: "num" }, it.percent.toFixed(1))]));
   const told = `${of}: the last ${counted(values.length, "batch", "batches")} made ${((100 * booked) / asked).toFixed(1)} % of what was asked`;
   return [!isBoard && plotOf("recipe", "yieldrecipe", "Recipe of the yields", recipes, of), h("p", { class: "none" }, `${told}. Red is below ${LOW_YIELD} %.`), barPlot(told, values, " %", 100),
-    valuesOf(["Batch", "#Asked", "#Booked", "#Percent"], rows)];
+    valuesOf("Yield", ["Batch", "#Asked", "#Booked", "#Percent"], rows)];
 }
 const STOCK_DAYS = 90, MOST_LOTS = 100, MOST_MOVEMENTS = 500;
 async function stockPlot({ stocks, short, day }, isShown, isBoard) {
@@ -274,7 +274,7 @@ async function stockPlot({ stocks, short, day }, isShown, isBoard) {
   const said = ["Lots that are used up meanwhile aren't counted", ...limits].filter(Boolean).join(", ");
   const weeks = days.filter((it, k) => (STOCK_DAYS - 1 - k) % 7 === 0);
   return [pick, h("p", { class: "none" }, `${told}. ${said}.`), stepPlot(`${told}, day by day`, days.map((it) => ({ n: it.stock, tick: it.day.slice(5) })), ""),
-    valuesOf(["Day", "#Stock"], weeks.map((it) => valueRow(it.day, [it.stock, known.unit])))];
+    valuesOf("Stock", ["Day", "#Stock"], weeks.map((it) => valueRow(it.day, [it.stock, known.unit])))];
 }
 function boardCard() {
   return card("The board", null, h("div", { class: "body" }, h("p", {}, link(location.hash.replace(/^#?\w*/, "board"), "Open the board"), ": the same in large letters, without buttons, for a screen on the wall. "
@@ -293,12 +293,12 @@ function genealogyCard({ back, forward }, here) {
     return card("Genealogy", tools, isLarge && none(`${grouped(nodes.size)} lots and batches are drawn by their materials.`),
       picturesOfGroups(groupsOf(nodes, edges, here, (it) => before.has(it)), here), edgesList(nodes, edges));
   }
-  const boxes = new Map([...nodes].map(([name, it]) => [name, boxOf(it, name === here)]));
+  const made = productsOf(nodes, edges), boxes = new Map([...nodes].map(([name, it]) => [name, boxOf(it, made.get(name), name === here)]));
   return card("Genealogy", tools, picture(boxes, edges, here), edgesList(nodes, edges));
 }
 const unitOf = (nodes, edge) => nodes.get(edge.from).unit || nodes.get(edge.to).unit || "";
-const boxOf = (node, isHere) => ({ unit: node.unit, isHere, isOfLots: Boolean(node.lot), tone: node.recalled ? "recalled" : node.held ? "held" : "",
-  texts: [node.lot || node.batch, node.lot ? node.def : "batch", node.lot ? `${grouped(node.stock)} ${node.unit}` : ""],
+const boxOf = (node, product, isHere) => ({ unit: node.unit, isHere, isOfLots: Boolean(node.lot), tone: node.recalled ? "recalled" : node.held ? "held" : "",
+  texts: [node.lot || node.batch, node.lot ? node.def : product ? `batch of ${product}` : "batch", node.lot ? `${grouped(node.stock)} ${node.unit}` : ""],
   marks: [node.held && "HELD", node.recalled && "RECALLED"].filter(Boolean).join(" "), place: node.lot ? `quality/lot/${node.lot}` : `quality/batch/${node.batch}` });
 function boxOfGroup(it) {
   const isOne = it.count === 1, [kind, id] = it.first.split(" "), name = isOne ? id : counted(it.count, it.isOfLots ? "lot" : "batch", it.isOfLots ? "lots" : "batches");
@@ -821,7 +821,7 @@ function withdraw(it) {
 }
 function newRecipe(values = {}) {
   const fields = [
-    halfField("recipe", "id", "Recipe"),
+    say("A draft can't be changed: a slip wants another version."), halfField("recipe", "id", "Recipe"),
     halfField("version", "amount", "Version, 1 to 999", { value: 1, more: { pattern: "0*[1-9][0-9]{0,2}" } }),
     halfField("title", "text", "Title"), halfField("product", "id", "Product, a material"),
     { name: "base", kind: "amount", label: "Base size, for which the lines are written" },
@@ -1032,6 +1032,7 @@ async function scanAtBatch(code, isAgain) {
   const isOther = !id || await desk.foundBatch(id) || await desk.foundOrder(id) || await desk.recall(id);
   return line && !isOther ? produce(batch, line, code, isAgain) : false;
 }
+const focusNextPhase = () => at(NEXT_PHASE)?.focus();
 async function pointToPhase({ batch, next, phases, state }, number) {
   if (number < 1 || number > phases) return `Batch ${batch} has no phase ${number}.`;
   if (number < next) return `Phase ${number} of ${batch} is done already.`;
@@ -1134,12 +1135,12 @@ function freeCellOf({ usable, held, recalled, unit }) {
   return h("td", { class: "num" }, h("span", {}, `${grouped(usable)} ${unit}`, barred(held, "on hold", "warn"), barred(recalled, "recalled", "bad")));
 }
 function newClass() {
-  bookingForm("New class", [say("A class is a group of materials, such as RAW or GOODS."), idField("group", "New class"),
+  bookingForm("New class", [say("A class is a group of materials, such as RAW or GOODS. It can't be changed once it is made."), idField("group", "New class"),
     textField("name", "Name")], "Make it",
   (v, tell) => tell(`Class ${v.group} made`, { do: "add_class", class: v.group, name: v.name }));
 }
 function newMaterial(classes) {
-  bookingForm("New material", [idField("def", "New material"), textField("name", "Name"),
+  bookingForm("New material", [say("It can't be changed once it is made."), idField("def", "New material"), textField("name", "Name"),
     selectField("group", "Class", classes.map((it) => ({ value: it.id, label: it.name ? `${it.id} (${it.name})` : it.id }))),
     textField("unit", "Unit in which it is counted, such as kg or pcs",
       { pattern: "[A-Za-z0-9]{1,8}", title: "1 to 8 letters and digits", required: true })], "Make it",
@@ -1376,7 +1377,7 @@ addEventListener("keydown", (event) => {
   if (event.key === "Escape" && place()[0] === "board") return go("today");
   if (isWriting()) return;
   const role = /^[0-4]$/.test(event.key) && Object.keys(VIEWS)[event.key];
-  const act = role ? () => go(role) : { "/": () => at("find").select(), "?": help, r: show }[event.key];
+  const act = role ? () => go(role) : { "/": () => at("find").select(), "?": help, r: show, n: focusNextPhase }[event.key];
   if (!act) return;
   event.preventDefault();
   onceAlone(act);
@@ -1409,4 +1410,4 @@ desk.loggedIn().then(nameByLogin).catch((error) => notice("bad", whyNot(error)))
 "##;
 
 /// Its entity tag.
-pub const VIEWS_TAG: &str = "\"5cca36f76677722ba28cd63db9902717\"";
+pub const VIEWS_TAG: &str = "\"5eaa331bceba058d330dee4a9a02de73\"";

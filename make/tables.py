@@ -320,6 +320,7 @@ LOOKUPS = [
     ("class_by_id", "class", "id"),
     ("definition_by_id", "definition", "id"),
     ("recipe_by_key", "recipe", "id version"),
+    ("versions_of_recipe", "recipe", "id"),
     ("lines_of_recipe", "recipe_line", "recipe version"),
     ("job_by_id", "job", "id"),
     ("batch_by_id", "batch", "id"),

@@ -189,6 +189,71 @@ impl<'a> Worklists for ListsView<'a> {
         let rows = holds_beyond(self.lists.alloc, &self.lists.holds, cursor)?;
         Ok(first_page(rows))
     }
+
+    fn definitions_after(&mut self, cursor: Option<Id>) -> Result<Page<Definition>, AllocError> {
+        let rows = self
+            .lists
+            .definitions
+            .iter()
+            .copied()
+            .filter(|definition| is_after(&definition.id, &cursor))
+            .collect(self.lists.alloc)?;
+        Ok(first_page(rows))
+    }
+
+    fn orders_after(&mut self, cursor: Option<Id>) -> Result<Page<Job>, AllocError> {
+        let rows = self
+            .lists
+            .jobs
+            .iter()
+            .copied()
+            .filter(|job| is_after(&job.order.order, &cursor))
+            .collect(self.lists.alloc)?;
+        Ok(first_page(rows))
+    }
+
+    fn batches_after(&mut self, cursor: Option<Id>) -> Result<Page<BatchRow>, AllocError> {
+        let lists = self.lists;
+        let rows = batches_beyond(
+            lists.alloc,
+            &lists.batches,
+            &lists.control_lines,
+            &lists.events,
+            cursor,
+        )?;
+        Ok(first_page(rows))
+    }
+
+    fn recalls_after(&mut self, cursor: Option<Id>) -> Result<Page<Recall>, AllocError> {
+        let rows = self
+            .lists
+            .recalls
+            .iter()
+            .copied()
+            .filter(|recall| is_after(&recall.id, &cursor))
+            .collect(self.lists.alloc)?;
+        Ok(first_page(rows))
+    }
+
+    fn recipes_after(&mut self, cursor: Option<Id>) -> Result<Page<Recipe>, AllocError> {
+        let rows = self
+            .lists
+            .recipes
+            .iter()
+            .copied()
+            .filter(|row| is_after(&row.header.recipe, &cursor))
+            .collect(self.lists.alloc)?;
+        Ok(first_page(rows))
+    }
+
+    fn versions_of(&mut self, recipe: Id) -> Result<Vec<Recipe>, AllocError> {
+        self.lists
+            .recipes
+            .iter()
+            .copied()
+            .filter(|row| row.header.recipe == recipe)
+            .collect(self.lists.alloc)
+    }
 }
 
 // ---- which rows a list means
@@ -232,6 +297,23 @@ fn batches_in(
         .iter()
         .map(|batch| batch_row(lines, events, *batch))
         .filter(|row| is_batch_in(row, closed, &cursor))
+        .collect(alloc)
+}
+
+fn batches_beyond(
+    alloc: Global,
+    batches: &[Batch],
+    lines: &[ControlLine],
+    events: &[BatchEvent],
+    cursor: Option<Id>,
+) -> Result<Vec<BatchRow>, AllocError>
+    ensures { IfOk result (λ v. v.items
+        ≡ filter (λ r. is_after cursor r.batch.id) (map (batch_row lines.now events.now) batches.now)) }
+{
+    batches
+        .iter()
+        .map(|batch| batch_row(lines, events, *batch))
+        .filter(|row| is_after(&row.batch.id, &cursor))
         .collect(alloc)
 }
 

@@ -33,6 +33,7 @@ use Rattle.plant_tables.proofs.KeysOfColumns.{by_text, by_number, by_text_number
 use Rattle.plant_tables.proofs.SortedRowsAreUnique.{same_sorted, strictly_sorted, sorted_keys}
 use Rattle.plant_tables.proofs.AllRowsDecoded.{map_same, all_again}
 use Rattle.plant_invariant_tables.proofs.TablesHaveValidValues.{in_order, valid_values, newest_known}
+use Rattle.plant_questions.specs.{versions_of}
 use Rattle.plant_questions.proofs.FoundRows.{first_is, of_mapped}
 use Rattle.plant_keyed.specs.{AreFound, IsFirstFound}
 use Rattle.plant_keyed.proofs.RowsShown.{batch_unread, movement_again}
@@ -90,6 +91,9 @@ module _ (db : Database) (s : State) (valid : StateInvariant s) (holds : HoldsTa
 
   pub recipe_is : (id : List ℕ) (version : ℕ) (row : Option Recipe) → IsFirstFound db recipe_table recipe_from (1 ∷ 2 ∷ []) (Text id ∷ number version ∷ []) row → row ≡ recipe_at s id version
   recipe_is id version = first_again recipe_from row_of_recipe HasRecipeValues (λ r h. recipe_reads.again r h tt) recipe_table recipe_order (λ a b. by_text_number a.header.recipe b.header.recipe a.header.version b.header.version) db s.recipes (holds.each 3 recipe_table refl) (in_order newest_schema s valid).keyed.recipes values.recipes (1 ∷ 2 ∷ []) (Text id ∷ number version ∷ []) (λ r. same r.header.recipe id && r.header.version == version) (λ r. text_number r.header.recipe id r.header.version version)
+
+  pub versions_are : (id : List ℕ) (rows : List Recipe) → AreFound db recipe_table recipe_from (1 ∷ []) (Text id ∷ []) rows → rows ≡ versions_of s id
+  versions_are id = found_again recipe_from row_of_recipe HasRecipeValues (λ r h. recipe_reads.again r h tt) recipe_table recipe_order (λ a b. by_text_number a.header.recipe b.header.recipe a.header.version b.header.version) db s.recipes (holds.each 3 recipe_table refl) (in_order newest_schema s valid).keyed.recipes values.recipes (1 ∷ []) (Text id ∷ []) (λ r. same r.header.recipe id) (λ r. one_text r.header.recipe id)
 
   pub master_lines_are : (id : List ℕ) (version : ℕ) (rows : List MasterLine) → AreFound db recipe_line_table master_line_from (1 ∷ 2 ∷ []) (Text id ∷ number version ∷ []) rows → rows ≡ master_lines_of s id version
   master_lines_are id version = found_again master_line_from row_of_master_line HasMasterLineValues master_line_again recipe_line_table master_line_order (λ a b. by_text_numbers a.recipe b.recipe a.version b.version a.number b.number) db s.master_lines (holds.each 4 recipe_line_table refl) (in_order newest_schema s valid).keyed.master_lines values.master_lines (1 ∷ 2 ∷ []) (Text id ∷ number version ∷ []) (λ r. same r.recipe id && r.version == version) (λ r. text_number r.recipe id r.version version)

@@ -20,6 +20,10 @@ pub recipe_by_key : Selects recipe_table (1 ∷ 2 ∷ []) (codes "SELECT id, ver
 unfolding everything
 recipe_by_key = record { readable = refl; compared = refl; parameters = codes "?1" ∷ codes "?2" ∷ []; written = refl }
 
+pub versions_of_recipe : Selects recipe_table (1 ∷ []) (codes "SELECT id, version, product, base, low, high, title, state FROM recipe WHERE id = ?1 ORDER BY id, version")
+unfolding everything
+versions_of_recipe = record { readable = refl; compared = refl; parameters = codes "?1" ∷ []; written = refl }
+
 pub lines_of_recipe : Selects recipe_line_table (1 ∷ 2 ∷ []) (codes "SELECT recipe, version, no, kind, def, qty, t1, t2, t3 FROM recipe_line WHERE recipe = ?1 AND version = ?2 ORDER BY recipe, version, no")
 unfolding everything
 lines_of_recipe = record { readable = refl; compared = refl; parameters = codes "?1" ∷ codes "?2" ∷ []; written = refl }

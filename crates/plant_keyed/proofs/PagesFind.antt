@@ -12,20 +12,20 @@ use Rattle.sqlite.specs.declared.types.Value.TheVariants.{Text}
 use Rattle.sqlite_sql.specs.Ops.{is_null}
 use Rattle.sqlite_value.specs.Order.{value_cmp}
 use Rattle.sqlite_value.proofs.OrderLemmas.{value_cmp-Int, value_cmp-Text}
-use Rattle.plant_base.specs.{HasClassValues, HasDefinitionValues, HasLotValues, HasHoldValues, HasRecallValues, State, newest_schema, id_cmp, same, class_order, definition_order, job_order, lot_order, hold_order, recall_order, job_state_name, BatchRow, Class, Definition, Hold, Job, JobState, Lifting, Lot, Recall, Receipt, Sublot}
+use Rattle.plant_base.specs.{HasClassValues, HasDefinitionValues, HasLotValues, HasHoldValues, HasRecallValues, State, newest_schema, id_cmp, same, class_order, definition_order, recipe_order, job_order, lot_order, hold_order, recall_order, job_state_name, BatchRow, Class, Definition, Hold, Job, JobState, Lifting, Lot, Recall, Receipt, Recipe, Sublot}
 use Rattle.plant_view.proofs.ListLemmas.{all_weaker}
 use Rattle.plant_view.specs.{tables_of, batch_row_order, sublot_order}
 use Rattle.plant_view.specs.TableRows.{Tables}
 use Rattle.plant_invariant.specs.{AreApart}
 use Rattle.plant_invariant.specs.StateInvariant.{StateInvariant}
-use Rattle.plant_tables.specs.{class_table, definition_table, job_table, batch_table, lot_table, hold_table, receipt_table, recall_table, sublot_table, HoldsTables}
-use Rattle.plant_tables_columns.specs.{number, flag, recall_state_name, RecallState, HasJobValues, HasBatchRowValues, HasReceiptRowValues, HasSublotValues, HasValidValues, row_of_class, row_of_definition, row_of_job, row_of_batch, row_of_lot, row_of_hold, row_of_receipt, row_of_recall, row_of_sublot, class_from, definition_from, job_from, batch_from, lot_from, hold_from, receipt_from, recall_read, sublot_from}
+use Rattle.plant_tables.specs.{class_table, definition_table, recipe_table, job_table, batch_table, lot_table, hold_table, receipt_table, recall_table, sublot_table, HoldsTables}
+use Rattle.plant_tables_columns.specs.{number, flag, recall_state_name, RecallState, HasRecipeValues, HasJobValues, HasBatchRowValues, HasReceiptRowValues, HasSublotValues, HasValidValues, row_of_class, row_of_definition, row_of_recipe, row_of_job, row_of_batch, row_of_lot, row_of_hold, row_of_receipt, row_of_recall, row_of_sublot, class_from, definition_from, recipe_from, job_from, batch_from, lot_from, hold_from, receipt_from, recall_read, sublot_from}
 use Rattle.plant_tables_columns.specs.declared.recalls.RecallState.TheVariants as state
-use Rattle.plant_tables_columns.proofs.RowLaws.{class_reads, definition_reads, job_reads, batch_reads, lot_reads, hold_reads, receipt_again, sublot_reads}
+use Rattle.plant_tables_columns.proofs.RowLaws.{class_reads, definition_reads, recipe_reads, job_reads, batch_reads, lot_reads, hold_reads, receipt_again, sublot_reads}
 use Rattle.plant_tables.proofs.SortedRowsAreUnique.{int_cmp_pos}
 use Rattle.plant_invariant_tables.proofs.TablesHaveValidValues.{in_order, valid_values, newest_known}
 use Rattle.sql_queries.specs.{is_beyond, first_of}
-use Rattle.plant_questions.specs.{page_size, page_of, text_after, is_after, is_order_in, orders_in, agree, is_batch_in, batches_in, is_lot_of, lots_of, is_hold_on, holds_on, is_recall_in, recalls_in, classes_after, is_definition_in, definitions_in, lots_after, sublots_after, sublots_in_stock, holds_after, number_after, number_order, is_number_after, receipts_by_number, Page}
+use Rattle.plant_questions.specs.{page_size, page_of, text_after, is_after, is_order_in, orders_in, agree, is_batch_in, batches_in, is_lot_of, lots_of, is_hold_on, holds_on, is_recall_in, recalls_in, classes_after, is_definition_in, definitions_in, lots_after, sublots_after, sublots_in_stock, holds_after, definitions_after, orders_after, batches_after, recalls_after, recipes_after, number_after, number_order, is_number_after, receipts_by_number, Page}
 use Rattle.plant_keyed.specs.{AreAbove, IsPaged, row_limit}
 use Rattle.plant_keyed.proofs.SortedPermutationIsUnique.{AreApart as ArePlacesApart, apart_once}
 use Rattle.plant_keyed.proofs.PageIsFirstRows.{page_again, page_in_order, whole_again}
@@ -181,6 +181,33 @@ module _ (db : Database) (s : State) (valid : StateInvariant s) (holds : HoldsTa
   holds_after_are cursor =
       page_again hold_from row_of_hold HasHoldValues (λ r h. hold_reads.again r h tt) hold_table (first_of hold_table.keys) hold_order (λ a b. by_two_texts a.lot b.lot a.id b.id) db s.holds (holds.each 12 hold_table refl) (in_order newest_schema s valid).keyed.holds values.holds [] 1 (asked_after cursor)
       (λ r. is_after cursor r.lot) (λ r. above_is cursor r.lot)
+
+  -- ---- what comes after an id, whatever its state
+
+  pub definitions_after_are : (cursor : Option (List ℕ)) (page : Page Definition) → IsPaged db definition_table (first_of definition_table.keys) definition_from [] 1 (asked_after cursor) page → page ≡ page_of (definitions_after s cursor)
+  definitions_after_are cursor =
+      page_again definition_from row_of_definition HasDefinitionValues (λ r h. definition_reads.again r h tt) definition_table (first_of definition_table.keys) definition_order (λ a b. by_text a.id b.id) db s.definitions (holds.each 2 definition_table refl) (in_order newest_schema s valid).keyed.definitions values.definitions [] 1 (asked_after cursor)
+      (λ r. is_after cursor r.id) (λ r. above_is cursor r.id)
+
+  pub orders_after_are : (cursor : Option (List ℕ)) (page : Page Job) → IsPaged db job_table (first_of job_table.keys) job_from [] 1 (asked_after cursor) page → page ≡ page_of (orders_after s cursor)
+  orders_after_are cursor =
+      page_again job_from row_of_job HasJobValues (λ r h. job_reads.again r h tt) job_table (first_of job_table.keys) job_order (λ a b. by_text a.order.order b.order.order) db s.jobs (holds.each 5 job_table refl) (in_order newest_schema s valid).keyed.jobs values.jobs [] 1 (asked_after cursor)
+      (λ r. is_after cursor r.order.order) (λ r. above_is cursor r.order.order)
+
+  pub batches_after_are : (cursor : Option (List ℕ)) (page : Page BatchRow) → IsPaged db batch_table (first_of batch_table.keys) batch_from [] 1 (asked_after cursor) page → page ≡ page_of (batches_after s cursor)
+  batches_after_are cursor =
+      page_again batch_from row_of_batch HasBatchRowValues (λ r h. batch_reads.again r h tt) batch_table (first_of batch_table.keys) batch_row_order (λ a b. by_text a.batch.id b.batch.id) db t.batches (holds.each 6 batch_table refl) (in_order newest_schema s valid).keyed.batches values.batches [] 1 (asked_after cursor)
+      (λ r. is_after cursor r.batch.id) (λ r. above_is cursor r.batch.id)
+
+  pub recalls_after_are : (cursor : Option (List ℕ)) (page : Page Recall) → IsPaged db recall_table (first_of recall_table.keys) recall_read [] 1 (asked_after cursor) page → page ≡ page_of (recalls_after s cursor)
+  recalls_after_are cursor =
+      page_again recall_read row_of_recall HasRecallValues recall_again recall_table (first_of recall_table.keys) recall_order (λ a b. by_text a.id b.id) db s.recalls (holds.each 15 recall_table refl) (in_order newest_schema s valid).keyed.recalls values.recalls [] 1 (asked_after cursor)
+      (λ r. is_after cursor r.id) (λ r. above_is cursor r.id)
+
+  pub recipes_after_are : (cursor : Option (List ℕ)) (page : Page Recipe) → IsPaged db recipe_table (first_of recipe_table.keys) recipe_from [] 1 (asked_after cursor) page → page ≡ page_of (recipes_after s cursor)
+  recipes_after_are cursor =
+      page_again recipe_from row_of_recipe HasRecipeValues (λ r h. recipe_reads.again r h tt) recipe_table (first_of recipe_table.keys) recipe_order (λ a b. by_text_number a.header.recipe b.header.recipe a.header.version b.header.version) db s.recipes (holds.each 3 recipe_table refl) (in_order newest_schema s valid).keyed.recipes values.recipes [] 1 (asked_after cursor)
+      (λ r. is_after cursor r.header.recipe) (λ r. above_is cursor r.header.recipe)
 
   -- ---- in another order than that of a table's key
 

@@ -36,6 +36,28 @@ pub classes_after : SelectsPage class_table (first_of class_table.keys) [] 1 (co
 unfolding everything
 classes_after = record { readable = refl; compared = refl; bounded = refl; ordered = refl; parameters = codes "?1" ∷ codes "?2" ∷ []; written = refl }
 
+-- ---- pages of all rows of a table whatever their state
+
+pub definitions_after : SelectsPage definition_table (first_of definition_table.keys) [] 1 (codes "SELECT id, class, name, unit FROM definition WHERE id > ?1 ORDER BY id LIMIT ?2")
+unfolding everything
+definitions_after = record { readable = refl; compared = refl; bounded = refl; ordered = refl; parameters = codes "?1" ∷ codes "?2" ∷ []; written = refl }
+
+pub orders_after : SelectsPage job_table (first_of job_table.keys) [] 1 (codes "SELECT id, recipe, version, size, due, priority, state FROM job WHERE id > ?1 ORDER BY id LIMIT ?2")
+unfolding everything
+orders_after = record { readable = refl; compared = refl; bounded = refl; ordered = refl; parameters = codes "?1" ∷ codes "?2" ∷ []; written = refl }
+
+pub batches_after : SelectsPage batch_table (first_of batch_table.keys) [] 1 (codes "SELECT id, job, at, by_who, note, state, attempt, next, closed FROM batch WHERE id > ?1 ORDER BY id LIMIT ?2")
+unfolding everything
+batches_after = record { readable = refl; compared = refl; bounded = refl; ordered = refl; parameters = codes "?1" ∷ codes "?2" ∷ []; written = refl }
+
+pub recalls_after : SelectsPage recall_table (first_of recall_table.keys) [] 1 (codes "SELECT id, lot, state, at, by_who, note, lift_at, lift_by, lift_note FROM recall WHERE id > ?1 ORDER BY id LIMIT ?2")
+unfolding everything
+recalls_after = record { readable = refl; compared = refl; bounded = refl; ordered = refl; parameters = codes "?1" ∷ codes "?2" ∷ []; written = refl }
+
+pub recipes_after : SelectsPage recipe_table (first_of recipe_table.keys) [] 1 (codes "SELECT id, version, product, base, low, high, title, state FROM recipe WHERE id > ?1 ORDER BY id, version LIMIT ?2")
+unfolding everything
+recipes_after = record { readable = refl; compared = refl; bounded = refl; ordered = refl; parameters = codes "?1" ∷ codes "?2" ∷ []; written = refl }
+
 -- ---- pages of what lots have, lot by lot
 
 pub lots_after : SelectsPage lot_table (first_of lot_table.keys) [] 1 (codes "SELECT id, def FROM lot WHERE id > ?1 ORDER BY id LIMIT ?2")

@@ -12,6 +12,9 @@ pub(crate) const DEFINITION_BY_ID: &str =
 pub(crate) const RECIPE_BY_KEY: &str =
     "SELECT id, version, product, base, low, high, title, state FROM recipe WHERE id = ?1 AND version = ?2 ORDER BY id, version";
 
+pub(crate) const VERSIONS_OF_RECIPE: &str =
+    "SELECT id, version, product, base, low, high, title, state FROM recipe WHERE id = ?1 ORDER BY id, version";
+
 pub(crate) const LINES_OF_RECIPE: &str =
     "SELECT recipe, version, no, kind, def, qty, t1, t2, t3 FROM recipe_line WHERE recipe = ?1 AND version = ?2 ORDER BY recipe, version, no";
 

@@ -25,6 +25,23 @@ pub(crate) const DEFINITIONS_OF_CLASS: &str =
 pub(crate) const CLASSES_AFTER: &str =
     "SELECT id, name FROM class WHERE id > ?1 ORDER BY id LIMIT ?2";
 
+// ---- pages of all rows of a table whatever their state
+
+pub(crate) const DEFINITIONS_AFTER: &str =
+    "SELECT id, class, name, unit FROM definition WHERE id > ?1 ORDER BY id LIMIT ?2";
+
+pub(crate) const ORDERS_AFTER: &str =
+    "SELECT id, recipe, version, size, due, priority, state FROM job WHERE id > ?1 ORDER BY id LIMIT ?2";
+
+pub(crate) const BATCHES_AFTER: &str =
+    "SELECT id, job, at, by_who, note, state, attempt, next, closed FROM batch WHERE id > ?1 ORDER BY id LIMIT ?2";
+
+pub(crate) const RECALLS_AFTER: &str =
+    "SELECT id, lot, state, at, by_who, note, lift_at, lift_by, lift_note FROM recall WHERE id > ?1 ORDER BY id LIMIT ?2";
+
+pub(crate) const RECIPES_AFTER: &str =
+    "SELECT id, version, product, base, low, high, title, state FROM recipe WHERE id > ?1 ORDER BY id, version LIMIT ?2";
+
 // ---- pages of what lots have, lot by lot
 
 pub(crate) const LOTS_AFTER: &str = "SELECT id, def FROM lot WHERE id > ?1 ORDER BY id LIMIT ?2";

@@ -180,4 +180,32 @@ impl<'a, S: Alter> Worklists for Keyed<'a, S> {
     fn holds_after(&mut self, cursor: Option<Id>) -> Result<Page<Hold>, StoreFault> {
         self.page_after(&HOLD, texts::HOLDS_AFTER, &cursor)
     }
+
+    fn definitions_after(&mut self, cursor: Option<Id>) -> Result<Page<Definition>, StoreFault> {
+        self.page_after(&DEFINITION, texts::DEFINITIONS_AFTER, &cursor)
+    }
+
+    fn orders_after(&mut self, cursor: Option<Id>) -> Result<Page<Job>, StoreFault> {
+        self.page_after(&JOB, texts::ORDERS_AFTER, &cursor)
+    }
+
+    fn batches_after(&mut self, cursor: Option<Id>) -> Result<Page<BatchRow>, StoreFault> {
+        self.page_after(&BATCH, texts::BATCHES_AFTER, &cursor)
+    }
+
+    fn recalls_after(&mut self, cursor: Option<Id>) -> Result<Page<Recall>, StoreFault> {
+        self.page_after(&RECALL, texts::RECALLS_AFTER, &cursor)
+    }
+
+    fn recipes_after(&mut self, cursor: Option<Id>) -> Result<Page<Recipe>, StoreFault> {
+        self.page_after(&RECIPE, texts::RECIPES_AFTER, &cursor)
+    }
+
+    fn versions_of(&mut self, recipe: Id) -> Result<Vec<Recipe>, StoreFault> {
+        self.found(
+            &RECIPE,
+            lookup_texts::VERSIONS_OF_RECIPE,
+            &[text_of(&recipe)],
+        )
+    }
 }

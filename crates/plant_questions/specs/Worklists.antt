@@ -97,6 +97,28 @@ sublots_in_stock s = filter (λ r. nat_lt 0 r.stock) (map (sublot_row s.movement
 abbrev pub holds_after : State → Option (List ℕ) → List Hold
 holds_after s cursor = filter (λ h. is_after cursor h.lot) s.holds
 
+-- ---- what comes after an id, whatever its state
+
+abbrev pub definitions_after : State → Option (List ℕ) → List Definition
+definitions_after s cursor = filter (λ d. is_after cursor d.id) s.definitions
+
+abbrev pub orders_after : State → Option (List ℕ) → List Job
+orders_after s cursor = filter (λ j. is_after cursor j.order.order) s.jobs
+
+abbrev pub batches_after : State → Option (List ℕ) → List BatchRow
+batches_after s cursor = filter (λ r. is_after cursor r.batch.id) (map (batch_row s.control_lines s.events) s.batches)
+
+abbrev pub recalls_after : State → Option (List ℕ) → List Recall
+recalls_after s cursor = filter (λ r. is_after cursor r.id) s.recalls
+
+-- the versions of the recipes that come after one
+abbrev pub recipes_after : State → Option (List ℕ) → List Recipe
+recipes_after s cursor = filter (λ r. is_after cursor r.header.recipe) s.recipes
+
+-- the versions of a recipe
+abbrev pub versions_of : State → List ℕ → List Recipe
+versions_of s recipe = filter (λ r. same r.header.recipe recipe) s.recipes
+
 -- ---- lists whose keys are of two values
 
 -- the cursor that a list of recipes is to come after: where none is given, one that each recipe comes after

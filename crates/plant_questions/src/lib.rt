@@ -7,6 +7,7 @@
 mod after_cursor;
 mod booked;
 mod cursors;
+mod finding;
 mod genealogy;
 mod hold_pages;
 mod id_keys;
@@ -34,6 +35,7 @@ pub use after_cursor::{
 };
 pub use booked::booked_of;
 pub use cursors::{Cursor, CursorKey};
+pub use finding::{FoundIds, MOST_FOUND, begins_with, first_begun};
 pub use genealogy::{BookedEdge, Genealogy, LotNode, NodeAnswer};
 pub use hold_pages::all_holds;
 pub use key_order::HasKeyOrder;

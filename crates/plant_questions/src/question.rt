@@ -1,3 +1,4 @@
+use crate::finding::FoundIds;
 use crate::genealogy::Genealogy;
 use crate::list_question::ListQuestion;
 use crate::listed::Listed;
@@ -41,6 +42,8 @@ pub enum Question {
     BatchLines(Id),
     /// What this order needs, and what there is of it.
     Needs(Id),
+    /// The ids that begin with this one.
+    Find(Id),
 }
 
 /// What the desk answers.
@@ -76,6 +79,8 @@ pub enum Answer {
     BatchLines(BatchLines),
     /// The inputs of the order's recipe, by number.
     Needs(Items<Need>),
+    /// The ids that begin so.
+    Found(FoundIds),
     /// The question names something that isn't there.
     Unknown(Refusal),
 }

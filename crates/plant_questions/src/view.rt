@@ -21,6 +21,9 @@ pub trait Worklists: View {
     ghost use Rattle.plant_questions.specs.Worklists.{orders_by_due, receipts_by_number};
     ghost use Rattle.plant_questions.specs.Worklists.{lots_after, sublots_after, holds_after};
     ghost use Rattle.plant_questions.specs.Worklists.{movements_of_lot, sublots_in_stock};
+    ghost use Rattle.plant_questions.specs.Worklists.{definitions_after};
+    ghost use Rattle.plant_questions.specs.Worklists.{orders_after, batches_after, recalls_after};
+    ghost use Rattle.plant_questions.specs.Worklists.{recipes_after, versions_of};
     ghost use Rattle.plant_view.specs.DecisionInvariant.{DecisionInvariant};
 
     /// The orders in a state, by their ids.
@@ -136,4 +139,34 @@ pub trait Worklists: View {
     fn holds_after(&mut self, cursor: Option<Id>) -> Result<Page<Hold>, Self::Fault>
         ensures { ReadOnly Self.Edges self.old self.new
             (IfOk result (λ page. page ≡ page_of (holds_after (Self.state self.old) cursor))) };
+
+    /// The definitions of all classes that come after one, by their ids.
+    fn definitions_after(&mut self, cursor: Option<Id>) -> Result<Page<Definition>, Self::Fault>
+        ensures { ReadOnly Self.Edges self.old self.new
+            (IfOk result (λ page. page ≡ page_of (definitions_after (Self.state self.old) cursor))) };
+
+    /// The orders in any state that come after one, by their ids.
+    fn orders_after(&mut self, cursor: Option<Id>) -> Result<Page<Job>, Self::Fault>
+        ensures { ReadOnly Self.Edges self.old self.new
+            (IfOk result (λ page. page ≡ page_of (orders_after (Self.state self.old) cursor))) };
+
+    /// The batches, closed or not, that come after one, by their ids.
+    fn batches_after(&mut self, cursor: Option<Id>) -> Result<Page<BatchRow>, Self::Fault>
+        ensures { ReadOnly Self.Edges self.old self.new
+            (IfOk result (λ page. page ≡ page_of (batches_after (Self.state self.old) cursor))) };
+
+    /// The recalls, lifted or not, that come after one, by their ids.
+    fn recalls_after(&mut self, cursor: Option<Id>) -> Result<Page<Recall>, Self::Fault>
+        ensures { ReadOnly Self.Edges self.old self.new
+            (IfOk result (λ page. page ≡ page_of (recalls_after (Self.state self.old) cursor))) };
+
+    /// The versions in any state of the recipes that come after one, by recipe and number.
+    fn recipes_after(&mut self, cursor: Option<Id>) -> Result<Page<Recipe>, Self::Fault>
+        ensures { ReadOnly Self.Edges self.old self.new
+            (IfOk result (λ page. page ≡ page_of (recipes_after (Self.state self.old) cursor))) };
+
+    /// The versions of a recipe, by their numbers.
+    fn versions_of(&mut self, recipe: Id) -> Result<Vec<Recipe>, Self::Fault>
+        ensures { ReadOnly Self.Edges self.old self.new
+            (IfOk result (λ rows. rows.items ≡ versions_of (Self.state self.old) recipe)) };
 }

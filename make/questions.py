@@ -32,7 +32,7 @@ class Member:
     value: str
 
 
-ID_MEMBERS = {"lot": "Lot", "order": "Order", "batch": "Batch", "recall": "Recall", "def": "Definition", "recipe": "Recipe", "class": "Class"}
+ID_MEMBERS = {"lot": "Lot", "order": "Order", "batch": "Batch", "recall": "Recall", "def": "Definition", "recipe": "Recipe", "class": "Class", "id": "Beginning"}
 MEMBERS = {
     **{name: Member(name, variant, "Id") for name, variant in ID_MEMBERS.items()},
     "version": Member("version", "Version", "Number"),
@@ -145,6 +145,7 @@ QUESTIONS: list[typing.Union[Topic, Around, Listed]] = [
     Listed("commands", "The commands that had references.", by="number"),
     Listed("stock", "The lots of a definition that have stock, the oldest first.", of="def", by="birth"),
     Listed("stocks", "What there is of the definitions of a class.", of="class"),
+    Topic("find", "The ids that begin with one.", "id", "/v1/find/{id}"),
 ]
 
 

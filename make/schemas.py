@@ -162,6 +162,7 @@ def answers(states_of_orders: Schema, states_of_recipes: Schema, commands: Itera
         "commands": page("commands", one_of(exact(at=MOMENT, by=TEXT, do=words(*commands), note=TEXT, ref=ID, seq=SEQ), exact(ref=ID, seq=SEQ))),
         "stock": page("lots", STOCKED_LOT),
         "stocks": page("stocks", DEFINITION_STOCK),
+        "find": exact(**{kind: rows(ID, 20) for kind in ("batches", "classes", "definitions", "lots", "orders", "recalls", "recipes")}),
     }
 
 

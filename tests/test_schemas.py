@@ -224,6 +224,7 @@ PLACES = {
     "recipe": ["CAKE", "X-9"],
     "version": ["1", "001", "9", "1000", "A"],
     "recall": ["RC-1", "RC-2", "X-9", "x"],
+    "id": ["F-1", "F", "X-9", "x"],
     "state": ["open", "cancelled", "released", "finished", "draft", "approved", "withdrawn", "done"],
     "above": ["A", "A.1", "2000-01-01.A", "A.A", "0.0", "0.A", "1", "x"],
 }

@@ -4,7 +4,7 @@ from __future__ import annotations
 from collections.abc import Iterable, Sequence
 from typing import Union
 
-from tests.support import Json, sessions, stock
+from tests.support import Json, finding, sessions, stock
 from tests.support.commands import (
     GOODS, PLANNED, add_definition, add_recipe, approve, begin_batch, compact, consume, divide, hold, import_orders, lift, merge, phase_done,
     produce, recall, receive, release, say, scrap, settle, split, withdraw,
@@ -417,7 +417,7 @@ def ask_for_blocked(session: Session, blocked: Iterable[str], is_recalled: bool)
 
 def above_a_page() -> list[Session]:
     made = [long_ledger(), long_batches(), versions_of_one_recipe(), definitions_and_cancelled_orders(), recalls_of_one_lot()]
-    return [*made, *stock.every()]
+    return [*made, *stock.every(), *finding.every()]
 
 
 # ---- bytes that are a line, a bad one, or none

@@ -46,3 +46,4 @@ place_of_asked (asked.List list.Movements) = 29
 place_of_asked (asked.List list.Commands) = 30
 place_of_asked (asked.List list.Stock) = 31
 place_of_asked (asked.List list.Stocks) = 32
+place_of_asked (asked.About topic.Find) = 33

@@ -42,5 +42,6 @@ pub(crate) fn question_words() -> &'static [&'static str]
         "commands",
         "stock",
         "stocks",
+        "find",
     ]
 }

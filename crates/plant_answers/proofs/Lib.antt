@@ -7,12 +7,17 @@ pub mod BookedSumsFit
 pub mod BookingLoops
 pub mod GoodsAreReached
 pub mod DefinitionOfId
+pub mod BatchIds
 pub mod BatchMovementsSuffice
+pub mod BegunIds
+pub mod EachIdOnce
 pub mod NodesExist
+pub mod FactsInTurn
 pub mod FilterKeepsOrder
 pub mod PlainTables
 pub mod ReachedIsTrace
 pub mod RecalledNodesAreListed
+pub mod RecipesInTurn
 pub mod TotalStockFits
 pub mod FlowsFit
 pub mod BalancesClose

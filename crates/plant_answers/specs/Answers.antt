@@ -6,6 +6,7 @@ use Rattle.plant_answers.specs.Balances.{answer_balance}
 use Rattle.plant_answers.specs.Surroundings.{answer_stands}
 use Rattle.plant_answers.specs.BatchLines.{answer_batch_lines}
 use Rattle.plant_answers.specs.BatchViews.{answer_batch}
+use Rattle.plant_answers.specs.Finding.{found_ids}
 use Rattle.plant_answers.specs.Genealogy.{answer_edges}
 use Rattle.plant_answers.specs.LotAnswers.{answer_lot}
 use Rattle.plant_answers.specs.Needs.{answer_needs}
@@ -41,3 +42,4 @@ answer k s (Q.Definition def) = answer_definition (definition_at s def)
 answer k s (Q.Recipe recipe version) = answer_recipe s (recipe_at s recipe version)
 answer k s (Q.BatchLines batch) = answer_batch_lines s (batch_at s batch)
 answer k s (Q.Needs order) = answer_needs s (job_at s order)
+answer k s (Q.Find beginning) = A.Found (found_ids s beginning)

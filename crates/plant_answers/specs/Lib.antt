@@ -5,6 +5,7 @@ pub mod Balances
 pub mod BatchLines
 pub mod BatchViews
 pub mod CommandHeads
+pub mod Finding
 pub mod CommandWords
 pub mod Booked
 pub mod Genealogy
@@ -16,6 +17,7 @@ pub mod Needs
 pub mod OpenBatches
 pub mod StandingLots
 pub mod RecallAnswers
+pub mod SortedIds
 pub mod Stock
 pub mod StockOrder
 pub mod Traces
@@ -26,6 +28,7 @@ pub use Surroundings.{answer_stands, lots_standing, nodes_around, stocked_at, st
 pub use BatchViews.{booked_on, booking_in, consumption, is_consumed_by, is_produced_by, measured_line, production}
 unfoldable pub use BatchViews.{scrapped_of}
 pub use Booked.{Fits, IsSetOf, booked_at, booked_if, bookings_around, counted, is_booked, movements_at, reported_at, reported_by, sum_at, sum_with, summed, total_along}
+pub use Finding.{IsWithin, each_id_once, found_ids, id_if_begun, own_first, recipes_left}
 pub use Genealogy.{amount_of, answer_edges, booked_along, booked_edge, edges_between, genealogy_around, is_among, is_between, is_made, lot_node, named, node_answer, node_if}
 pub use AnswerLaws.{BalancedFrom, IsAround, IsBooked, StandsFrom, balance_order, booked_order, standing_order}
 pub use Balances.{answer_balance, balance_at, balance_if, balances_around, entered_in_all, flow_of, flows_of, left_in_all, lot_balance, moved}

@@ -10,6 +10,7 @@ use crate::balances::balance_answer;
 use crate::batch_answers::batch_answer;
 use crate::batch_lines::batch_lines_answer;
 use crate::edge_answers::edges_answer;
+use crate::finding::find_answer;
 use crate::list_answers::list_answer;
 use crate::lot_answers::lot_answer;
 use crate::needs::needs_answer;
@@ -52,6 +53,7 @@ pub fn answer<V: Worklists>(
         Question::Recipe(recipe, version) => recipe_answer(alloc, view, *recipe, *version),
         Question::BatchLines(batch) => batch_lines_answer(alloc, view, *batch),
         Question::Needs(order) => needs_answer(alloc, view, *order),
+        Question::Find(beginning) => find_answer(alloc, view, *beginning),
     }
 }
 

@@ -81,6 +81,10 @@ pub batch_lines : target_of (codes "/v1/batches/B-1/lines") ≡ Some (target.Que
 unfolding matchit_on_literals found_in
 batch_lines = refl
 
+pub find : target_of (codes "/v1/find/B-1") ≡ Some (target.Question (Q.Find (codes "B-1")) Json)
+unfolding matchit_on_literals found_in
+find = refl
+
 pub further_holds : target_of (codes "/v1/lists/all_holds/F-1.H-2") ≡ Some (target.Question (Q.List (list.AllHolds (Some (record { first = codes "F-1"; second = codes "H-2" })))) Json)
 unfolding matchit_on_literals found_in
 further_holds = refl

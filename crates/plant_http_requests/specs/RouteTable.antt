@@ -23,6 +23,7 @@ route_table =
     (codes "/v1/definitions/{def}", route.Question (q.About topic.Definition)) ∷
     (codes "/v1/recipes/{recipe}/{version}", route.Question (q.About topic.Recipe)) ∷
     (codes "/v1/batches/{batch}/lines", route.Question (q.About topic.BatchLines)) ∷
+    (codes "/v1/find/{id}", route.Question (q.About topic.Find)) ∷
     (codes "/v1/lots/{lot}/back", route.Question (q.Around around.Back node.Lot)) ∷
     (codes "/v1/lots/{lot}/forward", route.Question (q.Around around.Forward node.Lot)) ∷
     (codes "/v1/lots/{lot}/stands", route.Question (q.Around around.Stands node.Lot)) ∷

@@ -52,6 +52,10 @@ pub(crate) fn routes() -> &'static [(&'static str, Route)]
             Route::Question(QuestionKind::About(Topic::BatchLines)),
         ),
         (
+            "/v1/find/{id}",
+            Route::Question(QuestionKind::About(Topic::Find)),
+        ),
+        (
             "/v1/lots/{lot}/back",
             Route::Question(QuestionKind::Around(Around::Back, NodeKind::Lot)),
         ),

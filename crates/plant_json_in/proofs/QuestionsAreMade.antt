@@ -36,6 +36,7 @@ about_made topic.Moment v = tt
 about_made topic.Definition v = tt
 about_made topic.Recipe v = tt
 about_made topic.BatchLines v = tt
+about_made topic.Find v = tt
 
 list_made : (list : ListKind) (v : Values (question_members (q.List list))) → Make (q.List list) (fields_in (question_members (q.List list)) v)
 list_made k.Orders v = of_one k.Orders (field.OrderState v.0) rule.Id tt (λ x. tt) v.1.0

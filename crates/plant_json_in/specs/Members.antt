@@ -59,6 +59,7 @@ entry_of m.AfterMovement = (codes "above", rule.MovementCursor)
 entry_of m.AfterBirth = (codes "above", rule.BirthCursor)
 entry_of m.AfterNumber = (codes "above", rule.Amount)
 entry_of m.Command = (codes "command", rule.Object)
+entry_of m.Beginning = (codes "id", rule.Id)
 
 abbrev pub name_of : Member → List ℕ
 name_of which = (entry_of which).0

@@ -48,7 +48,8 @@ asked_kind word =
     if bytes_eq word (codes "commands") then Some (asked.List list.Commands) else (
     if bytes_eq word (codes "stock") then Some (asked.List list.Stock) else (
     if bytes_eq word (codes "stocks") then Some (asked.List list.Stocks) else (
-    None)))))))))))))))))))))))))))))))))
+    if bytes_eq word (codes "find") then Some (asked.About topic.Find) else (
+    None))))))))))))))))))))))))))))))))))
 
 -- the members of a question besides its word, in the order in which problems are reported and a path has them
 abbrev pub question_members : QuestionKind → List Member
@@ -62,6 +63,7 @@ question_members (q.About topic.Moment) = []
 question_members (q.About topic.Definition) = m.Definition ∷ []
 question_members (q.About topic.Recipe) = m.Recipe ∷ m.Version ∷ []
 question_members (q.About topic.BatchLines) = m.Batch ∷ []
+question_members (q.About topic.Find) = m.Beginning ∷ []
 question_members (q.Around around node.Lot) = m.Lot ∷ []
 question_members (q.Around around node.Batch) = m.Batch ∷ []
 question_members (q.List list.Orders) = m.State ∷ m.Above ∷ []

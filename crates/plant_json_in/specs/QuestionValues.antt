@@ -67,6 +67,7 @@ about_by topic.Moment ([]) = Some Q.Moment
 about_by topic.Definition (field.Id def ∷ []) = Some (Q.Definition def)
 about_by topic.Recipe (field.Id recipe ∷ field.Number version ∷ []) = Some (Q.Recipe recipe version)
 about_by topic.BatchLines (field.Id batch ∷ []) = Some (Q.BatchLines batch)
+about_by topic.Find (field.Id id ∷ []) = Some (Q.Find id)
 about_by _ _ = None
 
 abbrev pub around_by : Around → Node → Question

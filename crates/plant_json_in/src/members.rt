@@ -215,6 +215,8 @@ pub enum Member {
     AfterNumber,
     /// The command that is to be checked.
     Command,
+    /// The id that others are to begin with.
+    Beginning,
 }
 
 impl Member {
@@ -275,6 +277,7 @@ impl Member {
             Member::AfterBirth => ("above", MemberRule::BirthCursor),
             Member::AfterNumber => ("above", MemberRule::Amount),
             Member::Command => ("command", MemberRule::Object),
+            Member::Beginning => ("id", MemberRule::Id),
         }
     }
 

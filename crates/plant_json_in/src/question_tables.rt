@@ -6,7 +6,7 @@ ghost use Rattle.plant_json_in.specs.Tables.{most_members};
 
 use crate::members::Member::{
     self, Above, AfterBirth, AfterDue, AfterHold, AfterMovement, AfterNumber, AfterRecipe, Batch,
-    Class, Definition, Lot, Order, Recall, Recipe, RecipeState, State, Version,
+    Beginning, Class, Definition, Lot, Order, Recall, Recipe, RecipeState, State, Version,
 };
 
 /// What is asked about: one thing, or the desk itself.
@@ -32,6 +32,8 @@ pub enum Topic {
     Recipe,
     /// The control recipe of a batch, and what was booked of each line.
     BatchLines,
+    /// The ids that begin with one.
+    Find,
 }
 
 /// What is asked around a lot or batch.
@@ -158,6 +160,7 @@ pub fn asked_kind(word: &str) -> Option<AskedKind>
         "commands" => Some(AskedKind::List(ListKind::Commands)),
         "stock" => Some(AskedKind::List(ListKind::Stock)),
         "stocks" => Some(AskedKind::List(ListKind::Stocks)),
+        "find" => Some(AskedKind::About(Topic::Find)),
         _ => None,
     }
 }
@@ -178,6 +181,7 @@ pub fn question_members(kind: QuestionKind) -> &'static [Member]
         QuestionKind::About(Topic::Definition) => &[Definition],
         QuestionKind::About(Topic::Recipe) => &[Recipe, Version],
         QuestionKind::About(Topic::BatchLines) => &[Batch],
+        QuestionKind::About(Topic::Find) => &[Beginning],
         QuestionKind::Around(_, NodeKind::Lot) => &[Lot],
         QuestionKind::Around(_, NodeKind::Batch) => &[Batch],
         QuestionKind::List(ListKind::Orders) => &[State, Above],

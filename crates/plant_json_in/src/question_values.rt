@@ -99,6 +99,7 @@ fn about_by(topic: Topic, fields: &[Field]) -> Option<Question>
             Some(Question::Recipe(recipe, version))
         }
         (Topic::BatchLines, &[Field::Id(batch)]) => Some(Question::BatchLines(batch)),
+        (Topic::Find, &[Field::Id(id)]) => Some(Question::Find(id)),
         _ => None,
     }
 }

@@ -1,6 +1,6 @@
 -- Answers have no floats.
 use Rattle.std.proofs.Common.{◌≡◌, List, [], ◌∷◌, map, ℕ, Bool, true, Option, Some, None, option_map, false, Result, refl, ◌∙◌, ap, IfOk}
-use Rattle.serde_json.specs.Data.{Data}
+use Rattle.serde_json.specs.Data.{Data, string}
 use Rattle.serde_json.specs.declared.value.Value.{Value}
 use Rattle.serde_json.specs.View.{items_of, view}
 use Rattle.serde_json.specs.Written.{has_float, items_have_float, compact_text}
@@ -11,6 +11,11 @@ use Rattle.plant_questions.specs.declared.genealogy.NodeAnswer.TheVariants as kn
 use Rattle.plant_questions.specs.declared.listed.Listed.TheVariants as listed
 use Rattle.plant_base.specs.declared.rows.RecipeLine.TheVariants as line
 use Rattle.plant_text_answers.specs.{balance_item, balances_data, need_item, needs_data, booking_data, batch_data, recall_data, node_item, edge_item, genealogy_data, node_data, trace_data, order_data, lot_data, standing_data, stands_data, order_item, batch_item, lot_item, hold_item, all_holds_item, recall_item, lifting_or_null, lifted_item, command_data, command_item, class_item, definition_item, recipe_item, movement_item, other_sub, stock_item, stock_row_item, listed_data, id_or_null, unit_or_null, planned_or_null, number_or_null, text_or_null, sublot_data, recipe_line_data, recipe_line_item, booked_line_data, booked_line_item, recipe_data, batch_lines_data}
+use Rattle.plant_questions.specs.{BatchLines, BatchView, BookedEdge, BookedLine, Booking, CommandHead, FoundIds, Genealogy, Listed, LotAnswer, NodeAnswer, OpenBatch, OrderAnswer, PlannedBatch, RecallAnswer, RecipeAnswer, StandingLot, StockedLot}
+use Rattle.plant_questions.specs.declared.genealogy.NodeAnswer.TheVariants as known
+use Rattle.plant_questions.specs.declared.listed.Listed.TheVariants as listed
+use Rattle.plant_base.specs.declared.rows.RecipeLine.TheVariants as line
+use Rattle.plant_text_answers.specs.{found_data, booking_data, batch_data, recall_data, node_item, edge_item, genealogy_data, node_data, trace_data, order_data, lot_data, standing_data, stands_data, order_item, batch_item, lot_item, hold_item, all_holds_item, recall_item, lifting_or_null, lifted_item, command_data, command_item, class_item, definition_item, recipe_item, movement_item, other_sub, stock_item, stock_row_item, listed_data, id_or_null, unit_or_null, planned_or_null, number_or_null, text_or_null, sublot_data, recipe_line_data, recipe_line_item, booked_line_data, booked_line_item, recipe_data, batch_lines_data}
 use Rattle.plant_trace.specs.{Node}
 use Rattle.plant_trace.specs.declared.node.Node.TheVariants.{Lot, Batch}
 use Rattle.plant_questions.specs.{other_lot}
@@ -95,6 +100,14 @@ no_float_in_need n = rw (no_float_in_unit n.unit) refl
 
 pub no_float_in_needs : (needs : List Need) → has_float (needs_data needs) ≡ false
 no_float_in_needs needs = rw (no_float_in_rows need_item no_float_in_need needs) refl
+
+-- ---- ids
+
+no_float_in_ids : (ids : List (List ℕ)) → items_have_float (items_of (map string ids)) ≡ false
+no_float_in_ids ids = no_float_in_rows string (λ id. refl) ids
+
+pub no_float_in_found : (f : FoundIds) → has_float (found_data f) ≡ false
+no_float_in_found f = rw (no_float_in_ids f.batches, no_float_in_ids f.classes, no_float_in_ids f.definitions, no_float_in_ids f.lots, no_float_in_ids f.orders, no_float_in_ids f.recalls, no_float_in_ids f.recipes) refl
 
 -- ---- genealogy
 

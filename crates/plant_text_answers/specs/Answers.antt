@@ -8,6 +8,7 @@ use Rattle.plant_questions.specs.declared.question.Answer.TheVariants as A
 use Rattle.plant_text_answers.specs.Balances.{balances_data, needs_data}
 use Rattle.plant_text_answers.specs.BatchAnswers.{batch_data}
 use Rattle.plant_text_answers.specs.EdgeAnswers.{genealogy_data}
+use Rattle.plant_text_answers.specs.FoundAnswers.{found_data}
 use Rattle.plant_text_answers.specs.ListAnswers.{listed_data}
 use Rattle.plant_text_answers.specs.LotAnswers.{lot_data, stands_data}
 use Rattle.plant_text_answers.specs.Natural.{natural}
@@ -45,4 +46,5 @@ text_of_answer (A.Definition definition) = compact_text (definition_data definit
 text_of_answer (A.Recipe recipe) = compact_text (recipe_data recipe)
 text_of_answer (A.BatchLines lines) = compact_text (batch_lines_data lines)
 text_of_answer (A.Needs needs) = compact_text (needs_data needs)
+text_of_answer (A.Found found) = compact_text (found_data found)
 text_of_answer (A.Unknown r) = refusal_text r

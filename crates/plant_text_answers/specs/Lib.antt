@@ -2,6 +2,7 @@ pub mod Answers
 pub mod Balances
 pub mod BatchAnswers
 pub mod EdgeAnswers
+pub mod FoundAnswers
 pub mod ListAnswers
 pub mod LotAnswers
 pub mod Natural
@@ -16,6 +17,7 @@ unfoldable pub use Answers.{text_of_answer}
 pub use Balances.{balance_item, balances_data, need_item, needs_data}
 pub use BatchAnswers.{batch_data, booking_data}
 pub use EdgeAnswers.{edge_item, genealogy_data, node_item}
+pub use FoundAnswers.{found_data}
 pub use ListAnswers.{all_holds_item, batch_item, class_item, command_data, command_item, definition_item, hold_item, lifted_item, lifting_or_null, listed_data, lot_item, movement_item, order_item, other_sub, recall_item, recipe_item, planned_or_null, stock_item, stock_row_item}
 pub use LotAnswers.{lot_data, standing_data, stands_data}
 pub use Natural.{natural}

@@ -7,6 +7,7 @@ ghost use Rattle.plant_text_answers.specs.Answers.{text_of_answer};
 use crate::balances::{balances_value, needs_value};
 use crate::batch_answers::batch_value;
 use crate::edge_answers::genealogy_value;
+use crate::found_answers::found_value;
 use crate::list_answers::listed_value;
 use crate::lot_answers::{lot_value, stands_value};
 use crate::parts::id_value;
@@ -86,6 +87,8 @@ fn order_value(alloc: Global, answer: &OrderAnswer) -> Result<Value, AllocError>
 ///   "recalled":BOOL,"seq":N or null,"stock":N,"sublots":[{"no":N,"place":TEXT,"stock":N}]}],"more":BOOL}`
 /// - of one of what there is of definitions
 ///   `{"more":BOOL,"stocks":[{"def":ID,"held":N,"lots":N,"name":TEXT,"recalled":N,"unit":UNIT,"usable":N}]}`
+/// - of the ids that begin with another
+///   `{"batches":[ID],"classes":[ID],"definitions":[ID],"lots":[ID],"orders":[ID],"recalls":[ID],"recipes":[ID]}`
 /// - of an unknown id the refusal's text, as [`crate::reply_line`] gives it
 ///
 /// The only error is that memory was refused.
@@ -109,6 +112,7 @@ pub fn answer_text(alloc: Global, answer: &Answer) -> Result<String, AllocError>
         Answer::Recipe(recipe) => recipe_value(alloc, recipe)?.to_string(alloc),
         Answer::BatchLines(lines) => batch_lines_value(alloc, lines)?.to_string(alloc),
         Answer::Needs(needs) => needs_value(alloc, needs.as_slice())?.to_string(alloc),
+        Answer::Found(found) => found_value(alloc, found)?.to_string(alloc),
         Answer::Unknown(refusal) => String::from_str(alloc, refusal_line(*refusal).as_str()),
     }
 }

@@ -8,6 +8,7 @@ mod batch_answers;
 mod batch_rows;
 mod command_rows;
 mod edge_answers;
+mod found_answers;
 mod further_rows;
 mod head;
 mod items;

@@ -40,3 +40,4 @@ returns _ (asked.List list.Movements) = refl
 returns _ (asked.List list.Commands) = refl
 returns _ (asked.List list.Stock) = refl
 returns _ (asked.List list.Stocks) = refl
+returns _ (asked.About topic.Find) = refl

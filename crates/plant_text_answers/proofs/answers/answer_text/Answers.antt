@@ -1,6 +1,6 @@
 use Rattle.std.proofs.Common.{string_bytes, ◌∙◌, ap}
 use Rattle.plant_text_answers.specs.{balances_data, needs_data, text_of_answer, stands_data, trace_data}
-use Rattle.plant_text_answers.proofs.AnswersHaveNoFloats.{text_is, no_float_in_lot, no_float_in_batch, no_float_in_trace, no_float_in_stands, no_float_in_balances, no_float_in_needs, no_float_in_genealogy, no_float_in_recall, no_float_in_listed, no_float_in_recipe, no_float_in_batch_lines}
+use Rattle.plant_text_answers.proofs.AnswersHaveNoFloats.{text_is, no_float_in_lot, no_float_in_batch, no_float_in_trace, no_float_in_stands, no_float_in_balances, no_float_in_needs, no_float_in_genealogy, no_float_in_recall, no_float_in_listed, no_float_in_recipe, no_float_in_batch_lines, no_float_in_found}
 use Rattle.plant_text_answers.proofs.answers.answer_text.Goals as goal
 
 pub returns-in_ok-lot_value-in-Lot : goal.returns-in_ok-lot_value-in-Lot
@@ -46,3 +46,7 @@ returns-in_ok-balances_value-in-Balance c = rw c.in-Balance.is (text_is string_b
 pub returns-in_ok-needs_value-in-Needs : goal.returns-in_ok-needs_value-in-Needs
 unfolding text_of_answer
 returns-in_ok-needs_value-in-Needs c = rw c.in-Needs.is (text_is string_bytes _ _ _ (c.in_ok-needs_value-in-Needs.ensures ∙ ap needs_data c.as_slice-in-Needs.ensures) (no_float_in_needs c.in-Needs.needs) c.to_string-in-Needs.ensures.text)
+
+pub returns-in_ok-found_value-in-Found : goal.returns-in_ok-found_value-in-Found
+unfolding text_of_answer
+returns-in_ok-found_value-in-Found c = rw c.in-Found.is (text_is string_bytes _ _ _ c.in_ok-found_value-in-Found.ensures (no_float_in_found c.in-Found.found) c.to_string-in-Found.ensures.text)

@@ -88,10 +88,11 @@ less_of x y rises other = by (id_cmp x y) refl
 pub once_sorted : (ids : List (List ℕ)) → Rising ids → IsStrictlySortedBy id_cmp (each_id_once ids)
 unfolding IsStrictlySortedBy
 once_sorted [] rising = tt
-once_sorted (x ∷ xs) rising =
-    (all_weaker (λ y. (id_cmp x y ≡ Greater → ⊥) × (other_than x y ≡ true)) (λ y. id_cmp x y ≡ Less) (λ y both. less_of x y both.0 both.1) (filter (other_than x) (each_id_once xs))
+once_sorted (x ∷ xs) rising = (
+  all_weaker (λ y. (id_cmp x y ≡ Greater → ⊥) × (other_than x y ≡ true)) (λ y. id_cmp x y ≡ Less) (λ y both. less_of x y both.0 both.1) (filter (other_than x) (each_id_once xs))
       (all_kept (other_than x) (λ y. id_cmp x y ≡ Greater → ⊥) (each_id_once xs) (once_all (λ y. id_cmp x y ≡ Greater → ⊥) xs rising.0)),
-    IsStrictlySortedBy-filter id_cmp (other_than x) (each_id_once xs) (once_sorted xs rising.1))
+  IsStrictlySortedBy-filter id_cmp (other_than x) (each_id_once xs) (once_sorted xs rising.1),
+)
 
 -- an id is among them where it is among the ids
 pub once_has : (p : List ℕ) (ids : List (List ℕ)) → is_some (find (λ id. same id p) (each_id_once ids)) ≡ is_some (find (λ id. same id p) ids)
@@ -110,6 +111,7 @@ once_has p (x ∷ xs) = by (same x p) refl (once_has p xs)
             past : (c : Bool) → is_some (find (λ id. same id p) (filter (other_than x) ys)) ≡ is_some (find (λ id. same id p) ys) → is_some (cond c (Some y) (find (λ id. same id p) (filter (other_than x) ys))) ≡ is_some (cond c (Some y) (find (λ id. same id p) ys))
             past true rest = refl
             past false rest = rest
+
     by : (b : Bool) → same x p ≡ b → is_some (find (λ id. same id p) (each_id_once xs)) ≡ is_some (find (λ id. same id p) xs)
         → is_some (cond b (Some x) (find (λ id. same id p) (filter (other_than x) (each_id_once xs)))) ≡ is_some (cond b (Some x) (find (λ id. same id p) xs))
     by true e rest = refl
@@ -201,6 +203,7 @@ module _ {R : Type 0} (key : R → List ℕ) (rows : List R) (sorted : IsStrictl
         where
           tail : List (List ℕ)
           tail = filter (other_than (key r)) (each_id_once (map key rs))
+
           each : (b : Bool) → begins_with p (key r) ≡ b → next ≡ cond b (Some (key r)) None → filter (is_after (Some c)) list ≡ key r ∷ tail
               → (filter (begins_with p) (each_id_once (map key (after c))) ≡ option_to_list next ++ left next) × IsWithin next
           each true begun e here = rw (e, after_is c, here, after_is (key r), rest_after list sorted c (key r) tail here) (rw begun refl, begun)
@@ -234,7 +237,7 @@ module _ {R : Type 0} (key : R → List ℕ) (rows : List R) (sorted : IsStrictl
       let there : is_some (find (λ id. same id p) list) ≡ is_some (find (λ r. same (key r) p) rows) = once_has p (map key rows) ∙ found_key rows in
       let beyond = filter (is_after (Some p)) list in
       let split : filter (begins_with p) list ≡ filter (begins_with p) (own_first (is_some (find (λ r. same (key r) p) rows)) p beyond) =
-          ap (filter (begins_with p)) (sym (map_same list)) ∙ begun_split (λ id. id) p list sorted ∙ (λ i. filter (begins_with p) (own_first (there i) p (map_same beyond i))) in
+      ap (filter (begins_with p)) (sym (map_same list)) ∙ begun_split (λ id. id) p list sorted ∙ (λ i. filter (begins_with p) (own_first (there i) p (map_same beyond i))) in
       ap (take most_found) split ∙ sym (own_again 19 (is_some (find (λ r. same (key r) p) rows)) beyond)
       ∙ ap (λ l. first_begun p (own_first (is_some (find (λ r. same (key r) p) rows)) p (take most_found (filter (begins_with p) l)))) (sym (after_is p))
     where

@@ -98,20 +98,14 @@ fn next_recipe<V: Worklists>(
     Ok(first_within(beginning, page.rows.as_slice()))
 }
 
-fn versions_of<V: Worklists>(
-    view: &mut V,
-    recipe: Id,
-) -> Result<Vec<Recipe>, ViewFault<V::Fault>>
+fn versions_of<V: Worklists>(view: &mut V, recipe: Id) -> Result<Vec<Recipe>, ViewFault<V::Fault>>
     ensures { ReadOnly V.Edges view.old view.new
         (IfOk result (λ rows. rows.items ≡ versions_of (V.state view.old) recipe)) }
 {
     view.versions_of(recipe).map_err(ViewFault::View)
 }
 
-fn page_after<V: Worklists>(
-    view: &mut V,
-    recipe: Id,
-) -> Result<Page<Recipe>, ViewFault<V::Fault>>
+fn page_after<V: Worklists>(view: &mut V, recipe: Id) -> Result<Page<Recipe>, ViewFault<V::Fault>>
     ensures { ReadOnly V.Edges view.old view.new
         (IfOk result (λ page. page ≡ page_of (recipes_after (V.state view.old) (Some recipe)))) }
 {

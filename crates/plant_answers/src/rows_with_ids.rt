@@ -36,10 +36,7 @@ pub(crate) trait HasId: Sized {
             (IfOk result (λ there. there ≡ is_some (find (λ r. same (id_of r) id) (all (V.state view.old))))) };
 
     /// A page of the rows whose ids come after this one.
-    fn page_after<V: Worklists>(
-        view: &mut V,
-        id: Id,
-    ) -> Result<Page<Self>, ViewFault<V::Fault>>
+    fn page_after<V: Worklists>(view: &mut V, id: Id) -> Result<Page<Self>, ViewFault<V::Fault>>
         ensures { ReadOnly V.Edges view.old view.new
             (IfOk result (λ page. page ≡ page_of (filter (λ r. is_after (Some id) (id_of r)) (all (V.state view.old))))) };
 }
@@ -85,10 +82,7 @@ impl HasId for Class {
         }
     }
 
-    fn page_after<V: Worklists>(
-        view: &mut V,
-        id: Id,
-    ) -> Result<Page<Class>, ViewFault<V::Fault>> {
+    fn page_after<V: Worklists>(view: &mut V, id: Id) -> Result<Page<Class>, ViewFault<V::Fault>> {
         view.classes_after(Some(id)).map_err(ViewFault::View)
     }
 }
@@ -137,10 +131,7 @@ impl HasId for Job {
         }
     }
 
-    fn page_after<V: Worklists>(
-        view: &mut V,
-        id: Id,
-    ) -> Result<Page<Job>, ViewFault<V::Fault>> {
+    fn page_after<V: Worklists>(view: &mut V, id: Id) -> Result<Page<Job>, ViewFault<V::Fault>> {
         view.orders_after(Some(id)).map_err(ViewFault::View)
     }
 }
@@ -163,10 +154,7 @@ impl HasId for Lot {
         }
     }
 
-    fn page_after<V: Worklists>(
-        view: &mut V,
-        id: Id,
-    ) -> Result<Page<Lot>, ViewFault<V::Fault>> {
+    fn page_after<V: Worklists>(view: &mut V, id: Id) -> Result<Page<Lot>, ViewFault<V::Fault>> {
         view.lots_after(Some(id)).map_err(ViewFault::View)
     }
 }
@@ -189,10 +177,7 @@ impl HasId for Recall {
         }
     }
 
-    fn page_after<V: Worklists>(
-        view: &mut V,
-        id: Id,
-    ) -> Result<Page<Recall>, ViewFault<V::Fault>> {
+    fn page_after<V: Worklists>(view: &mut V, id: Id) -> Result<Page<Recall>, ViewFault<V::Fault>> {
         view.recalls_after(Some(id)).map_err(ViewFault::View)
     }
 }

@@ -9,7 +9,7 @@ export const separatorOf = (locale) => (new Intl.NumberFormat(locale).formatToPa
 // A value as it is written: a text that a spreadsheet would take for a formula begins with an apostrophe, and one with a separator, a quote or an end of
 // line has quotes around it.
 function written(value, separator) {
-  if (typeof value === "number") return String(value);
+  if (typeof value === "number" || typeof value === "bigint") return String(value);
   const text = value == null ? "" : value === true ? "yes" : value === false ? "no" : String(value);
   const harmless = /^[=+\-@\t\r]/.test(text) ? `'${text}` : text;
   return /["\r\n]/.test(harmless) || harmless.includes(separator) ? `"${harmless.replaceAll("\"", "\"\"")}"` : harmless;
@@ -32,6 +32,8 @@ export const COLUMNS = {
     ["On unit", (it) => it.phase_unit], ["Last event", (it) => moment(it.at, true)], "due", "priority", "recipe", "version", "title", "product", "size", "unit"],
   materials: ["class", MATERIAL, "name", "unit", "lots", ["Free", (it) => it.usable], ["On hold", (it) => it.held], "recalled"],
   stands: ["place", "lot", ["Part", (it) => it.no], MATERIAL, ["Amount", (it) => it.stock], "unit", ["On hold", (it) => it.held], "recalled", "seen"],
+  balance: [MATERIAL, "lot", "unit", "received", "produced", ["Of other lots", (it) => it.others], "consumed", "scrapped", ["To other lots", (it) => it.passed],
+    ["In stock", (it) => it.stock], ["Where", (it) => it.where], ["On hold", (it) => it.held], "recalled"],
   lots: ["lot", MATERIAL, ["Part", (it) => it.no], "place", "stock", "unit", ["On hold", (it) => it.held], "recalled", ["Came", (it) => dayOf(it.at)], "by", "note",
     ["Number", (it) => it.seq]],
   ledger: [["Number", (it) => it.seq], "line", WHEN, "by", ["What", (it) => it.kind], AMOUNT, "unit", "lot", ["Part", (it) => it.sub], ["To lot", (it) => it.to],

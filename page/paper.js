@@ -12,13 +12,13 @@ export function barcode(text, room, high) {
     "aria-label": `Bar code of ${text}`, "shape-rendering": "crispEdges" }, svg("path", { d: path }));
 }
 
-// Opens a dialog that shows what can be printed; `top` is what each page has at its top, if anything.
+// Opens a dialog that shows what can be printed; `top` is what each page has at its top, if anything, and `tools` are further buttons.
 let topOfPages = null;
-export function openPaper(title, content, top = null) {
+export function openPaper(title, content, top = null, tools = []) {
   topOfPages = top;
   const print = button("Print", () => globalThis.print(), "main"), away = button("Close", () => dialog.close());
   openDialog(h("form", { method: "dialog", class: "preview" }, h("h2", { id: "title" }, title), h("div", { class: "sheets" }, content),
-    h("div", { class: "end" }, away, print)), print);
+    h("div", { class: "end" }, tools, away, print)), print);
 }
 
 // Once printing begins, what such a dialog shows is put into the page by itself. The top of its pages is a rule of the style, which is last there.

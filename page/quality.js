@@ -16,6 +16,7 @@ import { showLabels } from "./label.js";
 import { bookingForm } from "./book.js";
 import { genealogyCard } from "./genealogy.js";
 import { printedLine, recordCard } from "./record.js";
+import { balanceButton } from "./balance.js";
 import { runningCard, standsCard } from "./stands.js";
 
 const WHICH_RECALLS = ["open", "lifted"];
@@ -68,7 +69,7 @@ function lotCard(lot, self, holds, forward) {
   const rows = holds.map((it) => row(it.hold, [idCell(it.hold), momentCell(it.at), cell(it.by), cell(it.note),
     buttonsCell(button("Take the hold off", () => unhold(lot.lot, it.hold)))]));
   const tools = [lot.held && pill("on hold", "warn"), self.recalled && pill("recalled", "bad"), button("Label", () => showLabels(lot.lot)),
-    button("Hold", () => hold(lot.lot)), button("Recall", () => recall(lot.lot, forward), "bad")];
+    balanceButton("lots", lot.lot, `lot ${lot.lot}`), button("Hold", () => hold(lot.lot)), button("Recall", () => recall(lot.lot, forward), "bad")];
   return card(`Lot ${lot.lot}`, tools,
     facts(fact("Material", link("warehouse/" + lot.def, lot.def)), fact("Stock", grouped(lot.stock), " ", self.unit),
       lot.sublots.filter((it) => it.stock || lot.sublots.length === 1).map((it) =>
@@ -112,7 +113,7 @@ async function recallCards(id, recalls) {
   const it = await desk.recall(id), open = recalls.find((other) => other.recall === id);
   if (!it) return [card(`Recall ${id}`, null, none("There is no such recall."))];
   const { nodes } = await desk.forward("lots", it.lot), stands = standsCard(`recall ${id}`, await desk.stands("lots", it.lot), nodes);
-  const print = button("Print", () => globalThis.print());
+  const print = [balanceButton("lots", it.lot, `recall ${id}`), button("Print", () => globalThis.print())];
   if (it.state === "lifted") return [card(`Recall ${id}`, [pill("lifted"), print], printedLine(), facts(fact("Lot", lotLink(it.lot))),
     none("It is lifted, and reaches nothing any more.")), stands];
   const since = open ? [fact("Since", moment(open.at)), fact("By", open.by), open.note && fact("Why", open.note)] : [];
@@ -130,5 +131,5 @@ async function recallCards(id, recalls) {
 async function batchRecordCards(id) {
   const batch = { ...(await desk.batch(id)), record: await desk.record(id) };
   const around = { back: await desk.back("batches", id), forward: await desk.forward("batches", id) };
-  return [recordCard(batch), genealogyCard(around, "batch " + id)];
+  return [recordCard(batch, balanceButton("batches", id, `batch ${id}`)), genealogyCard(around, "batch " + id)];
 }

@@ -147,6 +147,9 @@ export const desk = {
 
   // The lots that have stock of a lot's or a batch's goods, and the genealogy on either side of it. `kind` is lots or batches.
   async stands(kind, id) { return (await asked(`/v1/${kind}/${id}/stands`)).lots; },
+  // What entered each lot of a lot's or a batch's goods, what left it, and what is there; and what an order needs.
+  async balance(kind, id) { return (await asked(`/v1/${kind}/${id}/balance`)).lots; },
+  async needs(order) { return (await asked(`/v1/orders/${order}/needs`)).needs; },
   forward: (kind, id) => asked(`/v1/${kind}/${id}/forward_edges`),
   back: (kind, id) => asked(`/v1/${kind}/${id}/back_edges`),
 

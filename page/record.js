@@ -11,12 +11,12 @@ import { csvButton } from "./saved.js";
 import { filterChoice, filterOf } from "./frame.js";
 
 const FORMS_OF_RECORD = ["tables", "text"];
-export function recordCard(batch) {
+export function recordCard(batch, ...more) {
   const isPlain = filterOf("record", FORMS_OF_RECORD) === "text";
   const tools = [pill(batch.closed ? "closed" : batch.state, TONES[batch.state]),
     h("span", { class: "noprint" }, link("shift/" + batch.batch, "To the shift's view")),
     filterChoice("Form of the record", "record", FORMS_OF_RECORD),
-    csvButton("record", `record-${batch.batch}`, () => rowsOfRecord(batch.record, batch.lines.filter(isMaterial))), button("Print", () => print())];
+    csvButton("record", `record-${batch.batch}`, () => rowsOfRecord(batch.record, batch.lines.filter(isMaterial))), ...more, button("Print", () => print())];
   const content = isPlain ? h("div", { class: "body" }, h("pre", {}, batch.record.text)) : recordTables(batch);
   const it = card(`Batch record ${batch.batch}`, tools, printedLine(), content, signatures(`batch record ${batch.batch}`));
   it.classList.add("record");

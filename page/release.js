@@ -2,7 +2,6 @@
 
 import { counted, grouped } from "./amounts.js";
 import { idOf } from "./ids.js";
-import { scaled } from "./recipes.js";
 import { LOST } from "./words.js";
 import { inAll } from "./sorting.js";
 import { h } from "./elements.js";
@@ -12,16 +11,13 @@ import { show } from "./frame.js";
 import { form, idField, noteField, noted, openForm, ownField, say } from "./forms.js";
 import { bookEach, bookingForm } from "./book.js";
 
-// What orders want of each input, by the lines of their recipes scaled to their sizes, and how much of it is free.
+// What orders need of each input, and how much of it is free.
 async function needsOf(orders) {
-  const demands = [];
-  for (const { recipe, version, size } of orders) {
-    const { lines, base } = await desk.recipe(recipe, version);
-    demands.push(...lines.filter((it) => it.kind === "in").map((it) => ({ def: it.def, unit: it.unit || "", amount: scaled(it.qty, base, size) })));
-  }
-  const needs = inAll(demands);
-  for (const it of needs) Object.assign(it, { free: (await desk.stockOf(it.def))?.usable || 0 });
-  return needs;
+  const needs = [];
+  for (const it of orders) needs.push(...(await desk.needs(it.order)));
+  const free = new Map(needs.map((it) => [it.def, it.usable]));
+  const demands = needs.map((it) => ({ def: it.def, unit: it.unit || "", amount: it.asked }));
+  return inAll(demands).map((it) => ({ ...it, free: free.get(it.def) }));
 }
 function needsTable(needs) {
   const short = (it) => h("td", { class: "num" }, it.free < it.asked && h("span", { class: "over" }, `${grouped(it.asked - it.free)} ${it.unit}`));

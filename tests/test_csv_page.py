@@ -55,6 +55,21 @@ class SavedLists(BrowserTestCase):
         moment: int = self.served.ask("/moment")["at"]
         return moment
 
+    def test_balance_is_saved(self) -> None:
+        self.serve()
+        tab = self.open_saving("quality/lot/F-1")
+        tab.until("document.querySelector('[aria-label=\"Balance of lot F-1\"]') !== null", "the button of the balance")
+        tab.run("document.querySelector('[aria-label=\"Balance of lot F-1\"]').click()")
+        rows = self.rows(tab, "balance-of-F-1")
+        heads = "Material,Lot,Unit,Received,Produced,Of other lots,Consumed,Scrapped,To other lots,In stock,Where,On hold,Recalled"
+        self.check("the columns", ",".join(rows[0]), heads)
+        self.check("the materials", rows[1:4], [
+            ["BREAD", "", "pcs", "0", "196", "0", "0", "0", "0", "196", "SHOP: 196", "", ""],
+            ["DOUGH", "", "kg", "0", "296", "0", "120", "0", "0", "176", "C1: 176", "", ""],
+            ["FLOUR", "", "kg", "500", "0", "0", "400", "0", "0", "100", "A1: 100", "", ""],
+        ])
+        self.check("the lots", [row[:2] for row in rows[4:]], [["BREAD", "BR-1"], ["DOUGH", "D-1"], ["FLOUR", "F-1"]])
+
     def test_each_list_is_saved(self) -> None:
         self.serve()
         self.served.told(at=self.now(), by="dora", do="recall", recall="RC-1", lot="F-1", note="moths, seen by \"erna\"")

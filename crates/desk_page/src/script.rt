@@ -75,7 +75,7 @@ function isAbove(one, other) {
 }
 const separatorOf = (locale) => (new Intl.NumberFormat(locale).formatToParts(1.5).some((it) => it.type === "decimal" && it.value === ",") ? ";" : ",");
 function written(value, separator) {
-  if (typeof value === "number") return String(value);
+  if (typeof value === "number" || typeof value === "bigint") return String(value);
   const text = value == null ? "" : value === true ? "yes" : value === false ? "no" : String(value);
   const harmless = /^[=+\-@\t\r]/.test(text) ? `'${text}` : text;
   return /["\r\n]/.test(harmless) || harmless.includes(separator) ? `"${harmless.replaceAll("\"", "\"\"")}"` : harmless;
@@ -93,6 +93,8 @@ const COLUMNS = {
     ["On unit", (it) => it.phase_unit], ["Last event", (it) => moment(it.at, true)], "due", "priority", "recipe", "version", "title", "product", "size", "unit"],
   materials: ["class", MATERIAL, "name", "unit", "lots", ["Free", (it) => it.usable], ["On hold", (it) => it.held], "recalled"],
   stands: ["place", "lot", ["Part", (it) => it.no], MATERIAL, ["Amount", (it) => it.stock], "unit", ["On hold", (it) => it.held], "recalled", "seen"],
+  balance: [MATERIAL, "lot", "unit", "received", "produced", ["Of other lots", (it) => it.others], "consumed", "scrapped", ["To other lots", (it) => it.passed],
+    ["In stock", (it) => it.stock], ["Where", (it) => it.where], ["On hold", (it) => it.held], "recalled"],
   lots: ["lot", MATERIAL, ["Part", (it) => it.no], "place", "stock", "unit", ["On hold", (it) => it.held], "recalled", ["Came", (it) => dayOf(it.at)], "by", "note",
     ["Number", (it) => it.seq]],
   ledger: [["Number", (it) => it.seq], "line", WHEN, "by", ["What", (it) => it.kind], AMOUNT, "unit", "lot", ["Part", (it) => it.sub], ["To lot", (it) => it.to],
@@ -474,6 +476,29 @@ function groupsOf(nodes, edges, here, isBack) {
   }
   return { groups, edges: [...sums.values()], left };
 }
+const sum = (all, of) => all.reduce((total, it) => total + BigInt(of(it)), 0n);
+function placesOf(lots) {
+  const all = new Map();
+  for (const { place, stock } of lots.flatMap((it) => it.sublots)) if (stock) all.set(place, (all.get(place) || 0n) + BigInt(stock));
+  return [...all].sort(([a], [b]) => (a < b ? -1 : 1)).map(([place, stock]) => ({ place, stock }));
+}
+function materialsOf(lots) {
+  return [...new Set(lots.map((it) => it.def))].sort().map((def) => {
+    const own = lots.filter((it) => it.def === def), entered = (kind) => sum(own, (it) => it.entered[kind]), left = (kind) => sum(own, (it) => it.left[kind]);
+    const it = { def, unit: own[0].unit || "", count: own.length, received: entered("received"), produced: entered("produced"),
+      others: entered("split") + entered("merged") - left("split") - left("merged"), consumed: left("consumed"), scrapped: left("scrapped"),
+      stock: sum(own, (one) => one.stock), places: placesOf(own) };
+    return { ...it, closes: it.received + it.produced + it.others === it.consumed + it.scrapped + it.stock };
+  });
+}
+const flowsOf = ({ entered, left }) => ({ received: entered.received, produced: entered.produced, others: entered.split + entered.merged,
+  consumed: left.consumed, scrapped: left.scrapped, passed: left.split + left.merged });
+const wherever = (places) => places.map((it) => `${it.place || "no place"}: ${it.stock}`).join("; ");
+const rowsOfBalance = (lots) => [
+  ...materialsOf(lots).map((it) => ({ ...it, passed: 0, where: wherever(it.places) })),
+  ...lots.map((it) => ({ def: it.def, lot: it.lot, unit: it.unit || "", stock: it.stock, held: it.held, recalled: it.recalled, ...flowsOf(it),
+    where: wherever(placesOf([it])) })),
+];
 function filled(element, attributes, children) {
   for (const [name, value] of Object.entries(attributes || {})) {
     if (value === false || value == null) continue;
@@ -796,6 +821,8 @@ const desk = {
   ledger: (lot, stock, wanted) => askedOnce(`ledger ${lot} ${stock}`, () => list("movements/" + lot, wanted)),
   async record(id) { return readRecord(await asked(`/v1/batches/${id}/record`, true)); },
   async stands(kind, id) { return (await asked(`/v1/${kind}/${id}/stands`)).lots; },
+  async balance(kind, id) { return (await asked(`/v1/${kind}/${id}/balance`)).lots; },
+  async needs(order) { return (await asked(`/v1/orders/${order}/needs`)).needs; },
   forward: (kind, id) => asked(`/v1/${kind}/${id}/forward_edges`),
   back: (kind, id) => asked(`/v1/${kind}/${id}/back_edges`),
   async lotNode(lot) { return (await this.back("lots", lot)).nodes.find((it) => it.lot === lot); },
@@ -1326,11 +1353,11 @@ function barcode(text, room, high) {
     "aria-label": `Bar code of ${text}`, "shape-rendering": "crispEdges" }, svg("path", { d: path }));
 }
 let topOfPages = null;
-function openPaper(title, content, top = null) {
+function openPaper(title, content, top = null, tools = []) {
   topOfPages = top;
   const print = button("Print", () => globalThis.print(), "main"), away = button("Close", () => dialog.close());
   openDialog(h("form", { method: "dialog", class: "preview" }, h("h2", { id: "title" }, title), h("div", { class: "sheets" }, content),
-    h("div", { class: "end" }, away, print)), print);
+    h("div", { class: "end" }, tools, away, print)), print);
 }
 const style = () => document.styleSheets[0];
 let hasTop = false;
@@ -1473,4 +1500,4 @@ function bookingForm(title, fields, label, take, more) {
 "##;
 
 /// Its entity tag.
-pub const SCRIPT_TAG: &str = "\"cdfc9935cf0f81c291829c56786bc7bd\"";
+pub const SCRIPT_TAG: &str = "\"af7e32c207deb85611fbdbb327f4edf9\"";

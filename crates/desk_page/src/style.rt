@@ -190,6 +190,8 @@ dialog:has(.sheet) { width: min(860px, 94vw); } .sheet h3 { margin: 14px 0 2px; 
 .sheet .head { display: flex; flex-wrap: wrap; gap: 8px 24px; justify-content: space-between; margin-bottom: 10px; } .sheet .bars { background: #fff; }
 .tickbox { display: inline-block; width: 5mm; height: 5mm; border: 1px solid var(--ink); vertical-align: middle; } .towrite { min-width: 30mm; width: 40%; }
 .sheet th:first-child, .sheet td:first-child { width: 4em; padding-left: 5px; }
+dialog:has(.balance) { width: min(1240px, 96vw); } .balance th:first-child, .balance td:first-child { width: auto; } .balance { page: broad; }
+@page broad { size: landscape; }
 
 /* The first view: figures, tables and plots side by side, and the same in large letters. */
 @media (min-width: 980px) { main.today { grid-template-columns: repeat(2, minmax(0, 1fr)); } main.board { grid-template-columns: repeat(3, minmax(0, 1fr)); } }
@@ -294,4 +296,4 @@ svg .word { fill: var(--bad); font-weight: 600; font-size: 10px; }
 "##;
 
 /// Its entity tag.
-pub const STYLE_TAG: &str = "\"f1d7374e233dfa4110da90b6856a0d3f\"";
+pub const STYLE_TAG: &str = "\"7cf13b55b80ab090e57cc56cd2d83a6a\"";

@@ -375,12 +375,12 @@ function nodeBox({ texts: [id, sub, stock], marks, tone, isHere, isOfLots, place
     text("name", 17, id), text("sub", 31, sub), stock && text("sub", 44, stock), marks && text("word", 56, marks));
 }
 const FORMS_OF_RECORD = ["tables", "text"];
-function recordCard(batch) {
+function recordCard(batch, ...more) {
   const isPlain = filterOf("record", FORMS_OF_RECORD) === "text";
   const tools = [pill(batch.closed ? "closed" : batch.state, TONES[batch.state]),
     h("span", { class: "noprint" }, link("shift/" + batch.batch, "To the shift's view")),
     filterChoice("Form of the record", "record", FORMS_OF_RECORD),
-    csvButton("record", `record-${batch.batch}`, () => rowsOfRecord(batch.record, batch.lines.filter(isMaterial))), button("Print", () => print())];
+    csvButton("record", `record-${batch.batch}`, () => rowsOfRecord(batch.record, batch.lines.filter(isMaterial))), ...more, button("Print", () => print())];
   const content = isPlain ? h("div", { class: "body" }, h("pre", {}, batch.record.text)) : recordTables(batch);
   const it = card(`Batch record ${batch.batch}`, tools, printedLine(), content, signatures(`batch record ${batch.batch}`));
   it.classList.add("record");
@@ -535,6 +535,33 @@ async function bookInputs(id) {
   form(`Book all inputs of ${id} as asked`, fields, "Book all", ({ note }) => bookPlan(plan, note, () => openForm() === mine));
   mine = openForm();
 }
+const closing = (it) => (it.closes ? "closes" : h("span", { class: "over" }, "doesn't close"));
+const where = (places, unit) => cell(places.map((it) => h("div", {}, `${it.place || "no place"}: ${grouped(it.stock)} ${unit}`)));
+function balanceOfMaterial(it) {
+  const amounts = [it.received, it.produced, it.others, it.consumed, it.scrapped, it.stock].map((n) => numberCell(n, it.unit));
+  return row(`material ${it.def}`, [idCell(it.def), numberCell(it.count), ...amounts, where(it.places, it.unit), cell(closing(it))]);
+}
+function balanceOfLot(it) {
+  const unit = it.unit || "", { entered, left } = it;
+  const amounts = [entered.received, entered.produced, entered.split + entered.merged, left.consumed, left.scrapped, left.split + left.merged, it.stock];
+  const states = [it.held && pill("on hold", "warn"), it.recalled && pill("recalled", "bad")];
+  return row(it.lot, [idCell(it.lot), cell(it.def), ...amounts.map((n) => numberCell(n, unit)), cell(states)]);
+}
+async function showBalance(kind, id, what) {
+  try {
+    const lots = await desk.balance(kind, id), materials = materialsOf(lots);
+    const ofMaterials = table(["Material", "#Lots", "#Received", "#Produced", "#Of other lots", "#Consumed", "#Scrapped", "#In stock", "Where", "Balance"],
+      materials.map(balanceOfMaterial), "Nothing came of it.");
+    const ofLots = table(["Lot", "Material", "#Received", "#Produced", "#Of lots", "#Consumed", "#Scrapped", "#To lots", "#In stock", "State"], lots.map(balanceOfLot), "None.");
+    const head = h("div", { class: "facts" }, fact("Materials", grouped(materials.length)), fact("Lots", grouped(lots.length)),
+      fact("Balance", materials.every((it) => it.closes) ? "closes" : "doesn't close"));
+    const sheet = h("section", { class: "sheet balance" }, h("h2", {}, `Balance of ${what}`), printedLine(), head,
+      h("p", { class: "soft small" }, "What came in of each material is what left it and what is in stock. Lots that were split off or merged are among these."),
+      h("h3", {}, "Materials"), ofMaterials, h("h3", {}, counted(lots.length, "lot", "lots")), ofLots, signatures(`the balance of ${what}`));
+    openPaper(`Balance of ${what}`, [sheet], `Balance of ${what}`, [csvButton("balance", `balance-of-${id}`, () => rowsOfBalance(lots))]);
+  } catch (error) { notice("bad", whyNot(error)); }
+}
+const balanceButton = (kind, id, what) => button("Balance", () => showBalance(kind, id, what), null, { "aria-label": `Balance of ${what}` });
 const nameOfTicks = (of) => `ticks.${desk.name || ""}.${of}`;
 function tick(of, key, isOn) {
   const others = kept(nameOfTicks(of), []).filter((it) => it !== key);
@@ -579,14 +606,11 @@ async function runningCard(batches) {
   return card("Batches that still run", null, table(["Batch", "State", "Order", "Next phase"], rows, "None."));
 }
 async function needsOf(orders) {
-  const demands = [];
-  for (const { recipe, version, size } of orders) {
-    const { lines, base } = await desk.recipe(recipe, version);
-    demands.push(...lines.filter((it) => it.kind === "in").map((it) => ({ def: it.def, unit: it.unit || "", amount: scaled(it.qty, base, size) })));
-  }
-  const needs = inAll(demands);
-  for (const it of needs) Object.assign(it, { free: (await desk.stockOf(it.def))?.usable || 0 });
-  return needs;
+  const needs = [];
+  for (const it of orders) needs.push(...(await desk.needs(it.order)));
+  const free = new Map(needs.map((it) => [it.def, it.usable]));
+  const demands = needs.map((it) => ({ def: it.def, unit: it.unit || "", amount: it.asked }));
+  return inAll(demands).map((it) => ({ ...it, free: free.get(it.def) }));
 }
 function needsTable(needs) {
   const short = (it) => h("td", { class: "num" }, it.free < it.asked && h("span", { class: "over" }, `${grouped(it.asked - it.free)} ${it.unit}`));
@@ -1268,7 +1292,7 @@ function lotCard(lot, self, holds, forward) {
   const rows = holds.map((it) => row(it.hold, [idCell(it.hold), momentCell(it.at), cell(it.by), cell(it.note),
     buttonsCell(button("Take the hold off", () => unhold(lot.lot, it.hold)))]));
   const tools = [lot.held && pill("on hold", "warn"), self.recalled && pill("recalled", "bad"), button("Label", () => showLabels(lot.lot)),
-    button("Hold", () => hold(lot.lot)), button("Recall", () => recall(lot.lot, forward), "bad")];
+    balanceButton("lots", lot.lot, `lot ${lot.lot}`), button("Hold", () => hold(lot.lot)), button("Recall", () => recall(lot.lot, forward), "bad")];
   return card(`Lot ${lot.lot}`, tools,
     facts(fact("Material", link("warehouse/" + lot.def, lot.def)), fact("Stock", grouped(lot.stock), " ", self.unit),
       lot.sublots.filter((it) => it.stock || lot.sublots.length === 1).map((it) =>
@@ -1310,7 +1334,7 @@ async function recallCards(id, recalls) {
   const it = await desk.recall(id), open = recalls.find((other) => other.recall === id);
   if (!it) return [card(`Recall ${id}`, null, none("There is no such recall."))];
   const { nodes } = await desk.forward("lots", it.lot), stands = standsCard(`recall ${id}`, await desk.stands("lots", it.lot), nodes);
-  const print = button("Print", () => globalThis.print());
+  const print = [balanceButton("lots", it.lot, `recall ${id}`), button("Print", () => globalThis.print())];
   if (it.state === "lifted") return [card(`Recall ${id}`, [pill("lifted"), print], printedLine(), facts(fact("Lot", lotLink(it.lot))),
     none("It is lifted, and reaches nothing any more.")), stands];
   const since = open ? [fact("Since", moment(open.at)), fact("By", open.by), open.note && fact("Why", open.note)] : [];
@@ -1327,7 +1351,7 @@ async function recallCards(id, recalls) {
 async function batchRecordCards(id) {
   const batch = { ...(await desk.batch(id)), record: await desk.record(id) };
   const around = { back: await desk.back("batches", id), forward: await desk.forward("batches", id) };
-  return [recordCard(batch), genealogyCard(around, "batch " + id)];
+  return [recordCard(batch, balanceButton("batches", id, `batch ${id}`)), genealogyCard(around, "batch " + id)];
 }
 async function find(code) {
   const { lot: id } = lotOf(code);
@@ -1410,4 +1434,4 @@ desk.loggedIn().then(nameByLogin).catch((error) => notice("bad", whyNot(error)))
 "##;
 
 /// Its entity tag.
-pub const VIEWS_TAG: &str = "\"5eaa331bceba058d330dee4a9a02de73\"";
+pub const VIEWS_TAG: &str = "\"c2e802bf0e0634db27cb82cb92ebb87b\"";

@@ -34,7 +34,7 @@ async function showBalance(kind, id, what) {
     const sheet = h("section", { class: "sheet balance" }, h("h2", {}, `Balance of ${what}`), printedLine(), head,
       h("p", { class: "soft small" }, "What came in of each material is what left it and what is in stock. Lots that were split off or merged are among these."),
       h("h3", {}, "Materials"), ofMaterials, h("h3", {}, counted(lots.length, "lot", "lots")), ofLots, signatures(`the balance of ${what}`));
-    openPaper(`Balance of ${what}`, [sheet], `Balance of ${what}`, [csvButton("balance", `balance-of-${id}`, () => rowsOfBalance(lots))]);
+    openPaper("Balance", [sheet], `Balance of ${what}`, [csvButton("balance", `balance-of-${id}`, () => rowsOfBalance(lots))]);
   } catch (error) { notice("bad", whyNot(error)); }
 }
 

@@ -27,7 +27,7 @@ SCRIPTS = {
         "elements", "store", "typed", "who", "focus", "scanner", "parts", "questions", "frame", "saved", "lots", "forms", "paper", "label", "book",
     ),
     "views.js": ("plots", "alarm", "help", "today", "genealogy", "record", "sheet", "inputs", "balance", "stands", "release", "planner", "shift",
-        "goods", "places", "warehouse", "quality", "start",
+        "goods", "places", "warehouse", "quality", "finder", "start",
     ),
 }
 

@@ -111,6 +111,9 @@ export const desk = {
   // The moment of a booking: the machine's time, or the desk's moment where that is later.
   now() { return Math.max(this.time(), this.moment); },
 
+  // The first ids of each kind of thing that begin with this one.
+  find: (id) => asked("/v1/find/" + id),
+
   order: (id) => asked("/v1/orders/" + id),
   lot: (id) => asked("/v1/lots/" + id),
   foundLot: (id) => found("/v1/lots/" + id),

@@ -12,6 +12,7 @@ import { desk, whyNot } from "./questions.js";
 import { VIEWS, isDayOver, isDrawnBefore, place, show, tellStatus } from "./frame.js";
 import { focusBehind, openForm } from "./forms.js";
 import { drawWaiting, sending } from "./book.js";
+import { offerBegun } from "./finder.js";
 import { help } from "./help.js";
 import { board, today } from "./today.js";
 import { chosenOrders, planner } from "./planner.js";
@@ -19,13 +20,13 @@ import { focusNextPhase, scanAtBatch, shift } from "./shift.js";
 import { chosen, warehouse } from "./warehouse.js";
 import { quality } from "./quality.js";
 
-// Finds a lot, a batch, an order or a recall by its id, a supplier's code being that of a lot, and shows it where the role looks at such things. Says
-// whether it did.
+// Finds a lot, a batch, an order, a recall or a material by its id, a supplier's code being that of a lot, and shows it where the role looks at such
+// things. Says whether it did.
 async function find(code) {
   const { lot: id } = lotOf(code);
   if (!id) return miss(`An id has ${ID_RULE}.`);
   if (await showFound(id)) return true;
-  return miss(`There is no lot, no batch, no order and no recall ${id}.`);
+  return miss(`There is no lot, no batch, no order, no recall and no material ${id}.`);
 }
 function miss(why) { notice("bad", why); return false; }
 async function showFound(id) {
@@ -33,10 +34,12 @@ async function showFound(id) {
   const lot = await desk.foundLot(id);
   const where = lot ? (name === "warehouse" ? ["warehouse", lot.def, id] : ["quality", "lot", id])
     : await desk.foundBatch(id) ? (name === "shift" ? ["shift", id] : ["quality", "batch", id])
-      : await desk.foundOrder(id) ? ["planner", id] : await desk.recall(id) ? ["quality", "recall", id] : null;
+      : await desk.foundOrder(id) ? ["planner", id] : await desk.recall(id) ? ["quality", "recall", id]
+        : await desk.definition(id) ? ["warehouse", id] : null;
   if (where) go(...where);
   return where !== null;
 }
+at("find").addEventListener("input", offerBegun);
 at("finder").addEventListener("submit", async (event) => {
   event.preventDefault();
   notice();

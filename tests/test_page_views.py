@@ -90,6 +90,18 @@ class Views(BrowserTestCase):
         tab.has("O-6", "document.querySelector('[data-row=\"O-6\"]')")
         self.check("the address", tab.run("location.hash"), "#planner")
 
+    def test_ids_are_offered_as_they_are_typed(self) -> None:
+        self.serve()
+        tab = self.open("planner")
+        offered = "[...document.getElementById('begun').options].map((it) => it.label)"
+        for text, wanted in (("b", ["BR-1: lot", "B-1: batch", "B-2: batch", "B-3: batch", "BREAD: material"]), ("br", ["BR-1: lot", "BREAD: material"]),
+                             ("br-1", ["BR-1: lot"]), ("br 1", []), ("o", ["O-1: order", "O-2: order", "O-3: order", "O-4: order", "O-5: order"]), ("zz", [])):
+            tab.fill("find", text)
+            tab.until(f"{offered}.join() === '{','.join(wanted)}'", f"what begins with {text}")
+        tab.fill("find", "bread")
+        tab.key("Enter")
+        tab.until("location.hash === '#warehouse/BREAD'", "the material")
+
     def test_parts_of_which_nothing_is_left_are_not_shown(self) -> None:
         self.serve()
         lot = self.served.ask("/lots/F-1")["sublots"]

@@ -19,8 +19,9 @@ pub const PAGE: &[u8] = br##"<!doctype html>
     <a href="#today">Today</a><a href="#planner">Planner</a><a href="#shift">Shift</a><a href="#warehouse">Warehouse</a><a href="#quality">Quality</a>
   </nav>
   <form id="finder" role="search">
-    <input id="find" data-id maxlength="24" autocomplete="off" spellcheck="false" placeholder="Find by id"
-      aria-label="Find a lot, a batch, an order or a recall by its id">
+    <input id="find" data-id list="begun" maxlength="24" autocomplete="off" spellcheck="false" placeholder="Find by id"
+      aria-label="Find a lot, a batch, an order, a recall or a material by its id">
+    <datalist id="begun"></datalist>
     <button>Find</button>
   </form>
   <label class="who">Operator <input id="operator" maxlength="60" pattern="[ -~]*" autocomplete="off" placeholder="your name"></label>
@@ -44,4 +45,4 @@ pub const PAGE: &[u8] = br##"<!doctype html>
 "##;
 
 /// Its entity tag.
-pub const PAGE_TAG: &str = "\"bbaf1bcc45e40c3320386dfa5f03e057\"";
+pub const PAGE_TAG: &str = "\"47e0ffab9c3178f7ff6c006c1eb3e6d9\"";

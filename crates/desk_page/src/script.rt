@@ -798,6 +798,7 @@ const desk = {
   time() { return clock() + this.offset; },
   today() { return day(new Date(this.time() * 1000)); },
   now() { return Math.max(this.time(), this.moment); },
+  find: (id) => asked("/v1/find/" + id),
   order: (id) => asked("/v1/orders/" + id),
   lot: (id) => asked("/v1/lots/" + id),
   foundLot: (id) => found("/v1/lots/" + id),
@@ -1500,4 +1501,4 @@ function bookingForm(title, fields, label, take, more) {
 "##;
 
 /// Its entity tag.
-pub const SCRIPT_TAG: &str = "\"af7e32c207deb85611fbdbb327f4edf9\"";
+pub const SCRIPT_TAG: &str = "\"ef438b811a1625e2feaf821ab8e1db6e\"";

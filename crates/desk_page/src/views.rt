@@ -1353,11 +1353,29 @@ async function batchRecordCards(id) {
   const around = { back: await desk.back("batches", id), forward: await desk.forward("batches", id) };
   return [recordCard(batch, balanceButton("batches", id, `batch ${id}`)), genealogyCard(around, "batch " + id)];
 }
+const KINDS = { lots: "lot", batches: "batch", orders: "order", recalls: "recall", definitions: "material" };
+const REST = 250;
+function offersOf(found) {
+  const all = new Map();
+  for (const [kinds, kind] of Object.entries(KINDS)) for (const id of found[kinds]) all.set(id, [...(all.get(id) || []), kind]);
+  return [...all].map(([id, kinds]) => h("option", { value: id, label: `${id}: ${kinds.join(", ")}` }));
+}
+let turns = 0;
+async function offerBegun() {
+  const id = at("find").value.trim().toUpperCase(), turn = ++turns;
+  await new Promise((done) => { setTimeout(done, REST); });
+  if (turn !== turns) return;
+  if (!isId(id)) { at("begun").replaceChildren(); return; }
+  try {
+    const found = await desk.find(id);
+    if (turn === turns) at("begun").replaceChildren(...offersOf(found));
+  } catch { at("begun").replaceChildren(); }
+}
 async function find(code) {
   const { lot: id } = lotOf(code);
   if (!id) return miss(`An id has ${ID_RULE}.`);
   if (await showFound(id)) return true;
-  return miss(`There is no lot, no batch, no order and no recall ${id}.`);
+  return miss(`There is no lot, no batch, no order, no recall and no material ${id}.`);
 }
 function miss(why) { notice("bad", why); return false; }
 async function showFound(id) {
@@ -1365,10 +1383,12 @@ async function showFound(id) {
   const lot = await desk.foundLot(id);
   const where = lot ? (name === "warehouse" ? ["warehouse", lot.def, id] : ["quality", "lot", id])
     : await desk.foundBatch(id) ? (name === "shift" ? ["shift", id] : ["quality", "batch", id])
-      : await desk.foundOrder(id) ? ["planner", id] : await desk.recall(id) ? ["quality", "recall", id] : null;
+      : await desk.foundOrder(id) ? ["planner", id] : await desk.recall(id) ? ["quality", "recall", id]
+        : await desk.definition(id) ? ["warehouse", id] : null;
   if (where) go(...where);
   return where !== null;
 }
+at("find").addEventListener("input", offerBegun);
 at("finder").addEventListener("submit", async (event) => {
   event.preventDefault();
   notice();
@@ -1434,4 +1454,4 @@ desk.loggedIn().then(nameByLogin).catch((error) => notice("bad", whyNot(error)))
 "##;
 
 /// Its entity tag.
-pub const VIEWS_TAG: &str = "\"137f12dfe96616abdbeefb5ab54badb8\"";
+pub const VIEWS_TAG: &str = "\"443acc279caca90ca32f8c3a919f1415\"";

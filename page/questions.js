@@ -134,16 +134,17 @@ export const desk = {
 
   // A batch, with the lines of its control recipe, which have what was booked; and its record.
   async batch(id) {
-    const batch = await asked("/v1/batches/" + id), { lines } = await asked(`/v1/batches/${id}/lines`);
+    const batch = await asked("/v1/batches/" + id), lines = await this.batchLines(id);
     return { ...batch, lines: lines.map(withPath) };
   },
+  async batchLines(id) { return (await asked(`/v1/batches/${id}/lines`)).lines; },
   // Those lines as they are at this moment, also where nothing is known to have been booked.
   async linesNow(id) { return (await askedAnew(`/v1/batches/${id}/lines`)).lines; },
   // The lines of a finished order's batch, and the batch; what was booked on it stays as it is. And the ledger of a lot that has so much stock: each booking
   // that changes its stock makes that less.
   finishedBatch: (order) => askedOnce(`finished ${order}`, async () => {
     const { batch } = await asked("/v1/orders/" + order);
-    return { batch, lines: (await asked(`/v1/batches/${batch}/lines`)).lines };
+    return { batch, lines: await desk.batchLines(batch) };
   }),
   ledger: (lot, stock, wanted) => askedOnce(`ledger ${lot} ${stock}`, () => list("movements/" + lot, wanted)),
   async record(id) { return readRecord(await asked(`/v1/batches/${id}/record`, true)); },

@@ -53,8 +53,7 @@ async function demands(orders, batches) {
   }
   const begun = going.filter((it) => !isUntouched(it)).sort((a, b) => (a.due < b.due ? -1 : 1));
   for (const { batch, due } of begun.slice(0, MOST_LINES)) {
-    const { lines } = await desk.batch(batch);
-    for (const it of lines) if (it.def && it.booked < it.asked) add(it, it.asked - it.booked, due);
+    for (const it of await desk.batchLines(batch)) if (it.def && it.booked < it.asked) add(it, it.asked - it.booked, due);
   }
   return { asked, made, isWhole: !orders.more && begun.length <= MOST_LINES };
 }
@@ -143,16 +142,18 @@ function plotOf(name, id, label, values, on) {
     values.map((it) => h("option", { value: it, selected: it === on }, it))));
 }
 
-// The orders that were finished last, by their due dates: of ever more days, until there are enough of a recipe.
-const LAST_BATCHES = 30, LOW_YIELD = 95, MOST_FINISHED = 2000, BACK = [14, 60, 240, 4000];
+// The orders that were finished last, by their due dates: of ever more days, until there are enough of a recipe, or so many that not all are read.
+const LAST_BATCHES = 30, LOW_YIELD = 95, MOST_FINISHED = 2000, BACK = [3, 14, 60, 240, 4000];
 async function lastFinished(recipe, isShown) {
   let found = [], all = [], of = recipe;
   for (const days of BACK) {
     if (!isShown()) break;
-    all = await desk.ordersSince("finished", dayAfter(desk.today(), -days), MOST_FINISHED);
+    const read = await desk.ordersSince("finished", dayAfter(desk.today(), -days), MOST_FINISHED);
+    if (read.more && all.length) break;
+    all = read;
     of ||= all.at(-1)?.recipe || "";
     found = all.filter((it) => it.recipe === of).slice(-LAST_BATCHES);
-    if (found.length === LAST_BATCHES || all.more) break;
+    if (found.length === LAST_BATCHES) break;
   }
   return { of, found, recipes: [...new Set([...all.map((it) => it.recipe), of])].filter(Boolean).sort() };
 }

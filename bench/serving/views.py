@@ -23,7 +23,8 @@ from tests.support.large import fan_tables, received_row, scrapped_row  # noqa: 
 from tests.support.program import Program  # noqa: E402
 
 VIEWS = (
-    "planner", "shift/B-2", "warehouse/FLOUR", "warehouse/YEAST", "quality/lot/F-1", "quality/lot/FAN-0", "quality/lot/L-000100", "quality/batch/B-1",
+    "today", "planner", "shift/B-2", "warehouse/FLOUR", "warehouse/YEAST", "warehouse/place",
+    "quality/lot/F-1", "quality/lot/FAN-0", "quality/lot/L-000100", "quality/batch/B-1",
 )
 
 # So many lots are split off one.

@@ -811,13 +811,14 @@ const desk = {
   foundRecipe: (id, version) => found(`/v1/recipes/${id}/${version}`),
   recall: (id) => found("/v1/recalls/" + id),
   async batch(id) {
-    const batch = await asked("/v1/batches/" + id), { lines } = await asked(`/v1/batches/${id}/lines`);
+    const batch = await asked("/v1/batches/" + id), lines = await this.batchLines(id);
     return { ...batch, lines: lines.map(withPath) };
   },
+  async batchLines(id) { return (await asked(`/v1/batches/${id}/lines`)).lines; },
   async linesNow(id) { return (await askedAnew(`/v1/batches/${id}/lines`)).lines; },
   finishedBatch: (order) => askedOnce(`finished ${order}`, async () => {
     const { batch } = await asked("/v1/orders/" + order);
-    return { batch, lines: (await asked(`/v1/batches/${batch}/lines`)).lines };
+    return { batch, lines: await desk.batchLines(batch) };
   }),
   ledger: (lot, stock, wanted) => askedOnce(`ledger ${lot} ${stock}`, () => list("movements/" + lot, wanted)),
   async record(id) { return readRecord(await asked(`/v1/batches/${id}/record`, true)); },
@@ -1501,4 +1502,4 @@ function bookingForm(title, fields, label, take, more) {
 "##;
 
 /// Its entity tag.
-pub const SCRIPT_TAG: &str = "\"ef438b811a1625e2feaf821ab8e1db6e\"";
+pub const SCRIPT_TAG: &str = "\"359f374f8f530a33fb7719d1cc09dd03\"";

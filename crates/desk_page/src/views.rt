@@ -151,8 +151,7 @@ async function demands(orders, batches) {
   }
   const begun = going.filter((it) => !isUntouched(it)).sort((a, b) => (a.due < b.due ? -1 : 1));
   for (const { batch, due } of begun.slice(0, MOST_LINES)) {
-    const { lines } = await desk.batch(batch);
-    for (const it of lines) if (it.def && it.booked < it.asked) add(it, it.asked - it.booked, due);
+    for (const it of await desk.batchLines(batch)) if (it.def && it.booked < it.asked) add(it, it.asked - it.booked, due);
   }
   return { asked, made, isWhole: !orders.more && begun.length <= MOST_LINES };
 }
@@ -228,15 +227,17 @@ function plotOf(name, id, label, values, on) {
   return h("div", { class: "body row" }, h("select", { id, "aria-label": label, onchange: (event) => setText(name, event.target.value) },
     values.map((it) => h("option", { value: it, selected: it === on }, it))));
 }
-const LAST_BATCHES = 30, LOW_YIELD = 95, MOST_FINISHED = 2000, BACK = [14, 60, 240, 4000];
+const LAST_BATCHES = 30, LOW_YIELD = 95, MOST_FINISHED = 2000, BACK = [3, 14, 60, 240, 4000];
 async function lastFinished(recipe, isShown) {
   let found = [], all = [], of = recipe;
   for (const days of BACK) {
     if (!isShown()) break;
-    all = await desk.ordersSince("finished", dayAfter(desk.today(), -days), MOST_FINISHED);
+    const read = await desk.ordersSince("finished", dayAfter(desk.today(), -days), MOST_FINISHED);
+    if (read.more && all.length) break;
+    all = read;
     of ||= all.at(-1)?.recipe || "";
     found = all.filter((it) => it.recipe === of).slice(-LAST_BATCHES);
-    if (found.length === LAST_BATCHES || all.more) break;
+    if (found.length === LAST_BATCHES) break;
   }
   return { of, found, recipes: [...new Set([...all.map((it) => it.recipe), of])].filter(Boolean).sort() };
 }
@@ -1454,4 +1455,4 @@ desk.loggedIn().then(nameByLogin).catch((error) => notice("bad", whyNot(error)))
 "##;
 
 /// Its entity tag.
-pub const VIEWS_TAG: &str = "\"443acc279caca90ca32f8c3a919f1415\"";
+pub const VIEWS_TAG: &str = "\"a6346c4c8031909bd00bdbff1bc54fd3\"";

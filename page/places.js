@@ -12,8 +12,8 @@ import { showLabels } from "./label.js";
 import { moveGoods, scrap } from "./goods.js";
 
 // By what the warehouse lists its goods.
-const GOODS_BY = ["material", "place"];
-export const byChoice = (by) => h("div", { class: "body row filter" }, choice("By what goods are listed", GOODS_BY, by, (it) => go("warehouse", it === "place" && it)));
+const GOODS_BY = ["by material", "by place"];
+export const byChoice = (by) => h("div", { class: "body row filter" }, choice("By what goods are listed", GOODS_BY, by, (it) => go("warehouse", it === "by place" && "place")));
 
 // The day on which a lot came, and how old it is.
 export const cameCell = (at) => h("td", { class: "when" }, h("span", {}, dayOf(at), at !== null && h("div", { class: "soft small" }, ageInDays(at, desk.time()))));
@@ -40,7 +40,7 @@ export async function places(shown) {
   const { parts, left } = await allParts(), all = partsByPlace(parts), at = shown ?? (isNarrow() ? undefined : all[0]?.place);
   const rows = all.map((it) => row(encodeURIComponent(it.place), [cell(placeLink(it.place)), numberCell(it.parts.length), numberCell(it.materials)],
     `warehouse/place/${encodeURIComponent(it.place)}`, it.place === at));
-  const list = card("Places", null, byChoice("place"), table(["Place", "#Parts", "#Materials"], rows, "Nothing is in stock.", true),
+  const list = card("Places", null, byChoice("by place"), table(["Place", "#Parts", "#Materials"], rows, "Nothing is in stock.", true),
     left.length > 0 && none(`These materials have too many lots to be read here: ${left.join(", ")}.`));
   return ["list", listed(list), at !== undefined && h("div", { class: "stack" }, placeCard(at, all.find((it) => it.place === at)?.parts || []))];
 }

@@ -40,7 +40,7 @@ function materialsSide(classes, def) {
   const tools = [csvButton("materials", "materials", () => desk.materials()), button("New class", newClass),
     classes.length > 0 && button("New material", () => newMaterial(classes))];
   const without = none("There is no class yet.");
-  return card("Materials", tools, byChoice("material"), classes.length ? classes.map((it) => classTable(it, def)) : without, more(classes, "classes"));
+  return card("Materials", tools, byChoice("by material"), classes.length ? classes.map((it) => classTable(it, def)) : without, more(classes, "classes"));
 }
 function classTable({ id, name, stocks }, def) {
   const named = (it) => idCell(link("warehouse/" + it.def, it.def), it.name && h("div", { class: "under" }, it.name));

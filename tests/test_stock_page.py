@@ -268,7 +268,7 @@ class Places(BrowserTestCase):
     def test_goods_are_listed_by_their_places(self) -> None:
         self.serve()
         tab = self.open("warehouse")
-        tab.click("place")
+        tab.click("by place")
         self.at(tab, "warehouse/place")
         listed = "[...document.querySelectorAll('.listed [data-row]')].map((it) => it.innerText.replace(/\\s+/g, ' ').trim())"
         self.check("the places, with their parts and materials", tab.run(listed), ["A1 1 1", "A2 1 1", "C1 1 1", "COLD 1 1", "SHOP 1 1"])
@@ -277,7 +277,7 @@ class Places(BrowserTestCase):
         self.at(tab, "warehouse/place/A2")
         self.check("what is there", tab.run(ROWS), ["F-2/0", "total FLOUR"])
         tab.has("on hold", "document.querySelector('[data-row=\"F-2/0\"]')")
-        tab.click("material")
+        tab.click("by material")
         self.at(tab, "warehouse")
         self.check("what the console tells of errors", tab.errors(), [])
 

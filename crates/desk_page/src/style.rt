@@ -61,7 +61,7 @@ footer button:hover { background: #0003; }
 #notice .good { background: #17734a; } #notice .bad { background: #a3202b; }
 
 main { max-width: 1280px; margin: 0 auto; padding: 18px 20px 54px; display: grid; gap: 18px; align-items: start; }
-@media (min-width: 980px) { main.side > .stack:first-child td.do > div { flex-wrap: nowrap; } }
+@media (min-width: 760px) { main.side > .stack:first-child td.do > div { flex-wrap: nowrap; } }
 @media (min-width: 1200px) { main.list > .listed ~ * td.do > div { flex-wrap: nowrap; } }
 @media (min-width: 1500px) { main { max-width: 1860px; } main.side > .stack:last-child td.do > div { flex-wrap: nowrap; } }
 @media (min-width: 980px) {
@@ -296,4 +296,4 @@ svg .word { fill: var(--bad); font-weight: 600; font-size: 10px; }
 "##;
 
 /// Its entity tag.
-pub const STYLE_TAG: &str = "\"7cf13b55b80ab090e57cc56cd2d83a6a\"";
+pub const STYLE_TAG: &str = "\"e2976635b6f1d4f1129ca9802d8bf646\"";

@@ -1088,8 +1088,8 @@ function split(part, known) {
     ({ from: { lot, sub }, amount, place, note, ...v }, tell) => tell(`${grouped(amount)} ${known.unit} of ${lot} split off as ${v.new}`,
       noted({ do: "split", lot, sub, amount, new: v.new, place }, note)));
 }
-const GOODS_BY = ["material", "place"];
-const byChoice = (by) => h("div", { class: "body row filter" }, choice("By what goods are listed", GOODS_BY, by, (it) => go("warehouse", it === "place" && it)));
+const GOODS_BY = ["by material", "by place"];
+const byChoice = (by) => h("div", { class: "body row filter" }, choice("By what goods are listed", GOODS_BY, by, (it) => go("warehouse", it === "by place" && "place")));
 const cameCell = (at) => h("td", { class: "when" }, h("span", {}, dayOf(at), at !== null && h("div", { class: "soft small" }, ageInDays(at, desk.time()))));
 const MOST_READ_LOTS = 3000;
 async function allParts() {
@@ -1110,7 +1110,7 @@ async function places(shown) {
   const { parts, left } = await allParts(), all = partsByPlace(parts), at = shown ?? (isNarrow() ? undefined : all[0]?.place);
   const rows = all.map((it) => row(encodeURIComponent(it.place), [cell(placeLink(it.place)), numberCell(it.parts.length), numberCell(it.materials)],
     `warehouse/place/${encodeURIComponent(it.place)}`, it.place === at));
-  const list = card("Places", null, byChoice("place"), table(["Place", "#Parts", "#Materials"], rows, "Nothing is in stock.", true),
+  const list = card("Places", null, byChoice("by place"), table(["Place", "#Parts", "#Materials"], rows, "Nothing is in stock.", true),
     left.length > 0 && none(`These materials have too many lots to be read here: ${left.join(", ")}.`));
   return ["list", listed(list), at !== undefined && h("div", { class: "stack" }, placeCard(at, all.find((it) => it.place === at)?.parts || []))];
 }
@@ -1147,7 +1147,7 @@ function materialsSide(classes, def) {
   const tools = [csvButton("materials", "materials", () => desk.materials()), button("New class", newClass),
     classes.length > 0 && button("New material", () => newMaterial(classes))];
   const without = none("There is no class yet.");
-  return card("Materials", tools, byChoice("material"), classes.length ? classes.map((it) => classTable(it, def)) : without, more(classes, "classes"));
+  return card("Materials", tools, byChoice("by material"), classes.length ? classes.map((it) => classTable(it, def)) : without, more(classes, "classes"));
 }
 function classTable({ id, name, stocks }, def) {
   const named = (it) => idCell(link("warehouse/" + it.def, it.def), it.name && h("div", { class: "under" }, it.name));
@@ -1455,4 +1455,4 @@ desk.loggedIn().then(nameByLogin).catch((error) => notice("bad", whyNot(error)))
 "##;
 
 /// Its entity tag.
-pub const VIEWS_TAG: &str = "\"a6346c4c8031909bd00bdbff1bc54fd3\"";
+pub const VIEWS_TAG: &str = "\"9e8a9115dbb102dba09b96256ff2a20b\"";

@@ -34,11 +34,13 @@ function shortly(n) {
   return grouped(Number((n / of).toPrecision(3))) + word;
 }
 
+const thick = (across) => Math.max(1, Math.min(32, across * 0.76));
+
 // Bars; each value has its number, its tone, and what is said of it. `mark` is a number with a line of its own.
 export function barPlot(said, values, unit = "", mark = null) {
   const most = Math.max(...values.map((it) => it.n)), top = mark ? Math.max(1.2 * mark, most) : roundUp(most);
   return plot(said, values, top, mark ? [0, mark / 2, mark] : [0, top / 2, top], unit, (x, y, across) => [
-    values.map((it, k) => svg("rect", { class: `column ${it.tone || ""}`.trim(), x: x(k) + across * 0.12, width: Math.max(1, across * 0.76), y: y(it.n),
+    values.map((it, k) => svg("rect", { class: `column ${it.tone || ""}`.trim(), x: x(k + 0.5) - thick(across) / 2, width: thick(across), y: y(it.n),
       height: Math.max(0, y(0) - y(it.n)) }, svg("title", {}, it.said))),
     mark !== null && svg("line", { class: "mark", x1: x(0), x2: x(values.length), y1: y(mark), y2: y(mark) })].filter(Boolean));
 }

@@ -164,13 +164,13 @@ async function yieldPlot(isShown, isBoard) {
     if (!isShown()) return [];
     const { batch, lines } = await desk.finishedBatch(order.order), { product } = await desk.recipeOnce(order.recipe, order.version), it = yieldOf(lines, product);
     if (it) values.push({ ...it, n: it.percent, batch, due: order.due, tone: it.percent < LOW_YIELD ? "bad" : "good", tick: order.due.slice(5),
-      said: `${batch}: ${it.percent.toFixed(1)} %, ${grouped(it.booked)} of ${grouped(it.asked)} ${it.unit}` });
+      said: `${batch}: ${it.percent.toFixed(1)}\u202f%, ${grouped(it.booked)} of ${grouped(it.asked)} ${it.unit}` });
   }
   const asked = values.reduce((sum, it) => sum + it.asked, 0), booked = values.reduce((sum, it) => sum + it.booked, 0);
   const rows = values.map((it) => row(`yield ${it.batch}`, [idCell(batchLink(it.batch)), numberCell(it.asked, it.unit), numberCell(it.booked, it.unit),
     h("td", { class: "num" }, it.percent.toFixed(1))]));
-  const told = `${of}: the last ${counted(values.length, "batch", "batches")} made ${((100 * booked) / asked).toFixed(1)} % of what was asked`;
-  return [!isBoard && plotOf("recipe", "yieldrecipe", "Recipe of the yields", recipes, of), h("p", { class: "none" }, `${told}. Red is below ${LOW_YIELD} %.`), barPlot(told, values, " %", 100),
+  const told = `${of}: the last ${values.length === 1 ? "batch" : `${values.length} batches`} made ${((100 * booked) / asked).toFixed(1)}\u202f% of what was asked`;
+  return [!isBoard && plotOf("recipe", "yieldrecipe", "Recipe of the yields", recipes, of), h("p", { class: "none" }, `${told}. Red is below ${LOW_YIELD}\u202f%.`), barPlot(told, values, "\u202f%", 100),
     valuesOf("Yield", ["Batch", "#Asked", "#Booked", "#Percent"], rows)];
 }
 

@@ -117,7 +117,7 @@ class Today(BrowserTestCase):
         self.whole(tab)
         tab.run("document.querySelectorAll('details').forEach((it) => { it.open = true; })")
         self.check("the yields", self.rows(tab, "Yield"), ["B-1 300 kg 296 kg 98.7"])
-        tab.has("DOUGH: the last 1 batch made 98.7 % of what was asked.")
+        tab.has("DOUGH: the last batch made 98.7 % of what was asked.")
         self.check("the stock today", self.rows(tab, "Stock over")[-1], f"{day(0)} 500 kg")
         tab.has("Flour: 500 kg of 2 lots in stock.")
         self.check("what is due", self.rows(tab, "Orders and batches"), [f"{day(-4)} 2", f"{day(-1)} 1", f"{day(2)} 1"])

@@ -26,10 +26,11 @@ function shortly(n) {
   const [size, word] = SIZES.find(([it]) => n >= it) || [1, ""], of = word === "k" ? 1e3 : size;
   return grouped(Number((n / of).toPrecision(3))) + word;
 }
+const thick = (across) => Math.max(1, Math.min(32, across * 0.76));
 function barPlot(said, values, unit = "", mark = null) {
   const most = Math.max(...values.map((it) => it.n)), top = mark ? Math.max(1.2 * mark, most) : roundUp(most);
   return plot(said, values, top, mark ? [0, mark / 2, mark] : [0, top / 2, top], unit, (x, y, across) => [
-    values.map((it, k) => svg("rect", { class: `column ${it.tone || ""}`.trim(), x: x(k) + across * 0.12, width: Math.max(1, across * 0.76), y: y(it.n),
+    values.map((it, k) => svg("rect", { class: `column ${it.tone || ""}`.trim(), x: x(k + 0.5) - thick(across) / 2, width: thick(across), y: y(it.n),
       height: Math.max(0, y(0) - y(it.n)) }, svg("title", {}, it.said))),
     mark !== null && svg("line", { class: "mark", x1: x(0), x2: x(values.length), y1: y(mark), y2: y(mark) })].filter(Boolean));
 }
@@ -248,13 +249,13 @@ async function yieldPlot(isShown, isBoard) {
     if (!isShown()) return [];
     const { batch, lines } = await desk.finishedBatch(order.order), { product } = await desk.recipeOnce(order.recipe, order.version), it = yieldOf(lines, product);
     if (it) values.push({ ...it, n: it.percent, batch, due: order.due, tone: it.percent < LOW_YIELD ? "bad" : "good", tick: order.due.slice(5),
-      said: `${batch}: ${it.percent.toFixed(1)} %, ${grouped(it.booked)} of ${grouped(it.asked)} ${it.unit}` });
+      said: `${batch}: ${it.percent.toFixed(1)}\u202f%, ${grouped(it.booked)} of ${grouped(it.asked)} ${it.unit}` });
   }
   const asked = values.reduce((sum, it) => sum + it.asked, 0), booked = values.reduce((sum, it) => sum + it.booked, 0);
   const rows = values.map((it) => row(`yield ${it.batch}`, [idCell(batchLink(it.batch)), numberCell(it.asked, it.unit), numberCell(it.booked, it.unit),
     h("td", { class: "num" }, it.percent.toFixed(1))]));
-  const told = `${of}: the last ${counted(values.length, "batch", "batches")} made ${((100 * booked) / asked).toFixed(1)} % of what was asked`;
-  return [!isBoard && plotOf("recipe", "yieldrecipe", "Recipe of the yields", recipes, of), h("p", { class: "none" }, `${told}. Red is below ${LOW_YIELD} %.`), barPlot(told, values, " %", 100),
+  const told = `${of}: the last ${values.length === 1 ? "batch" : `${values.length} batches`} made ${((100 * booked) / asked).toFixed(1)}\u202f% of what was asked`;
+  return [!isBoard && plotOf("recipe", "yieldrecipe", "Recipe of the yields", recipes, of), h("p", { class: "none" }, `${told}. Red is below ${LOW_YIELD}\u202f%.`), barPlot(told, values, "\u202f%", 100),
     valuesOf("Yield", ["Batch", "#Asked", "#Booked", "#Percent"], rows)];
 }
 const STOCK_DAYS = 90, MOST_LOTS = 100, MOST_MOVEMENTS = 500;
@@ -1455,4 +1456,4 @@ desk.loggedIn().then(nameByLogin).catch((error) => notice("bad", whyNot(error)))
 "##;
 
 /// Its entity tag.
-pub const VIEWS_TAG: &str = "\"9e8a9115dbb102dba09b96256ff2a20b\"";
+pub const VIEWS_TAG: &str = "\"03a2f92ff2d504c606200d4a50c0599b\"";

@@ -29,9 +29,11 @@ const unitOf = (nodes, edge) => nodes.get(edge.from).unit || nodes.get(edge.to).
 // What is drawn of a lot or a batch, and of a group of them.
 const boxOf = (node, product, isHere) => ({ unit: node.unit, isHere, isOfLots: Boolean(node.lot), tone: node.recalled ? "recalled" : node.held ? "held" : "",
   texts: [node.lot || node.batch, node.lot ? node.def : product ? `batch of ${product}` : "batch", node.lot ? `${grouped(node.stock)} ${node.unit}` : ""],
-  marks: [node.held && "HELD", node.recalled && "RECALLED"].filter(Boolean).join(" "), place: node.lot ? `quality/lot/${node.lot}` : `quality/batch/${node.batch}` });
+  marks: [node.held && "HELD", node.recalled && "RECALLED"].filter(Boolean).join(" "),
+    place: node.lot ? `quality/lot/${node.lot}` : `quality/batch/${node.batch}` });
 function boxOfGroup(it) {
-  const isOne = it.count === 1, [kind, id] = it.first.split(" "), name = isOne ? id : counted(it.count, it.isOfLots ? "lot" : "batch", it.isOfLots ? "lots" : "batches");
+  const isOne = it.count === 1, [kind, id] = it.first.split(" "), words = it.isOfLots ? ["lot", "lots"] : ["batch", "batches"];
+  const name = isOne ? id : counted(it.count, ...words);
   return { unit: it.unit, isHere: it.side === "here", isOfLots: it.isOfLots, tone: it.recalled ? "recalled" : it.held ? "held" : "",
     texts: [name, it.isOfLots ? it.def : it.def ? `of ${it.def}` : "batch", it.isOfLots ? `${grouped(it.stock)} ${it.unit}` : ""],
     marks: [it.held && [!isOne && grouped(it.held), "HELD"], it.recalled && [!isOne && grouped(it.recalled), "RECALLED"]].flat().filter(Boolean).join(" "),
@@ -40,10 +42,12 @@ function boxOfGroup(it) {
 function picturesOfGroups({ groups, edges, left }, here) {
   const boxes = new Map([...groups].map(([key, it]) => [key, boxOfGroup(it)]));
   const sides = { back: "before it", here: "itself", forward: "of it" };
-  const rows = [...groups.values()].sort((a, b) => a.depth - b.depth || (a.def < b.def ? -1 : 1)).map((it) => row(it.key, [cell(sides[it.side]), cell(it.isOfLots ? "lots" : "batches"), cell(it.def), numberCell(it.count),
+  const sorted = [...groups.values()].sort((a, b) => a.depth - b.depth || (a.def < b.def ? -1 : 1));
+  const rows = sorted.map((it) => row(it.key, [cell(sides[it.side]), cell(it.isOfLots ? "lots" : "batches"), cell(it.def), numberCell(it.count),
     it.isOfLots ? numberCell(it.stock, it.unit) : cell(), numberCell(it.held), numberCell(it.recalled)]));
-  return [picture(boxes, edges, here), left > 0 && none(`${counted(left, "step leads", "steps lead")} back to an earlier material, and ${left === 1 ? "isn't" : "aren't"} drawn.`),
-    h("details", {}, h("summary", {}, "The materials as a table"), table(["Came", "What", "Material", "#Count", "#In stock", "#On hold", "#Recalled"], rows, ""))];
+  const backwards = left > 0 && none(`${counted(left, "step", "steps")} back to an earlier material, not drawn.`);
+  const heads = ["Came", "What", "Material", "#Count", "#In stock", "#On hold", "#Recalled"];
+  return [picture(boxes, edges, here), backwards, h("details", {}, h("summary", {}, "The materials as a table"), table(heads, rows, ""))];
 }
 
 // The edges in words, for those who can't see the picture.
@@ -85,7 +89,8 @@ function picture(boxes, edges, here) {
     [...boxes].map(([name, box]) => nodeBox(box, x(name), y(name), width)));
   // A picture that is a little too wide is made smaller; a wider one is scrolled.
   Object.assign(it.style, { maxWidth: "100%", minWidth: `${Math.round(wide * 0.75)}px`, height: "auto" });
-  return scrolledToHere(h("div", { class: "picture", tabindex: 0, role: "group", "aria-label": "Picture, can be scrolled", "data-of": `${here} ${boxes.size}` }, it));
+  return scrolledToHere(h("div", { class: "picture", tabindex: 0, role: "group", "aria-label": "Picture, can be scrolled",
+    "data-of": `${here} ${boxes.size}` }, it));
 }
 // A picture begins at what is looked at, and is left where it was scrolled to as long as it is of that.
 function scrolledToHere(frame) {

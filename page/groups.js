@@ -36,7 +36,8 @@ export function groupsOf(nodes, edges, here, isBack) {
   for (const [name, node] of nodes) {
     const def = node.def || made.get(name) || "", side = name === here ? "here" : isBack(name) ? "back" : "forward";
     const key = `${side} ${node.lot ? "lots" : "batches"} ${def}`;
-    if (!groups.has(key)) groups.set(key, { key, side, def, isOfLots: Boolean(node.lot), unit: node.unit, count: 0, stock: 0, held: 0, recalled: 0, first: name, depth: Infinity });
+    if (!groups.has(key)) groups.set(key, { key, side, def, isOfLots: Boolean(node.lot), unit: node.unit, count: 0, stock: 0, held: 0, recalled: 0,
+      first: name, depth: Infinity });
     const it = groups.get(key);
     it.count += 1;
     it.stock += node.stock || 0;

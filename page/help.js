@@ -15,8 +15,8 @@ const BOOKINGS = "A booking can't be taken back: book the opposite, or scrap. It
 // The words of the desk, each with those that it is taken for, by what they are about.
 const WORDS = {
   "Orders and recipes": {
-    "Draft, Approve, Withdraw": "A new version of a recipe is a draft. Once it is approved, orders of it can be taken in and released. A withdrawn one is for no "
-      + "further release; batches go on.",
+    "Draft, Approve, Withdraw": "A new version of a recipe is a draft. Once it is approved, orders of it can be taken in and released. A withdrawn "
+      + "one is for no further release; batches go on.",
     "Order, Batch": "An order says what is wanted by when. Its release makes one batch, which the shift makes.",
     "Open, Released, Finished": "An open order waits for its release. A released one has a batch. It is finished once that batch is closed.",
     "Late": "Its due date is over, and it is neither finished nor cancelled.",
@@ -32,12 +32,14 @@ const WORDS = {
     "Parameter": "A value that the recipe gives for the phase after it, such as a temperature. The desk notes no measured value: book a step with a note.",
   },
   "Lots": {
-    "Class, Material, Lot, Part": "A class is a group of materials. A lot is an amount of one material that is known by its id. Its parts are where it is: F-1/2 is "
-      + "part 2 of lot F-1.",
+    "Class, Material, Lot, Part": "A class is a group of materials. A lot is an amount of one material that is known by its id. Its parts are where it "
+      + "is: F-1/2 is part 2 of lot F-1.",
     "Free, On hold, Recalled": "Free goods may be used. A hold keeps one lot from being consumed, split and merged, a recall also all that came of it.",
-    "Hold, Recall": "Hold what may be wrong, and take the hold off once it is known. Recall what is wrong: it also reaches what was made of it, and running batches.",
+    "Hold, Recall": "Hold what may be wrong, and take the hold off once it is known. Recall what is wrong: it also reaches what was made of it, and "
+      + "running batches.",
     "Take off, Lift": "A hold is taken off, a recall is lifted. The desk keeps who did it.",
-    "Move, Split": "Move brings an amount to another place: it stays the same lot, as another part; the ledger says divided. Split makes an amount a lot of its own.",
+    "Move, Split": "Move brings an amount to another place: it stays the same lot, as another part; the ledger says divided. Split makes an amount a "
+      + "lot of its own.",
     "Merge": "Makes one new lot of parts of several lots of the same material.",
     "Scrap": "Books goods out that are spoiled or lost.",
     "Genealogy, Ledger, Record": "The genealogy shows what a lot came of and what came of it. The ledger has each booking of a lot, the record all of a batch.",
@@ -54,7 +56,8 @@ export function help() {
   const words = Object.entries(WORDS).map(([about, all]) => [h("h3", {}, about),
     h("dl", {}, Object.entries(all).map(([name, what]) => [h("dt", {}, name), h("dd", {}, what)]))]);
   const end = h("div", { class: "end" }, h("button", { class: "main" }, "Close"));
-  const it = h("form", { method: "dialog", class: "help" }, h("h2", { id: "title" }, "Keys and help"), h("div", { class: "keys" }, [...KEYS_OF_VIEWS, ...OTHER_KEYS].map(key)),
+  const it = h("form", { method: "dialog", class: "help" }, h("h2", { id: "title" }, "Keys and help"), h("div", { class: "keys" },
+    [...KEYS_OF_VIEWS, ...OTHER_KEYS].map(key)),
     h("p", { class: "soft" }, SCANS), h("p", { class: "soft" }, BOOKINGS), h("h2", {}, "Words"), words, end);
   openDialog(it, it.querySelector("button"));
 }

@@ -13,10 +13,14 @@ import { moveGoods, scrap } from "./goods.js";
 
 // By what the warehouse lists its goods.
 const GOODS_BY = ["by material", "by place"];
-export const byChoice = (by) => h("div", { class: "body row filter" }, choice("By what goods are listed", GOODS_BY, by, (it) => go("warehouse", it === "by place" && "place")));
+export const byChoice = (by) => h("div", { class: "body row filter" }, choice("By what goods are listed", GOODS_BY, by,
+  (it) => go("warehouse", it === "by place" && "place")));
 
 // The day on which a lot came, and how old it is.
-export const cameCell = (at) => h("td", { class: "when" }, h("span", {}, dayOf(at), at !== null && h("div", { class: "soft small" }, ageInDays(at, desk.time()))));
+export function cameCell(at) {
+  const age = at !== null && h("div", { class: "soft small" }, ageInDays(at, desk.time()));
+  return h("td", { class: "when" }, h("span", {}, dayOf(at), age));
+}
 
 // The parts of all lots in stock, of so many materials and lots at most, each with its material and unit; `left` has the materials that aren't read.
 const MOST_READ_LOTS = 3000;
@@ -48,9 +52,11 @@ export async function places(shown) {
 // What is at one place, the oldest first, and what it comes to.
 function placeCard(place, parts) {
   const name = place || "no place", marks = (it) => it.barred && [" ", pill(it.barred, it.held ? "warn" : "bad")];
-  const buttons = (it) => [button("Label", () => showLabels(it.lot, it.sub)), button("Move", () => moveGoods(it, it)), button("Scrap", () => scrap(it, it), "bad")];
+  const buttons = (it) => [button("Label", () => showLabels(it.lot, it.sub)), button("Move", () => moveGoods(it, it)),
+    button("Scrap", () => scrap(it, it), "bad")];
   const rows = parts.map((it) => row(`${it.lot}/${it.sub}`, [idCell(lotLink(it.lot, it.sub), marks(it)),
-    cell(link("warehouse/" + it.def, it.def), it.name && h("div", { class: "soft small" }, it.name)), cameCell(it.at), numberCell(it.stock, it.unit), buttonsCell(buttons(it))]));
+    cell(link("warehouse/" + it.def, it.def), it.name && h("div", { class: "soft small" }, it.name)), cameCell(it.at), numberCell(it.stock, it.unit),
+    buttonsCell(buttons(it))]));
   const totals = new Map();
   for (const it of parts) totals.set(it.def, { ...it, sum: (totals.get(it.def)?.sum || 0) + it.stock });
   const sums = [...totals.values()].map((it) => row(`total ${it.def}`, [idCell(it.def), numberCell(it.sum, it.unit)]));

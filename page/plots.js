@@ -56,6 +56,7 @@ export function stepPlot(said, values, unit = "") {
 
 // The values in words, for those who can't see the plot.
 export function valuesOf(what, heads, rows) {
-  return h("details", { class: "noprint" }, h("summary", { "aria-label": `${what}: the values as a table` }, "The values as a table"), table(heads, rows, "", true));
+  return h("details", { class: "noprint" }, h("summary", { "aria-label": `${what}: the values as a table` }, "The values as a table"), table(heads, rows,
+    "", true));
 }
 export const valueRow = (name, ...values) => row(`value ${name}`, [cell(name), ...values.map(([n, unit]) => numberCell(n, unit))]);

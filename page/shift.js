@@ -40,7 +40,8 @@ export async function shift([id]) {
     : desk.batches(Infinity))).map((it) => ({ ...it, ...it.planned, closed: areClosedShown })));
   const without = card("No batch", null, none("Once an order is released, its batch is started, booked and closed here."));
   const one = shown ? await batchCards(shown) : desk.seq === 0 ? firstSteps() : !isNarrow() && without;
-  return ["list", listed(card("Batches", [csv, which], !areClosedShown && unitRow(read, unit), all, more(batches, areClosedShown ? "closed" : "batches"))), h("div", { class: "stack" }, one)];
+  return ["list", listed(card("Batches", [csv, which], !areClosedShown && unitRow(read, unit), all, more(batches, areClosedShown ? "closed" : "batches"))),
+    h("div", { class: "stack" }, one)];
 }
 // The units of the next phases, of which one can be chosen: what is left is the unit's worklist. So many batches are read then.
 const MOST_READ_BATCHES = 2000;
@@ -61,7 +62,8 @@ function batchRow(batch, isShown, isClosed) {
   const next = batch.phase ? `next ${batch.phase} on ${batch.phase_unit}, ${batch.next} of ${batch.phases}` : "all phases done";
   const cells = [idCell(batchLink(batch.batch), planned && h("div", { class: "under" }, planned.title || planned.product), small(batch.order)),
     cell(pill(batch.state, TONES[batch.state]), small(next), small("since ", h("span", { class: "when" }, moment(batch.at)))),
-    h("td", { class: "num" }, planned && h("span", {}, isClosed ? planned.due : dueMark(planned.due), small(`${grouped(planned.size)} ${planned.unit || ""}`)))];
+    h("td", { class: "num" }, planned && h("span", {}, isClosed ? planned.due : dueMark(planned.due),
+      small(`${grouped(planned.size)} ${planned.unit || ""}`)))];
   return row(batch.batch, cells, "shift/" + batch.batch, isShown);
 }
 function dueMark(due) {
@@ -80,7 +82,8 @@ function progressCard(batch) {
   const known = [fact("Order", link("planner/" + batch.order, batch.order)), fact("Recipe", `${batch.recipe} ${batch.version}`),
     fact("Size", grouped(batch.size)), fact("Attempt", batch.attempt), fact("Phases done", `${done} of ${batch.phases}`)];
   const tools = [pill(batch.closed ? "closed" : batch.state, batch.closed ? "" : TONES[batch.state]),
-    link("quality/batch/" + batch.batch, "Record and genealogy"), button("Sheet", () => showSheet(batch.batch), null, { "aria-label": `Sheet of ${batch.batch}` })];
+    link("quality/batch/" + batch.batch, "Record and genealogy"), button("Sheet", () => showSheet(batch.batch), null,
+      { "aria-label": `Sheet of ${batch.batch}` })];
   return card(`Batch ${batch.batch}`, tools, h("div", { class: "body" }, h("div", { class: "facts" }, known), progressBar(done, batch.phases),
     h("p", { class: "soft small" }, path), parametersOf(next ? `For ${next.path}` : "After the phases", next ? next.parameters : last),
     h("p", { class: "row" }, moves(batch, next))), procedureTable(phases, last, done));
@@ -95,7 +98,8 @@ function parametersOf(name, parameters) {
 function procedureTable(phases, last, done) {
   if (!last.length && phases.every((it) => !it.parameters.length)) return null;
   const values = (parameters) => parameters.map((it) => h("div", {}, it.name, " ", h("b", {}, it.value)));
-  const rows = phases.map((it, k) => row(`phase ${k + 1}`, [numberCell(k + 1), cell(values(it.parameters)), cell(it.path), cell(k < done ? "done" : k === done ? "next" : "")]));
+  const rows = phases.map((it, k) => row(`phase ${k + 1}`, [numberCell(k + 1), cell(values(it.parameters)), cell(it.path),
+    cell(k < done ? "done" : k === done ? "next" : "")]));
   if (last.length) rows.push(row("after the phases", [cell(), cell(values(last)), cell("after the phases"), cell()]));
   return h("details", {}, h("summary", {}, "All phases with their parameters"), table(["#No", "Parameters", "Phase", ""], rows, "", true));
 }
@@ -193,7 +197,8 @@ async function consume(batch, line, ...scan) {
   const { def, unit } = line;
   let parts;
   try { await desk.look(); parts = await partsToOffer(def); } catch (error) { return notice("bad", error.message); }
-  if (parts.every((it) => it.barred) && !scan.length) return notice("bad", parts.length ? `All ${def} in stock is on hold or recalled.` : `There is no ${def} in stock.`);
+  if (parts.every((it) => it.barred) && !scan.length) return notice("bad",
+    parts.length ? `All ${def} in stock is on hold or recalled.` : `There is no ${def} in stock.`);
   const left = Math.max(1, line.asked - line.booked);
   let offered = left;
   const change = (inputs, part) => {

@@ -89,8 +89,8 @@ operator.addEventListener("input", () => operator.readOnly || keep("operator", o
 operator.addEventListener("change", () => nameOperator(operator.value));
 operator.addEventListener("keydown", (event) => { if (event.key === "Enter") view.focus(); });
 
-// Every 20 seconds, while the page is seen, it looks whether there are new bookings, and draws its view anew where nobody is at work in it; a view that says how
-// long something lasts also where a minute is over.
+// Every 20 seconds, while the page is seen, it looks whether there are new bookings, and draws its view anew where nobody is at work in it; a view that
+// says how long something lasts also where a minute is over.
 const TURN = 20, MINUTE = 60;
 const isOld = () => isDayOver() || (["today", "board"].includes(place()[0]) && isDrawnBefore(MINUTE));
 async function lookAgain() {

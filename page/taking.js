@@ -20,5 +20,6 @@ export function partsByPlace(parts) {
   const all = new Map();
   for (const it of parts) all.set(it.place, [...(all.get(it.place) || []), it]);
   const byAge = (a, b) => (a.seq ?? 0) - (b.seq ?? 0) || (a.lot < b.lot ? -1 : a.lot > b.lot ? 1 : a.sub - b.sub);
-  return [...all].sort(([a], [b]) => (a < b ? -1 : 1)).map(([place, some]) => ({ place, parts: some.sort(byAge), materials: new Set(some.map((it) => it.def)).size }));
+  return [...all].sort(([a], [b]) => (a < b ? -1 : 1)).map(([place, some]) => ({ place, parts: some.sort(byAge),
+    materials: new Set(some.map((it) => it.def)).size }));
 }

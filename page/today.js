@@ -77,12 +77,15 @@ function tiles(it, isBoard) {
   const first = (list, place, name) => list.slice(0, 2).map((one) => [place(one), name(one)]);
   const figures = [
     { name: "Late", list: all[0], tone: "bad", place: of(orders.late, batches.late), more: due(orders.late, batches.late) },
-    { name: "Due today", list: all[1], tone: "warn", place: orders.today.length ? `planner?text=${it.day}` : of(orders.today, batches.today), more: due(orders.today, batches.today, `planner?text=${it.day}`) },
+    { name: "Due today", list: all[1], tone: "warn", place: orders.today.length ? `planner?text=${it.day}` : of(orders.today, batches.today),
+      more: due(orders.today, batches.today, `planner?text=${it.day}`) },
     { name: "Running", list: running, tone: "good", place: "shift",
-      more: [idle.length && ["shift", `${grouped(idle.length)} to be started`], broken.length && ["shift", `${grouped(broken.length)} paused, held or ended early`]] },
+      more: [idle.length && ["shift", `${grouped(idle.length)} to be started`],
+        broken.length && ["shift", `${grouped(broken.length)} paused, held or ended early`]] },
     { name: "Waiting", list: it.orders, place: "planner", more: [[null, `${grouped(soon.length)} due within ${it.ahead}`]] },
     { name: "On hold", list: lots, tone: "warn", place: "quality", more: first(lots, (one) => `quality/lot/${one}`, (one) => one) },
-    { name: "Recalled", list: it.recalls, tone: "bad", place: "quality", more: first(it.recalls, (one) => `quality/recall/${one.recall}`, (one) => one.recall) },
+    { name: "Recalled", list: it.recalls, tone: "bad", place: "quality",
+      more: first(it.recalls, (one) => `quality/recall/${one.recall}`, (one) => one.recall) },
     { name: "Short", list: it.short, tone: "bad", place: it.short.length ? `warehouse/${it.short[0].def}` : "warehouse",
       more: first(it.short, (one) => `warehouse/${one.def}`, (one) => one.def) },
   ];
@@ -98,7 +101,8 @@ function runningBatches({ batches }, isBoard) {
   const rows = firstOf(going, isBoard).map((it) => row(it.batch, [idCell(batchLink(it.batch), made(it)), cell(pill(it.state, TONES[it.state])),
     cell(it.phase ? [h("div", {}, it.phase), h("div", { class: "soft small nowrap" }, `on ${it.phase_unit}`)] : "all phases done"),
     cell(h("div", {}, lengthOfTime(now - it.at)), !isBoard && h("div", { class: "soft small" }, moment(it.at)))]));
-  return card("Running, the longest first", null, table(["Batch", "State", "Next", "Last step ago"], rows, "No batch runs."), restOf(going, "shift", "all batches"));
+  return card("Running, the longest first", null, table(["Batch", "State", "Next", "Last step ago"], rows, "No batch runs."),
+    restOf(going, "shift", "all batches"));
 }
 
 // The holds and recalls that came last.
@@ -128,12 +132,14 @@ function shortCard({ short, until, ahead, isWhole }, isBoard) {
 const BEFORE = 14, DAYS = 29;
 function dueCard({ day, orders, dated }) {
   const { days, before, after } = dueByDay([...orders, ...dated], dayAfter(day, -BEFORE), DAYS), shortDay = (it) => it.slice(5);
-  const values = days.map((it) => ({ n: it.count, tone: it.day < day ? "bad" : it.day === day ? "warn" : "", tick: it.day === day ? `today, ${shortDay(day)}` : shortDay(it.day),
+  const values = days.map((it) => ({ n: it.count, tone: it.day < day ? "bad" : it.day === day ? "warn" : "",
+    tick: it.day === day ? `today, ${shortDay(day)}` : shortDay(it.day),
     said: `${it.day}: ${grouped(it.count)}` }));
   const late = before + days.filter((it) => it.day < day).reduce((sum, it) => sum + it.count, 0);
   const rest = [before && `${grouped(before)} due before these days`, after && `${grouped(after)} after them`].filter(Boolean).join(", ");
   return card("Orders and batches by their due dates", null, barPlot(`Open orders and batches by their due dates, ${late} late`, values),
-    rest && h("p", { class: "none" }, `${rest}.`), valuesOf("Due dates", ["Due", "#Open"], days.filter((it) => it.count).map((it) => valueRow(it.day, [it.count]))));
+    rest && h("p", { class: "none" }, `${rest}.`), valuesOf("Due dates", ["Due", "#Open"],
+      days.filter((it) => it.count).map((it) => valueRow(it.day, [it.count]))));
 }
 
 // A field that chooses what a plot is of.
@@ -159,18 +165,22 @@ async function lastFinished(recipe, isShown) {
 }
 async function yieldPlot(isShown, isBoard) {
   const { of, found, recipes } = await lastFinished(textOf("recipe"), isShown), values = [];
-  if (!found.length) return [!isBoard && recipes.length > 1 && plotOf("recipe", "yieldrecipe", "Recipe of the yields", recipes, of), none("No order is finished.")];
+  if (!found.length) return [!isBoard && recipes.length > 1 && plotOf("recipe", "yieldrecipe", "Recipe of the yields", recipes, of),
+    none("No order is finished.")];
   for (const order of found) {
     if (!isShown()) return [];
-    const { batch, lines } = await desk.finishedBatch(order.order), { product } = await desk.recipeOnce(order.recipe, order.version), it = yieldOf(lines, product);
+    const { batch, lines } = await desk.finishedBatch(order.order), { product } = await desk.recipeOnce(order.recipe, order.version);
+    const it = yieldOf(lines, product);
     if (it) values.push({ ...it, n: it.percent, batch, due: order.due, tone: it.percent < LOW_YIELD ? "bad" : "good", tick: order.due.slice(5),
       said: `${batch}: ${it.percent.toFixed(1)}\u202f%, ${grouped(it.booked)} of ${grouped(it.asked)} ${it.unit}` });
   }
   const asked = values.reduce((sum, it) => sum + it.asked, 0), booked = values.reduce((sum, it) => sum + it.booked, 0);
   const rows = values.map((it) => row(`yield ${it.batch}`, [idCell(batchLink(it.batch)), numberCell(it.asked, it.unit), numberCell(it.booked, it.unit),
     h("td", { class: "num" }, it.percent.toFixed(1))]));
-  const told = `${of}: the last ${values.length === 1 ? "batch" : `${values.length} batches`} made ${((100 * booked) / asked).toFixed(1)}\u202f% of what was asked`;
-  return [!isBoard && plotOf("recipe", "yieldrecipe", "Recipe of the yields", recipes, of), h("p", { class: "none" }, `${told}. Red is below ${LOW_YIELD}\u202f%.`), barPlot(told, values, "\u202f%", 100),
+  const which = values.length === 1 ? "batch" : `${values.length} batches`, percent = ((100 * booked) / asked).toFixed(1);
+  const told = `${of}: the last ${which} made ${percent}\u202f% of what was asked`;
+  return [!isBoard && plotOf("recipe", "yieldrecipe", "Recipe of the yields", recipes, of),
+    h("p", { class: "none" }, `${told}. Red is below ${LOW_YIELD}\u202f%.`), barPlot(told, values, "\u202f%", 100),
     valuesOf("Yield", ["Batch", "#Asked", "#Booked", "#Percent"], rows)];
 }
 
@@ -179,7 +189,8 @@ const STOCK_DAYS = 90, MOST_LOTS = 100, MOST_MOVEMENTS = 500;
 async function stockPlot({ stocks, short, day }, isShown, isBoard) {
   const there = [...stocks.values()].filter((it) => it.lots > 0), most = [...there].sort((a, b) => b.lots - a.lots)[0];
   const def = textOf("def") || short.find((it) => stocks.get(it.def)?.lots)?.def || most?.def, known = stocks.get(def);
-  const pick = !isBoard && there.length > 0 && plotOf("def", "stockdef", "Material of the stock", [...new Set([...there.map((it) => it.def), def])].sort(), def);
+  const defs = [...new Set([...there.map((it) => it.def), def])].sort();
+  const pick = !isBoard && there.length > 0 && plotOf("def", "stockdef", "Material of the stock", defs, def);
   if (!known?.lots) return [pick, none(def ? `There is no ${def} in stock.` : "Nothing is in stock.")];
   const lots = await desk.stock(def, MOST_LOTS), ledgers = [];
   for (const { lot, stock } of lots) {
@@ -189,7 +200,8 @@ async function stockPlot({ stocks, short, day }, isShown, isBoard) {
   }
   const left = lots.length - ledgers.length, days = stockByDay(ledgers, dayAfter(day, 1 - STOCK_DAYS), STOCK_DAYS), now = days.at(-1).stock;
   const told = `${known.name || def}: ${grouped(now)} ${known.unit} of ${counted(ledgers.length, "lot", "lots")} in stock`;
-  const limits = [lots.more && `the ${MOST_LOTS} oldest lots alone`, left > 0 && `${counted(left, "lot", "lots")} of more than ${MOST_MOVEMENTS} bookings left out`];
+  const limits = [lots.more && `the ${MOST_LOTS} oldest lots alone`,
+    left > 0 && `${counted(left, "lot", "lots")} of more than ${MOST_MOVEMENTS} bookings left out`];
   const said = ["Lots that are used up meanwhile aren't counted", ...limits].filter(Boolean).join(", ");
   const weeks = days.filter((it, k) => (STOCK_DAYS - 1 - k) % 7 === 0);
   return [pick, h("p", { class: "none" }, `${told}. ${said}.`), stepPlot(`${told}, day by day`, days.map((it) => ({ n: it.stock, tick: it.day.slice(5) })), ""),
@@ -197,6 +209,7 @@ async function stockPlot({ stocks, short, day }, isShown, isBoard) {
 }
 
 function boardCard() {
-  return card("The board", null, h("div", { class: "body" }, h("p", {}, link(location.hash.replace(/^#?\w*/, "board"), "Open the board"), ": the same in large letters, without buttons, for a screen on the wall. "
-    + "Esc leads back here."), alarmBox()));
+  const board = link(location.hash.replace(/^#?\w*/, "board"), "Open the board");
+  const what = ": the same in large letters, without buttons, for a screen on the wall. Esc leads back here.";
+  return card("The board", null, h("div", { class: "body" }, h("p", {}, board, what), alarmBox()));
 }

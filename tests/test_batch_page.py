@@ -47,7 +47,8 @@ class Worklist(BrowserTestCase):
             self.served.told(at=self.served.ask("/moment")["at"], by="anna", do="release", order=order, batch=batch)
         rows = "[...document.querySelectorAll('.listed [data-row]')].map((it) => it.dataset.row).join(' ')"
         tab = self.open("shift")
-        self.check("the units", tab.run("[...document.getElementById('batchunit').options].map((it) => it.label)"), ["all units", "next on MIX", "next on OVEN"])
+        units = tab.run("[...document.getElementById('batchunit').options].map((it) => it.label)")
+        self.check("the units", units, ["all units", "next on MIX", "next on OVEN"])
         tab.fill("batchunit", "MIX")
         tab.until(f"{rows} === 'B-2 B-5'", "the batches of MIX")
         self.check("the address", tab.run("location.hash"), "#shift?unit=MIX")

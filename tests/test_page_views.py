@@ -124,7 +124,7 @@ class Views(BrowserTestCase):
         tab.lacks("Take orders in")
         tab.click("?")
         tab.has("Move, Split", FORM)
-        for it in ("Complete, Close", "Hold, Recall", "Stop, Abort", "Free, On hold, Recalled", "Draft, Approve, Withdraw", "Take off, Lift", "Finish", "0 today"):
+        for it in ("Complete, Close", "Hold, Recall", "Stop, Abort", "Free, On hold, Recalled", "Draft, Approve, Withdraw", "Take off, Lift", "0 today"):
             tab.has(it, FORM)
         tab.key("Escape")
         self.served.start_again()
@@ -147,7 +147,9 @@ class Views(BrowserTestCase):
         self.serve()
         self.served.told(at=self.now(), by="ben", do="hold", lot="F-2", hold="H-2", note="still wet")
         tab = self.open("planner")
-        for place in ("today", "planner", "planner/O-4", "shift/B-3", "warehouse/place/A1", "warehouse/FLOUR", "quality", "quality/lot/F-2", "quality/batch/B-1"):
+        for place in (
+            "today", "planner", "planner/O-4", "shift/B-3", "warehouse/place/A1", "warehouse/FLOUR", "quality", "quality/lot/F-2", "quality/batch/B-1",
+        ):
             self.go(tab, place)
             self.check(f"names in {place} that are there twice", tab.run(TWICE), [])
         self.go(tab, "planner")

@@ -9,7 +9,8 @@ from tests.support.pages import MORNINGS, BrowserTestCase
 
 # The figures, by their names, and where each leads.
 FIGURES = "Object.fromEntries([...document.querySelectorAll('.tile')].map((it) => [it.querySelector('h2').innerText, it.querySelector('.number').innerText]))"
-PLACES = "Object.fromEntries([...document.querySelectorAll('.tile')].map((it) => [it.querySelector('h2').innerText, it.querySelector('a.number').getAttribute('href')]))"
+PLACES = """Object.fromEntries([...document.querySelectorAll(".tile")].map((it) => [it.querySelector("h2").innerText,
+  it.querySelector("a.number").getAttribute("href")]))"""
 LINKS = "[...document.querySelectorAll('.tile p a')].map((it) => [it.innerText, it.getAttribute('href')])"
 
 # What the mornings come to: an order that isn't released and two batches are late, two batches run, two orders wait, and F-2 is on hold.

@@ -51,7 +51,8 @@ test("a yield is what was booked of the product against what was asked of it, an
 
 test("rows of a ledger bring goods to a lot, take them from it, or leave it as it is", () => {
   const change = (kind, to = null) => changeOf({ kind, amount: 5, to }, "F-1");
-  const found = { received: change("received"), produced: change("produced"), consumed: change("consumed"), scrapped: change("scrapped"), divided: change("divided", "F-1"),
+  const found = { received: change("received"), produced: change("produced"), consumed: change("consumed"), scrapped: change("scrapped"),
+    divided: change("divided", "F-1"),
     from: change("split", "F-2"), of: change("split", "F-1"), into: change("merged", "F-1"), gone: change("merged", "F-3") };
   assert.deepEqual(found, { received: 5, produced: 5, consumed: -5, scrapped: -5, divided: 0, from: -5, of: 5, into: 5, gone: -5 });
 });

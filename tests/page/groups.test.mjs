@@ -18,8 +18,10 @@ test("a long chain needs no deep stack, and a cycle ends", () => {
   assert.deepEqual([...depthsOf(["a", "b"], [edge("a", "b"), edge("b", "a")])], []);
 });
 
-const NODES = named([lot("F-1", "FLOUR", 5), lot("F-2", "FLOUR", 7, { held: true }), { batch: "B-1" }, { batch: "B-2" }, lot("D-1", "DOUGH"), lot("D-2", "DOUGH", 3, { recalled: true })]);
-const EDGES = [edge("lot F-1", "batch B-1", 10), edge("lot F-2", "batch B-2", 20), edge("lot F-1", "batch B-2", 1), edge("batch B-1", "lot D-1", 9), edge("batch B-2", "lot D-2", 8)];
+const NODES = named([lot("F-1", "FLOUR", 5), lot("F-2", "FLOUR", 7, { held: true }), { batch: "B-1" }, { batch: "B-2" }, lot("D-1", "DOUGH"), lot("D-2",
+  "DOUGH", 3, { recalled: true })]);
+const EDGES = [edge("lot F-1", "batch B-1", 10), edge("lot F-2", "batch B-2", 20), edge("lot F-1", "batch B-2", 1), edge("batch B-1", "lot D-1", 9),
+  edge("batch B-2", "lot D-2", 8)];
 
 test("lots of a material and batches that made one are groups, with what they come to", () => {
   const { groups, edges, left } = groupsOf(NODES, EDGES, "lot NONE", () => true);
@@ -39,6 +41,7 @@ test("a step to a group that begins no later is counted and not shown, so that g
   const nodes = named([lot("A-1", "A"), { batch: "B-1" }, lot("C-1", "C"), { batch: "B-2" }, lot("A-2", "A")]);
   const edges = [edge("lot A-1", "batch B-1"), edge("batch B-1", "lot C-1"), edge("lot C-1", "batch B-2"), edge("batch B-2", "lot A-2")];
   const found = groupsOf(nodes, edges, "lot NONE", () => true);
-  assert.deepEqual(found.edges.map((it) => `${it.from} to ${it.to}`), ["back lots A to back batches C", "back batches C to back lots C", "back lots C to back batches A"]);
+  assert.deepEqual(found.edges.map((it) => `${it.from} to ${it.to}`), ["back lots A to back batches C", "back batches C to back lots C",
+    "back lots C to back batches A"]);
   assert.equal(found.left, 1);
 });

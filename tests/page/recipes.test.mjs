@@ -15,7 +15,8 @@ test("small letters, empty lines and further spaces are taken", () => {
 });
 
 test("a line that can't be read is named by its number", () => {
-  const wrong = ["in FLOUR", "in FLOUR 1 2", "in FLOUR x", "in 1FLOUR 2", "in FLOUR 12345678901234567", "add FLOUR 2", "par", "phase MIX BLEND", "phase A B C D"];
+  const wrong = ["in FLOUR", "in FLOUR 1 2", "in FLOUR x", "in 1FLOUR 2", "in FLOUR 12345678901234567", "add FLOUR 2", "par", "phase MIX BLEND",
+    "phase A B C D"];
   for (const line of wrong) assert.deepEqual(recipeLines(`in FLOUR 1\n${line}`), [null, `Line 2 can't be read. ${LINES_HINT}`], line);
 });
 
@@ -41,7 +42,8 @@ test("amounts are scaled as the desk scales them", () => {
 
 test("parameters belong to the phase after them, and those after the last phase to none", () => {
   const par = (name) => ({ kind: "par", name, value: "1" }), phase = (path) => ({ kind: "phase", path });
-  const { phases, last } = procedureOf([{ kind: "in", def: "FLOUR" }, par("A"), par("B"), phase("P1"), phase("P2"), par("C"), { kind: "out", def: "DOUGH" }, phase("P3"), par("D")]);
+  const { phases, last } = procedureOf([{ kind: "in", def: "FLOUR" }, par("A"), par("B"), phase("P1"), phase("P2"), par("C"), { kind: "out", def: "DOUGH" },
+    phase("P3"), par("D")]);
   assert.deepEqual(phases.map((it) => [it.path, it.parameters.map((one) => one.name).join("")]), [["P1", "AB"], ["P2", ""], ["P3", "C"]]);
   assert.deepEqual(last, [par("D")]);
   assert.deepEqual(procedureOf([]), { phases: [], last: [] });

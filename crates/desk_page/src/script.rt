@@ -355,7 +355,8 @@ function partsByPlace(parts) {
   const all = new Map();
   for (const it of parts) all.set(it.place, [...(all.get(it.place) || []), it]);
   const byAge = (a, b) => (a.seq ?? 0) - (b.seq ?? 0) || (a.lot < b.lot ? -1 : a.lot > b.lot ? 1 : a.sub - b.sub);
-  return [...all].sort(([a], [b]) => (a < b ? -1 : 1)).map(([place, some]) => ({ place, parts: some.sort(byAge), materials: new Set(some.map((it) => it.def)).size }));
+  return [...all].sort(([a], [b]) => (a < b ? -1 : 1)).map(([place, some]) => ({ place, parts: some.sort(byAge),
+    materials: new Set(some.map((it) => it.def)).size }));
 }
 const ORDER_SORTS = ["due", "order", "priority", "recipe", "size"];
 const compared = (a, b) => (a < b ? -1 : a > b ? 1 : 0);
@@ -456,7 +457,8 @@ function groupsOf(nodes, edges, here, isBack) {
   for (const [name, node] of nodes) {
     const def = node.def || made.get(name) || "", side = name === here ? "here" : isBack(name) ? "back" : "forward";
     const key = `${side} ${node.lot ? "lots" : "batches"} ${def}`;
-    if (!groups.has(key)) groups.set(key, { key, side, def, isOfLots: Boolean(node.lot), unit: node.unit, count: 0, stock: 0, held: 0, recalled: 0, first: name, depth: Infinity });
+    if (!groups.has(key)) groups.set(key, { key, side, def, isOfLots: Boolean(node.lot), unit: node.unit, count: 0, stock: 0, held: 0, recalled: 0,
+      first: name, depth: Infinity });
     const it = groups.get(key);
     it.count += 1;
     it.stock += node.stock || 0;
@@ -1502,4 +1504,4 @@ function bookingForm(title, fields, label, take, more) {
 "##;
 
 /// Its entity tag.
-pub const SCRIPT_TAG: &str = "\"359f374f8f530a33fb7719d1cc09dd03\"";
+pub const SCRIPT_TAG: &str = "\"267eda8cb6fb626c8482cec0d339df09\"";

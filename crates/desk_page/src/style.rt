@@ -137,7 +137,8 @@ input[type=checkbox] { width: 17px; height: 17px; }
 }
 .pill.good { background: var(--good-ground); color: var(--good); } .pill.warn { background: var(--warn-ground); color: var(--warn); }
 .pill.bad { background: var(--bad-ground); color: var(--bad); }
-.parameters { background: var(--chosen); border-radius: 6px; padding: 8px 12px; margin: 8px 0; } .facts { display: flex; flex-wrap: wrap; gap: 6px 22px; } .facts div { color: var(--soft); font-size: 13px; }
+.parameters { background: var(--chosen); border-radius: 6px; padding: 8px 12px; margin: 8px 0; } .facts { display: flex; flex-wrap: wrap; gap: 6px 22px; }
+.facts div { color: var(--soft); font-size: 13px; }
 .facts b { display: block; color: var(--ink); font-size: 15px; font-weight: 600; overflow-wrap: anywhere; }
 .bar { height: 6px; border-radius: 3px; background: var(--idle-ground); overflow: hidden; margin: 10px 0 4px; }
 .bar i { display: block; height: 100%; background: var(--accent); }
@@ -199,9 +200,11 @@ dialog:has(.balance) { width: min(1240px, 96vw); } .balance th:first-child, .bal
 .tile { padding: 10px 14px; border-top: 4px solid var(--edge); } .tile h2 { font-size: 14px; color: var(--soft); margin: 0; }
 .tile .number { display: inline-block; min-width: 44px; font-size: 34px; line-height: 44px; font-weight: 600; color: inherit; text-decoration: none; }
 .tile a.number:hover { text-decoration: underline; } .tile p { display: grid; gap: 2px; font-size: 13px; margin: 0; justify-items: start; color: var(--soft); }
-.tile.bad { border-top-color: #c2333f; } .tile.bad .number { color: var(--bad); } .tile.warn { border-top-color: #c08a1e; } .tile.warn .number { color: var(--warn); }
+.tile.bad { border-top-color: #c2333f; } .tile.bad .number { color: var(--bad); } .tile.warn { border-top-color: #c08a1e; }
+.tile.warn .number { color: var(--warn); }
 .tile.good { border-top-color: #2a8f60; } .tile.nothing .number { color: var(--soft); font-weight: 400; }
-.nowrap { white-space: nowrap; } .later { min-height: 236px; } .plot { padding: 6px 16px 2px; } .plot svg { display: block; } label.tick { display: flex; align-items: center; gap: 8px; }
+.nowrap { white-space: nowrap; } .later { min-height: 236px; } .plot { padding: 6px 16px 2px; } .plot svg { display: block; }
+label.tick { display: flex; align-items: center; gap: 8px; }
 svg .axis { stroke: var(--line); } svg .tick { font-size: 12px; fill: var(--soft); } svg .column { fill: var(--accent); } svg .column.bad { fill: #c2333f; }
 svg .column.warn { fill: #c08a1e; } svg .column.good { fill: #2a8f60; } svg .mark { stroke: var(--ink); stroke-dasharray: 4 3; }
 svg .line { fill: none; stroke: var(--accent); stroke-width: 2; } svg .below { fill: var(--accent); opacity: .16; }
@@ -210,8 +213,11 @@ body:has(main.board) header { display: none; } main.board { max-width: none; pad
 .board .tile .number { font-size: clamp(48px, 5vw, 150px); line-height: 1.1; } .board .tile p { font-size: clamp(14px, 1.1vw, 24px); }
 .board .card h2 { font-size: clamp(17px, 1.3vw, 28px); } .board td, .board td .small, .board td .under, .board .none { font-size: clamp(15px, 1vw, 30px); }
 .board th { font-size: clamp(13px, .9vw, 20px); } .board details, .board button, .board .more, body:has(main.board) footer button { display: none; }
-.board .tiles { gap: 10px; } main.board, .board .stack { gap: 10px; } .board td a { color: inherit; text-decoration: none; } .board .plot svg { width: 100%; } .board .later { min-height: 0; } .board .pill { font-size: inherit; }
-.alarm::after { content: ""; position: fixed; inset: 0; z-index: 10; border: 18px solid #c2333f; pointer-events: none; animation: flash 1s steps(2, jump-none) infinite; }
+.board .tiles { gap: 10px; } main.board, .board .stack { gap: 10px; } .board td a { color: inherit; text-decoration: none; }
+.board .plot svg { width: 100%; } .board .later { min-height: 0; } .board .pill { font-size: inherit; }
+.alarm::after {
+  content: ""; position: fixed; inset: 0; z-index: 10; border: 18px solid #c2333f; pointer-events: none; animation: flash 1s steps(2, jump-none) infinite;
+}
 @keyframes flash { from { opacity: 1; } to { opacity: 0; } }
 @media (prefers-reduced-motion: reduce) { .alarm::after { animation: none; } }
 dialog:has(.help) { width: min(680px, 94vw); } .help .keys { display: grid; grid-template-columns: repeat(auto-fit, minmax(230px, 1fr)); gap: 4px 16px; }
@@ -296,4 +302,4 @@ svg .word { fill: var(--bad); font-weight: 600; font-size: 10px; }
 "##;
 
 /// Its entity tag.
-pub const STYLE_TAG: &str = "\"e2976635b6f1d4f1129ca9802d8bf646\"";
+pub const STYLE_TAG: &str = "\"5352a34e5c51fc33f260807e85da137b\"";

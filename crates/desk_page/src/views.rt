@@ -42,7 +42,8 @@ function stepPlot(said, values, unit = "") {
   });
 }
 function valuesOf(what, heads, rows) {
-  return h("details", { class: "noprint" }, h("summary", { "aria-label": `${what}: the values as a table` }, "The values as a table"), table(heads, rows, "", true));
+  return h("details", { class: "noprint" }, h("summary", { "aria-label": `${what}: the values as a table` }, "The values as a table"), table(heads, rows,
+    "", true));
 }
 const valueRow = (name, ...values) => row(`value ${name}`, [cell(name), ...values.map(([n, unit]) => numberCell(n, unit))]);
 function alarmBox() {
@@ -77,8 +78,8 @@ const BOOKINGS = "A booking can't be taken back: book the opposite, or scrap. It
   + "again every 20 seconds.";
 const WORDS = {
   "Orders and recipes": {
-    "Draft, Approve, Withdraw": "A new version of a recipe is a draft. Once it is approved, orders of it can be taken in and released. A withdrawn one is for no "
-      + "further release; batches go on.",
+    "Draft, Approve, Withdraw": "A new version of a recipe is a draft. Once it is approved, orders of it can be taken in and released. A withdrawn "
+      + "one is for no further release; batches go on.",
     "Order, Batch": "An order says what is wanted by when. Its release makes one batch, which the shift makes.",
     "Open, Released, Finished": "An open order waits for its release. A released one has a batch. It is finished once that batch is closed.",
     "Late": "Its due date is over, and it is neither finished nor cancelled.",
@@ -94,12 +95,14 @@ const WORDS = {
     "Parameter": "A value that the recipe gives for the phase after it, such as a temperature. The desk notes no measured value: book a step with a note.",
   },
   "Lots": {
-    "Class, Material, Lot, Part": "A class is a group of materials. A lot is an amount of one material that is known by its id. Its parts are where it is: F-1/2 is "
-      + "part 2 of lot F-1.",
+    "Class, Material, Lot, Part": "A class is a group of materials. A lot is an amount of one material that is known by its id. Its parts are where it "
+      + "is: F-1/2 is part 2 of lot F-1.",
     "Free, On hold, Recalled": "Free goods may be used. A hold keeps one lot from being consumed, split and merged, a recall also all that came of it.",
-    "Hold, Recall": "Hold what may be wrong, and take the hold off once it is known. Recall what is wrong: it also reaches what was made of it, and running batches.",
+    "Hold, Recall": "Hold what may be wrong, and take the hold off once it is known. Recall what is wrong: it also reaches what was made of it, and "
+      + "running batches.",
     "Take off, Lift": "A hold is taken off, a recall is lifted. The desk keeps who did it.",
-    "Move, Split": "Move brings an amount to another place: it stays the same lot, as another part; the ledger says divided. Split makes an amount a lot of its own.",
+    "Move, Split": "Move brings an amount to another place: it stays the same lot, as another part; the ledger says divided. Split makes an amount a "
+      + "lot of its own.",
     "Merge": "Makes one new lot of parts of several lots of the same material.",
     "Scrap": "Books goods out that are spoiled or lost.",
     "Genealogy, Ledger, Record": "The genealogy shows what a lot came of and what came of it. The ledger has each booking of a lot, the record all of a batch.",
@@ -115,7 +118,8 @@ function help() {
   const words = Object.entries(WORDS).map(([about, all]) => [h("h3", {}, about),
     h("dl", {}, Object.entries(all).map(([name, what]) => [h("dt", {}, name), h("dd", {}, what)]))]);
   const end = h("div", { class: "end" }, h("button", { class: "main" }, "Close"));
-  const it = h("form", { method: "dialog", class: "help" }, h("h2", { id: "title" }, "Keys and help"), h("div", { class: "keys" }, [...KEYS_OF_VIEWS, ...OTHER_KEYS].map(key)),
+  const it = h("form", { method: "dialog", class: "help" }, h("h2", { id: "title" }, "Keys and help"), h("div", { class: "keys" },
+    [...KEYS_OF_VIEWS, ...OTHER_KEYS].map(key)),
     h("p", { class: "soft" }, SCANS), h("p", { class: "soft" }, BOOKINGS), h("h2", {}, "Words"), words, end);
   openDialog(it, it.querySelector("button"));
 }
@@ -174,12 +178,15 @@ function tiles(it, isBoard) {
   const first = (list, place, name) => list.slice(0, 2).map((one) => [place(one), name(one)]);
   const figures = [
     { name: "Late", list: all[0], tone: "bad", place: of(orders.late, batches.late), more: due(orders.late, batches.late) },
-    { name: "Due today", list: all[1], tone: "warn", place: orders.today.length ? `planner?text=${it.day}` : of(orders.today, batches.today), more: due(orders.today, batches.today, `planner?text=${it.day}`) },
+    { name: "Due today", list: all[1], tone: "warn", place: orders.today.length ? `planner?text=${it.day}` : of(orders.today, batches.today),
+      more: due(orders.today, batches.today, `planner?text=${it.day}`) },
     { name: "Running", list: running, tone: "good", place: "shift",
-      more: [idle.length && ["shift", `${grouped(idle.length)} to be started`], broken.length && ["shift", `${grouped(broken.length)} paused, held or ended early`]] },
+      more: [idle.length && ["shift", `${grouped(idle.length)} to be started`],
+        broken.length && ["shift", `${grouped(broken.length)} paused, held or ended early`]] },
     { name: "Waiting", list: it.orders, place: "planner", more: [[null, `${grouped(soon.length)} due within ${it.ahead}`]] },
     { name: "On hold", list: lots, tone: "warn", place: "quality", more: first(lots, (one) => `quality/lot/${one}`, (one) => one) },
-    { name: "Recalled", list: it.recalls, tone: "bad", place: "quality", more: first(it.recalls, (one) => `quality/recall/${one.recall}`, (one) => one.recall) },
+    { name: "Recalled", list: it.recalls, tone: "bad", place: "quality",
+      more: first(it.recalls, (one) => `quality/recall/${one.recall}`, (one) => one.recall) },
     { name: "Short", list: it.short, tone: "bad", place: it.short.length ? `warehouse/${it.short[0].def}` : "warehouse",
       more: first(it.short, (one) => `warehouse/${one.def}`, (one) => one.def) },
   ];
@@ -192,7 +199,8 @@ function runningBatches({ batches }, isBoard) {
   const rows = firstOf(going, isBoard).map((it) => row(it.batch, [idCell(batchLink(it.batch), made(it)), cell(pill(it.state, TONES[it.state])),
     cell(it.phase ? [h("div", {}, it.phase), h("div", { class: "soft small nowrap" }, `on ${it.phase_unit}`)] : "all phases done"),
     cell(h("div", {}, lengthOfTime(now - it.at)), !isBoard && h("div", { class: "soft small" }, moment(it.at)))]));
-  return card("Running, the longest first", null, table(["Batch", "State", "Next", "Last step ago"], rows, "No batch runs."), restOf(going, "shift", "all batches"));
+  return card("Running, the longest first", null, table(["Batch", "State", "Next", "Last step ago"], rows, "No batch runs."),
+    restOf(going, "shift", "all batches"));
 }
 function latestBars({ holds, recalls }, isBoard) {
   const all = [...holds.map((it) => ({ ...it, what: `hold ${it.hold}` })),
@@ -217,12 +225,14 @@ function shortCard({ short, until, ahead, isWhole }, isBoard) {
 const BEFORE = 14, DAYS = 29;
 function dueCard({ day, orders, dated }) {
   const { days, before, after } = dueByDay([...orders, ...dated], dayAfter(day, -BEFORE), DAYS), shortDay = (it) => it.slice(5);
-  const values = days.map((it) => ({ n: it.count, tone: it.day < day ? "bad" : it.day === day ? "warn" : "", tick: it.day === day ? `today, ${shortDay(day)}` : shortDay(it.day),
+  const values = days.map((it) => ({ n: it.count, tone: it.day < day ? "bad" : it.day === day ? "warn" : "",
+    tick: it.day === day ? `today, ${shortDay(day)}` : shortDay(it.day),
     said: `${it.day}: ${grouped(it.count)}` }));
   const late = before + days.filter((it) => it.day < day).reduce((sum, it) => sum + it.count, 0);
   const rest = [before && `${grouped(before)} due before these days`, after && `${grouped(after)} after them`].filter(Boolean).join(", ");
   return card("Orders and batches by their due dates", null, barPlot(`Open orders and batches by their due dates, ${late} late`, values),
-    rest && h("p", { class: "none" }, `${rest}.`), valuesOf("Due dates", ["Due", "#Open"], days.filter((it) => it.count).map((it) => valueRow(it.day, [it.count]))));
+    rest && h("p", { class: "none" }, `${rest}.`), valuesOf("Due dates", ["Due", "#Open"],
+      days.filter((it) => it.count).map((it) => valueRow(it.day, [it.count]))));
 }
 function plotOf(name, id, label, values, on) {
   return h("div", { class: "body row" }, h("select", { id, "aria-label": label, onchange: (event) => setText(name, event.target.value) },
@@ -244,25 +254,30 @@ async function lastFinished(recipe, isShown) {
 }
 async function yieldPlot(isShown, isBoard) {
   const { of, found, recipes } = await lastFinished(textOf("recipe"), isShown), values = [];
-  if (!found.length) return [!isBoard && recipes.length > 1 && plotOf("recipe", "yieldrecipe", "Recipe of the yields", recipes, of), none("No order is finished.")];
+  if (!found.length) return [!isBoard && recipes.length > 1 && plotOf("recipe", "yieldrecipe", "Recipe of the yields", recipes, of),
+    none("No order is finished.")];
   for (const order of found) {
     if (!isShown()) return [];
-    const { batch, lines } = await desk.finishedBatch(order.order), { product } = await desk.recipeOnce(order.recipe, order.version), it = yieldOf(lines, product);
+    const { batch, lines } = await desk.finishedBatch(order.order), { product } = await desk.recipeOnce(order.recipe, order.version);
+    const it = yieldOf(lines, product);
     if (it) values.push({ ...it, n: it.percent, batch, due: order.due, tone: it.percent < LOW_YIELD ? "bad" : "good", tick: order.due.slice(5),
       said: `${batch}: ${it.percent.toFixed(1)}\u202f%, ${grouped(it.booked)} of ${grouped(it.asked)} ${it.unit}` });
   }
   const asked = values.reduce((sum, it) => sum + it.asked, 0), booked = values.reduce((sum, it) => sum + it.booked, 0);
   const rows = values.map((it) => row(`yield ${it.batch}`, [idCell(batchLink(it.batch)), numberCell(it.asked, it.unit), numberCell(it.booked, it.unit),
     h("td", { class: "num" }, it.percent.toFixed(1))]));
-  const told = `${of}: the last ${values.length === 1 ? "batch" : `${values.length} batches`} made ${((100 * booked) / asked).toFixed(1)}\u202f% of what was asked`;
-  return [!isBoard && plotOf("recipe", "yieldrecipe", "Recipe of the yields", recipes, of), h("p", { class: "none" }, `${told}. Red is below ${LOW_YIELD}\u202f%.`), barPlot(told, values, "\u202f%", 100),
+  const which = values.length === 1 ? "batch" : `${values.length} batches`, percent = ((100 * booked) / asked).toFixed(1);
+  const told = `${of}: the last ${which} made ${percent}\u202f% of what was asked`;
+  return [!isBoard && plotOf("recipe", "yieldrecipe", "Recipe of the yields", recipes, of),
+    h("p", { class: "none" }, `${told}. Red is below ${LOW_YIELD}\u202f%.`), barPlot(told, values, "\u202f%", 100),
     valuesOf("Yield", ["Batch", "#Asked", "#Booked", "#Percent"], rows)];
 }
 const STOCK_DAYS = 90, MOST_LOTS = 100, MOST_MOVEMENTS = 500;
 async function stockPlot({ stocks, short, day }, isShown, isBoard) {
   const there = [...stocks.values()].filter((it) => it.lots > 0), most = [...there].sort((a, b) => b.lots - a.lots)[0];
   const def = textOf("def") || short.find((it) => stocks.get(it.def)?.lots)?.def || most?.def, known = stocks.get(def);
-  const pick = !isBoard && there.length > 0 && plotOf("def", "stockdef", "Material of the stock", [...new Set([...there.map((it) => it.def), def])].sort(), def);
+  const defs = [...new Set([...there.map((it) => it.def), def])].sort();
+  const pick = !isBoard && there.length > 0 && plotOf("def", "stockdef", "Material of the stock", defs, def);
   if (!known?.lots) return [pick, none(def ? `There is no ${def} in stock.` : "Nothing is in stock.")];
   const lots = await desk.stock(def, MOST_LOTS), ledgers = [];
   for (const { lot, stock } of lots) {
@@ -272,15 +287,17 @@ async function stockPlot({ stocks, short, day }, isShown, isBoard) {
   }
   const left = lots.length - ledgers.length, days = stockByDay(ledgers, dayAfter(day, 1 - STOCK_DAYS), STOCK_DAYS), now = days.at(-1).stock;
   const told = `${known.name || def}: ${grouped(now)} ${known.unit} of ${counted(ledgers.length, "lot", "lots")} in stock`;
-  const limits = [lots.more && `the ${MOST_LOTS} oldest lots alone`, left > 0 && `${counted(left, "lot", "lots")} of more than ${MOST_MOVEMENTS} bookings left out`];
+  const limits = [lots.more && `the ${MOST_LOTS} oldest lots alone`,
+    left > 0 && `${counted(left, "lot", "lots")} of more than ${MOST_MOVEMENTS} bookings left out`];
   const said = ["Lots that are used up meanwhile aren't counted", ...limits].filter(Boolean).join(", ");
   const weeks = days.filter((it, k) => (STOCK_DAYS - 1 - k) % 7 === 0);
   return [pick, h("p", { class: "none" }, `${told}. ${said}.`), stepPlot(`${told}, day by day`, days.map((it) => ({ n: it.stock, tick: it.day.slice(5) })), ""),
     valuesOf("Stock", ["Day", "#Stock"], weeks.map((it) => valueRow(it.day, [it.stock, known.unit])))];
 }
 function boardCard() {
-  return card("The board", null, h("div", { class: "body" }, h("p", {}, link(location.hash.replace(/^#?\w*/, "board"), "Open the board"), ": the same in large letters, without buttons, for a screen on the wall. "
-    + "Esc leads back here."), alarmBox()));
+  const board = link(location.hash.replace(/^#?\w*/, "board"), "Open the board");
+  const what = ": the same in large letters, without buttons, for a screen on the wall. Esc leads back here.";
+  return card("The board", null, h("div", { class: "body" }, h("p", {}, board, what), alarmBox()));
 }
 const LARGEST_PICTURE = 300, PICTURES = ["each", "by material"];
 function genealogyCard({ back, forward }, here) {
@@ -301,9 +318,11 @@ function genealogyCard({ back, forward }, here) {
 const unitOf = (nodes, edge) => nodes.get(edge.from).unit || nodes.get(edge.to).unit || "";
 const boxOf = (node, product, isHere) => ({ unit: node.unit, isHere, isOfLots: Boolean(node.lot), tone: node.recalled ? "recalled" : node.held ? "held" : "",
   texts: [node.lot || node.batch, node.lot ? node.def : product ? `batch of ${product}` : "batch", node.lot ? `${grouped(node.stock)} ${node.unit}` : ""],
-  marks: [node.held && "HELD", node.recalled && "RECALLED"].filter(Boolean).join(" "), place: node.lot ? `quality/lot/${node.lot}` : `quality/batch/${node.batch}` });
+  marks: [node.held && "HELD", node.recalled && "RECALLED"].filter(Boolean).join(" "),
+    place: node.lot ? `quality/lot/${node.lot}` : `quality/batch/${node.batch}` });
 function boxOfGroup(it) {
-  const isOne = it.count === 1, [kind, id] = it.first.split(" "), name = isOne ? id : counted(it.count, it.isOfLots ? "lot" : "batch", it.isOfLots ? "lots" : "batches");
+  const isOne = it.count === 1, [kind, id] = it.first.split(" "), words = it.isOfLots ? ["lot", "lots"] : ["batch", "batches"];
+  const name = isOne ? id : counted(it.count, ...words);
   return { unit: it.unit, isHere: it.side === "here", isOfLots: it.isOfLots, tone: it.recalled ? "recalled" : it.held ? "held" : "",
     texts: [name, it.isOfLots ? it.def : it.def ? `of ${it.def}` : "batch", it.isOfLots ? `${grouped(it.stock)} ${it.unit}` : ""],
     marks: [it.held && [!isOne && grouped(it.held), "HELD"], it.recalled && [!isOne && grouped(it.recalled), "RECALLED"]].flat().filter(Boolean).join(" "),
@@ -312,10 +331,12 @@ function boxOfGroup(it) {
 function picturesOfGroups({ groups, edges, left }, here) {
   const boxes = new Map([...groups].map(([key, it]) => [key, boxOfGroup(it)]));
   const sides = { back: "before it", here: "itself", forward: "of it" };
-  const rows = [...groups.values()].sort((a, b) => a.depth - b.depth || (a.def < b.def ? -1 : 1)).map((it) => row(it.key, [cell(sides[it.side]), cell(it.isOfLots ? "lots" : "batches"), cell(it.def), numberCell(it.count),
+  const sorted = [...groups.values()].sort((a, b) => a.depth - b.depth || (a.def < b.def ? -1 : 1));
+  const rows = sorted.map((it) => row(it.key, [cell(sides[it.side]), cell(it.isOfLots ? "lots" : "batches"), cell(it.def), numberCell(it.count),
     it.isOfLots ? numberCell(it.stock, it.unit) : cell(), numberCell(it.held), numberCell(it.recalled)]));
-  return [picture(boxes, edges, here), left > 0 && none(`${counted(left, "step leads", "steps lead")} back to an earlier material, and ${left === 1 ? "isn't" : "aren't"} drawn.`),
-    h("details", {}, h("summary", {}, "The materials as a table"), table(["Came", "What", "Material", "#Count", "#In stock", "#On hold", "#Recalled"], rows, ""))];
+  const backwards = left > 0 && none(`${counted(left, "step", "steps")} back to an earlier material, not drawn.`);
+  const heads = ["Came", "What", "Material", "#Count", "#In stock", "#On hold", "#Recalled"];
+  return [picture(boxes, edges, here), backwards, h("details", {}, h("summary", {}, "The materials as a table"), table(heads, rows, ""))];
 }
 function edgesList(nodes, edges) {
   const place = (name) => link("quality/" + name.replace(" ", "/"), name);
@@ -351,7 +372,8 @@ function picture(boxes, edges, here) {
       y: y(edge.to) + BOX.high / 2 + amountDrop(x, y, edge, width) - 4 }, `${grouped(edge.amount)} ${unitOf(boxes, edge)}`)),
     [...boxes].map(([name, box]) => nodeBox(box, x(name), y(name), width)));
   Object.assign(it.style, { maxWidth: "100%", minWidth: `${Math.round(wide * 0.75)}px`, height: "auto" });
-  return scrolledToHere(h("div", { class: "picture", tabindex: 0, role: "group", "aria-label": "Picture, can be scrolled", "data-of": `${here} ${boxes.size}` }, it));
+  return scrolledToHere(h("div", { class: "picture", tabindex: 0, role: "group", "aria-label": "Picture, can be scrolled",
+    "data-of": `${here} ${boxes.size}` }, it));
 }
 function scrolledToHere(frame) {
   const before = [...view.querySelectorAll(".picture")].find((it) => it.dataset.of === frame.dataset.of), was = before && [before.scrollLeft, before.scrollTop];
@@ -876,7 +898,8 @@ async function shift([id]) {
     : desk.batches(Infinity))).map((it) => ({ ...it, ...it.planned, closed: areClosedShown })));
   const without = card("No batch", null, none("Once an order is released, its batch is started, booked and closed here."));
   const one = shown ? await batchCards(shown) : desk.seq === 0 ? firstSteps() : !isNarrow() && without;
-  return ["list", listed(card("Batches", [csv, which], !areClosedShown && unitRow(read, unit), all, more(batches, areClosedShown ? "closed" : "batches"))), h("div", { class: "stack" }, one)];
+  return ["list", listed(card("Batches", [csv, which], !areClosedShown && unitRow(read, unit), all, more(batches, areClosedShown ? "closed" : "batches"))),
+    h("div", { class: "stack" }, one)];
 }
 const MOST_READ_BATCHES = 2000;
 function unitRow(batches, unit) {
@@ -895,7 +918,8 @@ function batchRow(batch, isShown, isClosed) {
   const next = batch.phase ? `next ${batch.phase} on ${batch.phase_unit}, ${batch.next} of ${batch.phases}` : "all phases done";
   const cells = [idCell(batchLink(batch.batch), planned && h("div", { class: "under" }, planned.title || planned.product), small(batch.order)),
     cell(pill(batch.state, TONES[batch.state]), small(next), small("since ", h("span", { class: "when" }, moment(batch.at)))),
-    h("td", { class: "num" }, planned && h("span", {}, isClosed ? planned.due : dueMark(planned.due), small(`${grouped(planned.size)} ${planned.unit || ""}`)))];
+    h("td", { class: "num" }, planned && h("span", {}, isClosed ? planned.due : dueMark(planned.due),
+      small(`${grouped(planned.size)} ${planned.unit || ""}`)))];
   return row(batch.batch, cells, "shift/" + batch.batch, isShown);
 }
 function dueMark(due) {
@@ -913,7 +937,8 @@ function progressCard(batch) {
   const known = [fact("Order", link("planner/" + batch.order, batch.order)), fact("Recipe", `${batch.recipe} ${batch.version}`),
     fact("Size", grouped(batch.size)), fact("Attempt", batch.attempt), fact("Phases done", `${done} of ${batch.phases}`)];
   const tools = [pill(batch.closed ? "closed" : batch.state, batch.closed ? "" : TONES[batch.state]),
-    link("quality/batch/" + batch.batch, "Record and genealogy"), button("Sheet", () => showSheet(batch.batch), null, { "aria-label": `Sheet of ${batch.batch}` })];
+    link("quality/batch/" + batch.batch, "Record and genealogy"), button("Sheet", () => showSheet(batch.batch), null,
+      { "aria-label": `Sheet of ${batch.batch}` })];
   return card(`Batch ${batch.batch}`, tools, h("div", { class: "body" }, h("div", { class: "facts" }, known), progressBar(done, batch.phases),
     h("p", { class: "soft small" }, path), parametersOf(next ? `For ${next.path}` : "After the phases", next ? next.parameters : last),
     h("p", { class: "row" }, moves(batch, next))), procedureTable(phases, last, done));
@@ -926,7 +951,8 @@ function parametersOf(name, parameters) {
 function procedureTable(phases, last, done) {
   if (!last.length && phases.every((it) => !it.parameters.length)) return null;
   const values = (parameters) => parameters.map((it) => h("div", {}, it.name, " ", h("b", {}, it.value)));
-  const rows = phases.map((it, k) => row(`phase ${k + 1}`, [numberCell(k + 1), cell(values(it.parameters)), cell(it.path), cell(k < done ? "done" : k === done ? "next" : "")]));
+  const rows = phases.map((it, k) => row(`phase ${k + 1}`, [numberCell(k + 1), cell(values(it.parameters)), cell(it.path),
+    cell(k < done ? "done" : k === done ? "next" : "")]));
   if (last.length) rows.push(row("after the phases", [cell(), cell(values(last)), cell("after the phases"), cell()]));
   return h("details", {}, h("summary", {}, "All phases with their parameters"), table(["#No", "Parameters", "Phase", ""], rows, "", true));
 }
@@ -1017,7 +1043,8 @@ async function consume(batch, line, ...scan) {
   const { def, unit } = line;
   let parts;
   try { await desk.look(); parts = await partsToOffer(def); } catch (error) { return notice("bad", error.message); }
-  if (parts.every((it) => it.barred) && !scan.length) return notice("bad", parts.length ? `All ${def} in stock is on hold or recalled.` : `There is no ${def} in stock.`);
+  if (parts.every((it) => it.barred) && !scan.length) return notice("bad",
+    parts.length ? `All ${def} in stock is on hold or recalled.` : `There is no ${def} in stock.`);
   const left = Math.max(1, line.asked - line.booked);
   let offered = left;
   const change = (inputs, part) => {
@@ -1090,8 +1117,12 @@ function split(part, known) {
       noted({ do: "split", lot, sub, amount, new: v.new, place }, note)));
 }
 const GOODS_BY = ["by material", "by place"];
-const byChoice = (by) => h("div", { class: "body row filter" }, choice("By what goods are listed", GOODS_BY, by, (it) => go("warehouse", it === "by place" && "place")));
-const cameCell = (at) => h("td", { class: "when" }, h("span", {}, dayOf(at), at !== null && h("div", { class: "soft small" }, ageInDays(at, desk.time()))));
+const byChoice = (by) => h("div", { class: "body row filter" }, choice("By what goods are listed", GOODS_BY, by,
+  (it) => go("warehouse", it === "by place" && "place")));
+function cameCell(at) {
+  const age = at !== null && h("div", { class: "soft small" }, ageInDays(at, desk.time()));
+  return h("td", { class: "when" }, h("span", {}, dayOf(at), age));
+}
 const MOST_READ_LOTS = 3000;
 async function allParts() {
   const parts = [], left = [];
@@ -1117,9 +1148,11 @@ async function places(shown) {
 }
 function placeCard(place, parts) {
   const name = place || "no place", marks = (it) => it.barred && [" ", pill(it.barred, it.held ? "warn" : "bad")];
-  const buttons = (it) => [button("Label", () => showLabels(it.lot, it.sub)), button("Move", () => moveGoods(it, it)), button("Scrap", () => scrap(it, it), "bad")];
+  const buttons = (it) => [button("Label", () => showLabels(it.lot, it.sub)), button("Move", () => moveGoods(it, it)),
+    button("Scrap", () => scrap(it, it), "bad")];
   const rows = parts.map((it) => row(`${it.lot}/${it.sub}`, [idCell(lotLink(it.lot, it.sub), marks(it)),
-    cell(link("warehouse/" + it.def, it.def), it.name && h("div", { class: "soft small" }, it.name)), cameCell(it.at), numberCell(it.stock, it.unit), buttonsCell(buttons(it))]));
+    cell(link("warehouse/" + it.def, it.def), it.name && h("div", { class: "soft small" }, it.name)), cameCell(it.at), numberCell(it.stock, it.unit),
+    buttonsCell(buttons(it))]));
   const totals = new Map();
   for (const it of parts) totals.set(it.def, { ...it, sum: (totals.get(it.def)?.sum || 0) + it.stock });
   const sums = [...totals.values()].map((it) => row(`total ${it.def}`, [idCell(it.def), numberCell(it.sum, it.unit)]));
@@ -1456,4 +1489,4 @@ desk.loggedIn().then(nameByLogin).catch((error) => notice("bad", whyNot(error)))
 "##;
 
 /// Its entity tag.
-pub const VIEWS_TAG: &str = "\"03a2f92ff2d504c606200d4a50c0599b\"";
+pub const VIEWS_TAG: &str = "\"fd9a7afa2088089f68f2d15cb32ec077\"";

@@ -21,7 +21,7 @@ export function more(items, name, what) {
 // The views by their names, which the start puts in.
 export const VIEWS = {};
 
-// What stands behind # in the address: a view, and then words or ids; or `place` and the name of a place in the warehouse, which may be empty.
+// What follows # in the address: a view, and then words or ids; or `place` and the name of a place in the warehouse, which may be empty.
 export function place() {
   const { name, words } = readAddress(location.hash);
   if (name === "warehouse" && words[0] === "place") return [name, words.slice(0, 2).map(decoded)];

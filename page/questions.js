@@ -50,11 +50,16 @@ async function found(path) {
   try { return await asked(path); } catch (error) { if (error instanceof Refusal && error.answer.status === 404) return null; throw error; }
 }
 
-// What no booking changes any more, such as the lines of a closed batch: it is asked once for as long as the page is open.
-const lasting = new Map();
-async function askedOnce(name, ask) {
-  if (!lasting.has(name)) lasting.set(name, await ask());
-  return lasting.get(name);
+// What no booking changes any more, such as the lines of a closed batch: it is asked once. What depends on something else, such as a ledger on the stock of
+// its lot, is asked anew where that is another one. At most so many of them are kept, as a page may be open for weeks.
+const lasting = new Map(), MOST_LASTING = 2000;
+async function askedOnce(name, ask, of = null) {
+  const known = lasting.get(name);
+  if (known && known.of === of) return known.value;
+  const value = await ask();
+  if (lasting.size >= MOST_LASTING) lasting.clear();
+  lasting.set(name, { of, value });
+  return value;
 }
 
 // The items of a list, page by page until there are as many as are wanted, those after a cursor where one is given; `more` of them says whether there are
@@ -146,7 +151,7 @@ export const desk = {
     const { batch } = await asked("/v1/orders/" + order);
     return { batch, lines: await desk.batchLines(batch) };
   }),
-  ledger: (lot, stock, wanted) => askedOnce(`ledger ${lot} ${stock}`, () => list("movements/" + lot, wanted)),
+  ledger: (lot, stock, wanted) => askedOnce(`ledger ${lot}`, () => list("movements/" + lot, wanted), stock),
   async record(id) { return readRecord(await asked(`/v1/batches/${id}/record`, true)); },
 
   // The lots that have stock of a lot's or a batch's goods, and the genealogy on either side of it. `kind` is lots or batches.

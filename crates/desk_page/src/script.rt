@@ -758,10 +758,14 @@ async function asked(path, isText) {
 async function found(path) {
   try { return await asked(path); } catch (error) { if (error instanceof Refusal && error.answer.status === 404) return null; throw error; }
 }
-const lasting = new Map();
-async function askedOnce(name, ask) {
-  if (!lasting.has(name)) lasting.set(name, await ask());
-  return lasting.get(name);
+const lasting = new Map(), MOST_LASTING = 2000;
+async function askedOnce(name, ask, of = null) {
+  const known = lasting.get(name);
+  if (known && known.of === of) return known.value;
+  const value = await ask();
+  if (lasting.size >= MOST_LASTING) lasting.clear();
+  lasting.set(name, { of, value });
+  return value;
 }
 async function list(path, wanted, cursor) {
   const all = [];
@@ -822,7 +826,7 @@ const desk = {
     const { batch } = await asked("/v1/orders/" + order);
     return { batch, lines: await desk.batchLines(batch) };
   }),
-  ledger: (lot, stock, wanted) => askedOnce(`ledger ${lot} ${stock}`, () => list("movements/" + lot, wanted)),
+  ledger: (lot, stock, wanted) => askedOnce(`ledger ${lot}`, () => list("movements/" + lot, wanted), stock),
   async record(id) { return readRecord(await asked(`/v1/batches/${id}/record`, true)); },
   async stands(kind, id) { return (await asked(`/v1/${kind}/${id}/stands`)).lots; },
   async balance(kind, id) { return (await asked(`/v1/${kind}/${id}/balance`)).lots; },
@@ -1504,4 +1508,4 @@ function bookingForm(title, fields, label, take, more) {
 "##;
 
 /// Its entity tag.
-pub const SCRIPT_TAG: &str = "\"267eda8cb6fb626c8482cec0d339df09\"";
+pub const SCRIPT_TAG: &str = "\"b36a3d411b3d8739b997a1925b20bd21\"";

@@ -144,7 +144,8 @@ async function figures() {
   watchFor(holds, recalls);
   const dated = batches.filter((it) => it.planned).map((it) => ({ ...it, due: it.planned.due }));
   const wanted = await demands(orders.filter((it) => it.due <= until), dated.filter((it) => it.due <= until));
-  return { day, ahead, until, orders, batches, dated, holds, recalls, stocks, isWhole: wanted.isWhole, short: shortage(wanted.asked, wanted.made, stocks) };
+  const isWhole = wanted.isWhole && !(orders.more && orders.at(-1).due <= until);
+  return { day, ahead, until, orders, batches, dated, holds, recalls, stocks, isWhole, short: shortage(wanted.asked, wanted.made, stocks) };
 }
 async function demands(orders, batches) {
   const asked = [], made = [];
@@ -158,7 +159,7 @@ async function demands(orders, batches) {
   for (const { batch, due } of begun.slice(0, MOST_LINES)) {
     for (const it of await desk.batchLines(batch)) if (it.def && it.booked < it.asked) add(it, it.asked - it.booked, due);
   }
-  return { asked, made, isWhole: !orders.more && begun.length <= MOST_LINES };
+  return { asked, made, isWhole: begun.length <= MOST_LINES };
 }
 const many = (list, one, several) => `${grouped(list.length)}${list.more ? " and more" : ""} ${list.length === 1 && !list.more ? one : several}`;
 function tile({ name, list, tone, place, more = [] }, isBoard) {
@@ -226,8 +227,7 @@ const BEFORE = 14, DAYS = 29;
 function dueCard({ day, orders, dated }) {
   const { days, before, after } = dueByDay([...orders, ...dated], dayAfter(day, -BEFORE), DAYS), shortDay = (it) => it.slice(5);
   const values = days.map((it) => ({ n: it.count, tone: it.day < day ? "bad" : it.day === day ? "warn" : "",
-    tick: it.day === day ? `today, ${shortDay(day)}` : shortDay(it.day),
-    said: `${it.day}: ${grouped(it.count)}` }));
+    tick: it.day === day ? `today, ${shortDay(day)}` : shortDay(it.day), said: `${it.day}: ${grouped(it.count)}` }));
   const late = before + days.filter((it) => it.day < day).reduce((sum, it) => sum + it.count, 0);
   const rest = [before && `${grouped(before)} due before these days`, after && `${grouped(after)} after them`].filter(Boolean).join(", ");
   return card("Orders and batches by their due dates", null, barPlot(`Open orders and batches by their due dates, ${late} late`, values),
@@ -254,8 +254,7 @@ async function lastFinished(recipe, isShown) {
 }
 async function yieldPlot(isShown, isBoard) {
   const { of, found, recipes } = await lastFinished(textOf("recipe"), isShown), values = [];
-  if (!found.length) return [!isBoard && recipes.length > 1 && plotOf("recipe", "yieldrecipe", "Recipe of the yields", recipes, of),
-    none("No order is finished.")];
+  const pick = !isBoard && recipes.length > 0 && plotOf("recipe", "yieldrecipe", "Recipe of the yields", recipes, of);
   for (const order of found) {
     if (!isShown()) return [];
     const { batch, lines } = await desk.finishedBatch(order.order), { product } = await desk.recipeOnce(order.recipe, order.version);
@@ -263,13 +262,13 @@ async function yieldPlot(isShown, isBoard) {
     if (it) values.push({ ...it, n: it.percent, batch, due: order.due, tone: it.percent < LOW_YIELD ? "bad" : "good", tick: order.due.slice(5),
       said: `${batch}: ${it.percent.toFixed(1)}\u202f%, ${grouped(it.booked)} of ${grouped(it.asked)} ${it.unit}` });
   }
+  if (!values.length) return [pick, none(of ? `No order of ${of} is finished.` : "No order is finished.")];
   const asked = values.reduce((sum, it) => sum + it.asked, 0), booked = values.reduce((sum, it) => sum + it.booked, 0);
   const rows = values.map((it) => row(`yield ${it.batch}`, [idCell(batchLink(it.batch)), numberCell(it.asked, it.unit), numberCell(it.booked, it.unit),
     h("td", { class: "num" }, it.percent.toFixed(1))]));
   const which = values.length === 1 ? "batch" : `${values.length} batches`, percent = ((100 * booked) / asked).toFixed(1);
   const told = `${of}: the last ${which} made ${percent}\u202f% of what was asked`;
-  return [!isBoard && plotOf("recipe", "yieldrecipe", "Recipe of the yields", recipes, of),
-    h("p", { class: "none" }, `${told}. Red is below ${LOW_YIELD}\u202f%.`), barPlot(told, values, "\u202f%", 100),
+  return [pick, h("p", { class: "none" }, `${told}. Red is below ${LOW_YIELD}\u202f%.`), barPlot(told, values, "\u202f%", 100),
     valuesOf("Yield", ["Batch", "#Asked", "#Booked", "#Percent"], rows)];
 }
 const STOCK_DAYS = 90, MOST_LOTS = 100, MOST_MOVEMENTS = 500;
@@ -1489,4 +1488,4 @@ desk.loggedIn().then(nameByLogin).catch((error) => notice("bad", whyNot(error)))
 "##;
 
 /// Its entity tag.
-pub const VIEWS_TAG: &str = "\"fd9a7afa2088089f68f2d15cb32ec077\"";
+pub const VIEWS_TAG: &str = "\"c131bad19ff54a1053a6a7717de75a52\"";

@@ -232,7 +232,12 @@ def made(described: Described) -> str:
     def about(topic: Topic) -> str:
         values = [value_of(it) for it in topic.values]
         made = f"({', '.join(it for _, it in values)})" if values else ""
-        return arm(f"(Topic::{topic.variant}, &[{', '.join(it for it, _ in values)}])", f"Some(Question::{topic.variant}{made})")
+        fields = ", ".join(it for it, _ in values)
+        pattern = (f"Topic::{topic.variant}", f"(Topic::{topic.variant}, {fields})", f"(Topic::{topic.variant}, &[{fields}])")[len(values)]
+        return arm(pattern, f"Some(Question::{topic.variant}{made})")
+
+    def abouts(count: int) -> str:
+        return newline.join(about(it) for it in topics if len(it.values) == count)
 
     def page(listed: Listed) -> str:
         if not listed.of:
@@ -240,12 +245,13 @@ def made(described: Described) -> str:
         pattern, value = value_of(listed.values[0])
         return arm(f"(ListKind::{listed.variant}, {pattern})", f"Some(ListQuestion::{listed.variant}({value}, {cursor_of(listed, 'cursor')}?))")
 
+    newline = "\n"
     whole, others = [it for it in lists if not it.of], [it for it in lists if it.of]
     rest = "\n        | ".join(f"ListKind::{it.variant}" for it in others)
-    newline = "\n"
     return f'''//! The question of a kind and of the values of its members.
 ghost use Rattle.std.specs.Prelude.{{◌≡◌}};
-ghost use Rattle.{SCHEMA}.specs.QuestionValues.{{about_by, around_by, birth_cursor, due_cursor}};
+ghost use Rattle.{SCHEMA}.specs.QuestionValues.{{about_by, about_desk, about_thing, about_version}};
+ghost use Rattle.{SCHEMA}.specs.QuestionValues.{{around_by, birth_cursor, due_cursor}};
 ghost use Rattle.{SCHEMA}.specs.QuestionValues.{{hold_cursor, id_cursor, list_by, list_of}};
 ghost use Rattle.{SCHEMA}.specs.QuestionValues.{{movement_cursor}};
 ghost use Rattle.{SCHEMA}.specs.QuestionValues.{{number_cursor, question_by, recipe_cursor}};
@@ -258,12 +264,43 @@ use plant_questions::{{Cursor, ListQuestion, Question}};
 use plant_trace::{{Direction, Node}};
 
 {cursor_readers()}
+/// What is asked of the desk itself.
+fn about_desk(topic: Topic) -> Option<Question>
+    ensures {{ result ≡ about_desk topic }}
+{{
+    match topic {{
+{abouts(0)}
+        _ => None,
+    }}
+}}
+
+/// What is asked of one thing.
+fn about_thing(topic: Topic, thing: Field) -> Option<Question>
+    ensures {{ result ≡ about_thing topic thing }}
+{{
+    match (topic, thing) {{
+{abouts(1)}
+        _ => None,
+    }}
+}}
+
+/// What is asked of a version of a thing.
+fn about_version(topic: Topic, fields: &[Field]) -> Option<Question>
+    ensures {{ result ≡ about_version topic fields.now }}
+{{
+    match (topic, fields) {{
+{abouts(2)}
+        _ => None,
+    }}
+}}
+
 fn about_by(topic: Topic, fields: &[Field]) -> Option<Question>
     ensures {{ result ≡ about_by topic fields.now }}
 {{
-    match (topic, fields) {{
-{newline.join(about(it) for it in topics)}
-        _ => None,
+    match fields {{
+        &[] => about_desk(topic),
+        &[thing] => about_thing(topic, thing),
+        _ => about_version(topic, fields),
     }}
 }}
 
@@ -336,9 +373,13 @@ def made_in_specs(described: Described) -> str:
 
     def about(topic: Topic) -> str:
         values = [value_of(it) for it in topic.values]
-        fields = chain(applied(it) for it, _ in values)
+        name = ("about_desk", "about_thing", "about_version")[len(values)]
         made = " ".join([f"Q.{topic.variant}", *(it for _, it in values)])
-        return f"about_by topic.{topic.variant} ({fields}) = Some {f'({made})' if values else made}"
+        fields = [f"({chain(applied(it) for it, _ in values)})"] if len(values) == 2 else [f"({applied(it)})" for it, _ in values]
+        return " ".join([name, f"topic.{topic.variant}", *fields, "= Some", f"({made})" if values else made])
+
+    def abouts(count: int) -> str:
+        return newline.join(about(it) for it in topics if len(it.values) == count)
 
     def page(listed: Listed) -> str:
         reader = CURSORS[listed.values[-1].value]
@@ -382,9 +423,25 @@ use {declared}.QuestionKind.TheVariants as q
 
 -- the cursor that a page goes on from, none where none is given
 {newline.join(cursors)}
+-- what is asked of the desk itself
+abbrev pub about_desk : Topic → Option Question
+{abouts(0)}
+about_desk _ = None
+
+-- what is asked of one thing
+abbrev pub about_thing : Topic → Field → Option Question
+{abouts(1)}
+about_thing _ thing = None
+
+-- what is asked of a version of a thing
+abbrev pub about_version : Topic → List Field → Option Question
+{abouts(2)}
+about_version _ _ = None
+
 abbrev pub about_by : Topic → List Field → Option Question
-{newline.join(about(it) for it in topics)}
-about_by _ _ = None
+about_by topic [] = about_desk topic
+about_by topic (thing ∷ []) = about_thing topic thing
+about_by topic fields = about_version topic fields
 
 abbrev pub around_by : Around → Node → Question
 {newline.join(of_node(it) for it in around)}

@@ -6,6 +6,7 @@ the commands up to its number.
 """
 from __future__ import annotations
 
+import contextlib
 import fcntl
 import itertools
 import json
@@ -54,7 +55,7 @@ def commands(count: int) -> Iterator[bytes]:
 
 def tables_of(path: pathlib.Path) -> dict[str, list[Any]]:
     """Returns the rows of a file by tables."""
-    with sqlite3.connect(f"file:{path}?mode=ro", uri=True) as database:
+    with contextlib.closing(sqlite3.connect(f"file:{path}?mode=ro", uri=True)) as database:
         names = [it[0] for it in database.execute("SELECT name FROM sqlite_master WHERE type = 'table' ORDER BY name")]
         return {it: sorted(database.execute(f"SELECT * FROM {it}").fetchall(), key=repr) for it in names}
 
@@ -122,6 +123,9 @@ class BackupTestCase(DeskTestCase):
 
     IN_MEMORY = True
 
+    # How many commands the desk has that the copies are compared with.
+    replayed = 0
+
     def setUp(self) -> None:
         super().setUp()
         self.file, self.out = self.folder / "plant.db", self.folder / "out"
@@ -136,6 +140,16 @@ class BackupTestCase(DeskTestCase):
         ran = subprocess.run(
             [sys.executable, SCRIPT, file, out, "--desk", str(self.desk.path), *words], cwd=self.folder, capture_output=True, text=True, timeout=SECONDS)
         return Made(ran.returncode, pathlib.Path(ran.stdout.strip()) if ran.stdout else None, ran.stderr)
+
+    def check_copy(self, case: str, copy: pathlib.Path, least: int, most: int) -> None:
+        """Checks that a copy is a good desk of so many commands, and equals one that was given them."""
+        found = self.desk.run("verify", str(copy))
+        seq = int(found.output.split()[-1]) if found.status == 0 else -1
+        self.check_true(f"{case}: {found}, from {least} to {most}", least <= seq <= most)
+        self.check(f"{case}: verified", found, good(seq))
+        self.desk.run("run", "replay.db", told=b"".join(itertools.islice(commands(10**9), self.replayed, seq)))
+        self.replayed = max(self.replayed, seq)
+        self.check_true(f"{case}: its tables", tables_of(copy) == tables_of(self.folder / "replay.db"))
 
     def copies(self) -> list[str]:
         """Returns the names in the folder of copies, but for that of the lock."""
@@ -327,19 +341,6 @@ class Refused(BackupTestCase):
 
 class UnderLoad(BackupTestCase):
     """Backups of a desk that books."""
-
-    # How many commands the desk has that the copies are compared with.
-    replayed = 0
-
-    def check_copy(self, case: str, copy: pathlib.Path, least: int, most: int) -> None:
-        """Checks that a copy is a good desk of so many commands, and equals one that was given them."""
-        found = self.desk.run("verify", str(copy))
-        seq = int(found.output.split()[-1]) if found.status == 0 else -1
-        self.check_true(f"{case}: {found}, from {least} to {most}", least <= seq <= most)
-        self.check(f"{case}: verified", found, good(seq))
-        self.desk.run("run", "replay.db", told=b"".join(itertools.islice(commands(10**9), self.replayed, seq)))
-        self.replayed = max(self.replayed, seq)
-        self.check_true(f"{case}: its tables", tables_of(copy) == tables_of(self.folder / "replay.db"))
 
     def test_each_copy_is_the_desk_of_a_moment(self) -> None:
         chance = self.chance("pauses")

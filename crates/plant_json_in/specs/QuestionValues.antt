@@ -56,19 +56,33 @@ birth_cursor field.Absent = Some None
 birth_cursor (field.BirthCursor cursor) = Some (Some cursor)
 birth_cursor _ = None
 
+-- what is asked of the desk itself
+abbrev pub about_desk : Topic → Option Question
+about_desk topic.Desk = Some Q.Desk
+about_desk topic.Moment = Some Q.Moment
+about_desk _ = None
+
+-- what is asked of one thing
+abbrev pub about_thing : Topic → Field → Option Question
+about_thing topic.Lot (field.Id lot) = Some (Q.Lot lot)
+about_thing topic.Order (field.Id order) = Some (Q.Order order)
+about_thing topic.Batch (field.Id batch) = Some (Q.Batch batch)
+about_thing topic.Recall (field.Id recall) = Some (Q.Recall recall)
+about_thing topic.Needs (field.Id order) = Some (Q.Needs order)
+about_thing topic.Definition (field.Id def) = Some (Q.Definition def)
+about_thing topic.BatchLines (field.Id batch) = Some (Q.BatchLines batch)
+about_thing topic.Find (field.Id id) = Some (Q.Find id)
+about_thing _ thing = None
+
+-- what is asked of a version of a thing
+abbrev pub about_version : Topic → List Field → Option Question
+about_version topic.Recipe (field.Id recipe ∷ field.Number version ∷ []) = Some (Q.Recipe recipe version)
+about_version _ _ = None
+
 abbrev pub about_by : Topic → List Field → Option Question
-about_by topic.Desk ([]) = Some Q.Desk
-about_by topic.Lot (field.Id lot ∷ []) = Some (Q.Lot lot)
-about_by topic.Order (field.Id order ∷ []) = Some (Q.Order order)
-about_by topic.Batch (field.Id batch ∷ []) = Some (Q.Batch batch)
-about_by topic.Recall (field.Id recall ∷ []) = Some (Q.Recall recall)
-about_by topic.Needs (field.Id order ∷ []) = Some (Q.Needs order)
-about_by topic.Moment ([]) = Some Q.Moment
-about_by topic.Definition (field.Id def ∷ []) = Some (Q.Definition def)
-about_by topic.Recipe (field.Id recipe ∷ field.Number version ∷ []) = Some (Q.Recipe recipe version)
-about_by topic.BatchLines (field.Id batch ∷ []) = Some (Q.BatchLines batch)
-about_by topic.Find (field.Id id ∷ []) = Some (Q.Find id)
-about_by _ _ = None
+about_by topic [] = about_desk topic
+about_by topic (thing ∷ []) = about_thing topic thing
+about_by topic fields = about_version topic fields
 
 abbrev pub around_by : Around → Node → Question
 around_by around.Back node = Q.Trace Back node

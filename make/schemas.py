@@ -227,6 +227,7 @@ QUESTIONS = {
     "/v1/definitions/{def}": "definition",
     "/v1/recipes/{recipe}/{version}": "recipe",
     "/v1/recalls/{recall}": "recall",
+    "/v1/find/{id}": "find",
 }
 
 # Why a request isn't answered 200.

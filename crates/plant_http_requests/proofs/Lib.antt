@@ -9,3 +9,4 @@ pub mod InputDeterminesTask
 pub mod JudgedCommands
 pub mod ExecutedCommands
 pub mod WholeInput
+mod ComeRequests

@@ -13,6 +13,7 @@ pub mod References
 pub mod InTime
 pub mod Tasks
 pub mod Law
+pub mod Progress
 pub use Routes.{first_part, second_part, target_of}
 unfoldable pub use Routes.{found_in}
 pub use declared.routes.BodyFormat.{BodyFormat}
@@ -29,6 +30,8 @@ pub use Senders.{field_of, is_of_other, may_be, of_sender, operator_of, sender_i
 pub use References.{lacks_needed, lacks_reference, with_reference}
 pub use InTime.{ahead_or, in_time, moment_of, overrun}
 pub use Tasks.{AsksFor, EndTask, HeadAsksFor, HeadTask, TaskOf, Reads, ReadsSome, StepOf, body_task, body_says, command_task, command_of, fault_task_of, file_task, finish, is_of_body, most_reads, parsed_step}
+pub use Progress.{HasCome, HasComeOfHead}
+pub use declared.progress.RequestProgress.{RequestProgress}
 pub use declared.task.HeadDecision.{HeadDecision}
 pub use declared.task.RequestTask.{RequestTask}
 pub use declared.task.Sender.{Sender}

@@ -1,5 +1,5 @@
 -- From one served request to many.
-use Rattle.std.proofs.Common.{◌≡◌, ℕ, ◌+◌, ◌-◌, ◌≤◌, Bool, true, false, List, [], ◌∷◌, ◌++◌, length, Option, Result, Ok, Err, refl, inl, inr, arith, length-append}
+use Rattle.std.proofs.Common.{◌≡◌, ℕ, zero, suc, ◌+◌, ◌-◌, ◌≤◌, Bool, true, false, List, [], ◌∷◌, ◌++◌, length, Option, Result, Ok, Err, refl, inl, inr, arith, length-append}
 use Rattle.sqlite.specs.Held.{state}
 use Rattle.sqlite_trees.specs.declared.store.Store.{Ghosts}
 use Rattle.plant_desk_store.specs.{Represents, HasCrashStates, Desk}
@@ -116,3 +116,18 @@ pub serving_more : {S : Type 0} (g : Ghosts S) (terms : Terms) (count left : ℕ
     → IsServing g terms count (left - 1) a c
 serving_more g terms count left a b c before room still one is_live =
     let more = serving_one g terms count left a b c before room still one in (more.0, is_live, omega (arith, before.2), more.1)
+
+-- ---- a step
+
+-- it was asked nothing at all
+pub desk_unasked : {S : Type 0} (g : Ghosts S) (terms : Terms) (most : ℕ) (a : Desk S g) → a.is_shut ≡ false → ServesAtMost g terms most a a
+desk_unasked g terms most a is_live = λ clean s represented.
+    open_served terms most s (Represents (state g a.connection) a.is_shut) a.is_shut (λ states. HasCrashStates (state g a.connection) states) [] is_live (omega arith)
+    (represented, represented.1 is_live)
+
+-- a connection went on: it was served, or asked nothing
+pub serving_step : {S : Type 0} (g : Ghosts S) (terms : Terms) (count left done : ℕ) (a b c : Desk S g) → IsServing g terms count left a b → 1 ≤ left → IsSameStore g b c → ServesAtMost g terms 1 b c
+    → c.is_shut ≡ false → done ≤ 1 → (done ≡ 0 → c ≡ b) → IsServing g terms count (left - done) a c
+serving_step g terms count left zero a b c before room still one is_live few unasked = rw (unasked refl) (serving_fewer g terms count left 0 a b before (omega arith))
+serving_step g terms count left (suc zero) a b c before room still one is_live few unasked = serving_more g terms count left a b c before room still one is_live
+serving_step g terms count left (suc (suc n)) a b c before room still one is_live few unasked = absurd (omega (arith, few))

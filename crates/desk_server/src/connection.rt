@@ -1,144 +1,161 @@
-//! One connection.
-ghost use Rattle.std.specs.Prelude.{◌≡◌, ◌*◌, true, false};
-ghost use Rattle.std.specs.Duration.{as_nanos};
-ghost use Rattle.plant_base.specs.{State};
-ghost use Rattle.plant_desk.specs.{IsSameDesk};
-ghost use Rattle.desk_server.specs.Serving.{HasServed, status_of};
+//! One connection: what came of it, and what it is answered.
+ghost use Rattle.std.specs.Prelude.{◌≡◌, ◌<◌, ◌≤◌, ◌++◌, length, IfSome};
+ghost use Rattle.desk_server.specs.Connection.{HasReceived, IsSentFrom, IsTakenOf};
 
-use crate::deadline::Timed;
-use crate::log::{Arrival, PrefixReader};
-use crate::server::Server;
-use plant_desk::Keeper;
-use plant_http::{ServeFault, Served, serve_one};
-use plant_http_requests::Terms;
-use std::io::Read;
-use std::net::{Shutdown, TcpStream};
-use std::rt::Clock;
-use std::time::Duration;
+use crate::log::Arrival;
+use httpdate::HttpDate;
+use std::io::{ErrorKind, Read, Write};
+use std::net::TcpStream;
 
-/// How many pieces are read at most of what a client sends after its answer.
-const MOST_PIECES: u32 = 64;
+/// How many bytes of a request one read gives at most.
+const PIECE_BYTES: usize = 4096;
 
-/// How many bytes a piece has at most.
-const PIECE_BYTES: usize = 8192;
+/// How many bytes after a request one read gives at most.
+const PASSED_BYTES: usize = 8192;
 
-/// How long a write of an answer waits at most: ten seconds.
-fn most_write_wait() -> Duration
-    ensures { as_nanos result ≡ 10 * 1_000_000_000 }
+/// How far a connection has come.
+#[derive(Clone, Copy, Debug, PartialEq, Eq)]
+pub(crate) enum Stage {
+    /// No byte came.
+    Silent,
+    /// Bytes came of its request, the first of them at this moment, by so many reads.
+    Reading {
+        /// When its first byte came, in milliseconds since serving began.
+        first: u64,
+        /// How many reads gave bytes.
+        reads: u32,
+    },
+    /// Its answer, of this status, is on its way.
+    Writing {
+        /// The status of the answer.
+        status: u16,
+    },
+    /// Its answer was handed over whole, and what its client sends after its request is passed over, so many pieces so far.
+    Ending {
+        /// How many pieces came.
+        pieces: u32,
+    },
+}
+
+/// A connection that was taken.
+#[derive(Drop)]
+pub(crate) struct Connection {
+    pub(crate) stream: TcpStream,
+    pub(crate) arrival: Arrival,
+    /// By which the system names it.
+    pub(crate) token: usize,
+    pub(crate) stage: Stage,
+    /// When it last moved on, in milliseconds since serving began.
+    pub(crate) moved: u64,
+    /// Whether it may go on at once: there is something to be read, or room for what is written.
+    pub(crate) is_ready: bool,
+    /// The machine's time before its first byte was read.
+    pub(crate) now: Option<HttpDate>,
+    /// What was received of its request.
+    pub(crate) request: Vec<u8>,
+    /// How many bytes its request has in all, where its head says so.
+    pub(crate) size: Option<usize>,
+    /// The answer to its request, once it was served.
+    pub(crate) answer: Vec<u8>,
+    /// How many bytes of the answer were handed over.
+    pub(crate) handed: usize,
+}
+
+/// What one read of a connection gave.
+#[derive(Clone, Copy, Debug, PartialEq, Eq)]
+pub(crate) enum Piece {
+    /// So many bytes.
+    Bytes(usize),
+    /// The client has ended its side.
+    End,
+    /// Nothing is there now.
+    Nothing,
+    /// The read failed, or was interrupted.
+    Broken,
+}
+
+/// Reads once from a connection, without waiting.
+fn read_piece(stream: &TcpStream, piece: &mut [u8]) -> Piece
+    ensures { IsTakenOf result (length piece.old) }
 {
-    Duration::from_secs(10)
-}
-
-/// How long a read after an answer waits at most: a second.
-fn most_wait_behind() -> Duration
-    ensures { as_nanos result ≡ 1_000_000_000 }
-{
-    Duration::from_secs(1)
-}
-
-/// Bounds the time that a write to the connection waits.
-///
-/// Where the system doesn't take the bound, a client that reads nothing holds the server for as long as it likes.
-fn bound_writes(stream: &TcpStream) {
-    let _ = stream.set_write_timeout(Some(most_write_wait()));
-}
-
-/// Reads on after an answer until the client ends its side, for a while.
-///
-/// A socket that is closed with unread bytes in it resets the connection, and a reset can destroy an answer on its way.
-/// So the connection is closed in stages (RFC 9112, section 9.6).
-pub(crate) fn read_on(stream: &TcpStream) {
-    let most = Some(most_wait_behind());
-    if stream.set_read_timeout(most).is_err() {
-        return;
-    }
     let mut input = stream;
-    let mut piece = [0u8; PIECE_BYTES];
-    for _ in 0..MOST_PIECES {
-        match input.read(&mut piece) {
-            Ok(0) | Err(_) => return,
-            Ok(_) => {}
-        }
+    match input.read(piece) {
+        Ok(0) => Piece::End,
+        Ok(n) => Piece::Bytes(n),
+        Err(e) => match e.kind() {
+            ErrorKind::WouldBlock => Piece::Nothing,
+            _ => Piece::Broken,
+        },
     }
 }
 
-/// Reads on after an answer what has come, and waits for no more.
-pub(crate) fn read_rest(stream: &TcpStream) {
-    if stream.set_nonblocking(true).is_ok() {
-        read_on(stream);
-    }
-}
-
-/// Lets the client know that no more comes than its answer, which has this status. The connection comes back where nothing
-/// has to be read on: a request that is answered 200 or 409 was read to its end, but for the body of a GET or HEAD, which
-/// is never read.
-fn end_answer(stream: TcpStream, status: u16) -> Option<TcpStream> {
-    if stream.shutdown(Shutdown::Write).is_err() {
-        return None;
-    }
-    if matches!(status, 200 | 409) {
-        return Some(stream);
-    }
-    read_on(&stream);
-    None
-}
-
-/// The status by which a request was answered.
-fn status_of(served: &Result<Served, ServeFault>) -> Option<u16>
-    ensures { result ≡ status_of served.now }
+/// Writes once to a connection, without waiting. `Some(0)`: it takes nothing now. `None`: the write failed, was interrupted, or took no byte.
+fn write_piece(stream: &TcpStream, rest: &[u8]) -> Option<usize>
+    ensures { IfSome result (λ n. n ≤ length rest.now) }
 {
-    match served {
-        Ok(Served::Answered(status)) => Some(*status),
-        Ok(Served::Nothing) | Err(_) => None,
+    let mut output = stream;
+    match output.write(rest) {
+        Ok(0) => None,
+        Ok(n) => Some(n),
+        Err(e) => match e.kind() {
+            ErrorKind::WouldBlock => Some(0),
+            _ => None,
+        },
     }
 }
 
-impl<R: Clock> Server<'_, R> {
-    /// Serves the request of one connection. The clauses are about the keeper, and say nothing of
-    /// the connection.
-    ///
-    /// A socket's bytes aren't known, so that no clause says which request it was: the keeper does
-    /// the task of one request, once, or nothing.
-    ///
-    /// The request has to be whole within its time by the clock (`Timed`). The time by which it is judged is read once, before
-    /// its first byte.
-    ///
-    /// The connection comes back where its client has all that it needs to end it. Where nothing
-    /// was answered, for a fault of the connection, for want of memory or since the time was over,
-    /// nothing has to reach the client, and the connection is dropped at once.
-    pub(crate) fn serve_stream<K: Keeper>(
-        &self,
-        stream: TcpStream,
-        arrival: Arrival,
-        keeper: &mut K,
-    ) -> Option<TcpStream>
-        ensures same { IsSameDesk K.honest K.schema K.foreign_tables keeper.old keeper.new }
-        ensures serves { K.honest keeper.new → K.shut keeper.old ≡ false → (s : State)
-            → K.represents keeper.old s → HasServed self.now.terms 1 s
-            (K.represents keeper.new) (K.shut keeper.new) (K.crash_states keeper.new) }
-        ensures unchanged { K.shut keeper.old ≡ true → keeper.new ≡ keeper.old }
+impl Connection {
+    /// Whether its request was served.
+    pub(crate) fn is_served(&self) -> bool {
+        matches!(self.stage, Stage::Writing { .. } | Stage::Ending { .. })
+    }
+
+    /// How many bytes the next read of its request gives at most: none after its body.
+    fn room(&self) -> usize
+        ensures { result ≤ PIECE_BYTES }
     {
-        bound_writes(&stream);
-        let status = {
-            let mut input = PrefixReader::new(Timed::new(self.clock, &stream));
-            let mut output = &stream;
-            let now = self.now();
-            let terms = Terms { now, ..self.terms };
-            let served = serve_one(
-                self.alloc,
-                &self.routes,
-                terms,
-                &mut input,
-                &mut output,
-                keeper,
-            );
-            let status = status_of(&served);
-            self.log.note_request(arrival, input.prefix(), status);
-            status
-        };
-        match status {
-            Some(status) => end_answer(stream, status),
-            None => None,
+        match self.size {
+            Some(size) => size.saturating_sub(self.request.len()).min(PIECE_BYTES),
+            None => PIECE_BYTES,
         }
+    }
+
+    /// Reads once of its request, and keeps what came. `Broken`: the read failed, or memory was refused for the bytes.
+    pub(crate) fn receive(&mut self) -> Piece
+        ensures received { HasReceived result self.old.request.items self.new.request.items }
+        ensures unanswered { self.new.answer ≡ self.old.answer }
+        ensures unchanged { self.new.now ≡ self.old.now }
+    {
+        let mut piece = [0u8; PIECE_BYTES];
+        let room = self.room();
+        let came = read_piece(&self.stream, &mut piece[..room]);
+        if let Piece::Bytes(n) = came {
+            if self.request.extend_from_slice(&piece[..n]).is_err() {
+                return Piece::Broken;
+            }
+        }
+        came
+    }
+
+    /// Hands over once of the rest of its answer, as much as the system takes now, and says how many bytes it took. `None`: the
+    /// connection takes no more.
+    pub(crate) fn hand_over(&mut self) -> Option<usize>
+        ensures sent { IsSentFrom result (length self.old.answer.items) self.old.handed self.new.handed }
+        ensures unchanged { self.new.answer ≡ self.old.answer }
+        ensures received { self.new.request ≡ self.old.request }
+    {
+        let len = self.answer.len();
+        if self.handed >= len {
+            return Some(0);
+        }
+        let sent = write_piece(&self.stream, &self.answer[self.handed..])?;
+        self.handed += sent;
+        Some(sent)
+    }
+
+    /// Reads once of what its client sends after its request, and passes it over.
+    pub(crate) fn pass_over(&self) -> Piece {
+        let mut piece = [0u8; PASSED_BYTES];
+        read_piece(&self.stream, &mut piece)
     }
 }

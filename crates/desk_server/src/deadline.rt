@@ -1,65 +1,29 @@
-//! How long a request may take to come.
-ghost use Rattle.desk_server.specs.Deadline.{IsWait};
+//! How long a connection may stay as it is.
+ghost use Rattle.std.specs.Prelude.{◌≡◌};
+ghost use Rattle.desk_server.specs.Deadline.{time_left};
 
-use crate::log::milliseconds_since;
-use std::io::{self, ErrorKind, Read};
-use std::net::TcpStream;
-use std::rt::Clock;
-use std::time::{Duration, Instant};
+use crate::connection::Stage;
+
+/// How long a connection may be silent, within its request or while its answer is written, in milliseconds.
+const MOST_SILENT: u64 = 10_000;
 
 /// How long a request may take from its first byte until it is whole, in milliseconds.
-const MOST_MILLISECONDS: u64 = 20_000;
+const MOST_REQUEST: u64 = 20_000;
 
-/// How long one read waits at most, in milliseconds.
-const MOST_READ_MILLISECONDS: u64 = 10_000;
+/// How long the server reads on after an answer, in milliseconds.
+const MOST_AFTER: u64 = 1_000;
 
-/// For how many milliseconds the next read waits at most, so many milliseconds after the first byte of a request: ten seconds, or what is left of
-/// the twenty, whichever is less. `None`: the time is over.
-fn wait_for(passed: u64) -> Option<u64>
-    ensures { IsWait passed result }
+/// For how many milliseconds more a connection may stay as it is that last moved on at a moment: ten seconds while it is read or
+/// written, and never past the twenty of its request; a second after its answer.
+pub(crate) fn time_left(stage: Stage, moved: u64, now: u64) -> u64
+    ensures { result ≡ time_left stage moved now }
 {
-    if passed >= MOST_MILLISECONDS {
-        return None;
-    }
-    let left = MOST_MILLISECONDS - passed;
-    if left < MOST_READ_MILLISECONDS {
-        Some(left)
-    } else {
-        Some(MOST_READ_MILLISECONDS)
-    }
-}
-
-/// A connection that is read for one request, which has to be whole within its time.
-///
-/// The time begins as the connection begins to be served, which is when bytes are there. A read fails with `TimedOut` once it is over, without
-/// reading; with `WouldBlock` where nothing comes for as long as it waits; and with the system's error where the system takes no bound. A clock that fails
-/// counts as no time passed: each read still waits ten seconds at most.
-#[derive(Drop)]
-pub(crate) struct Timed<'a, R> {
-    clock: &'a R,
-    began: Option<Instant>,
-    stream: &'a TcpStream,
-}
-
-impl<'a, R: Clock> Timed<'a, R> {
-    /// The connection, whose time begins now.
-    pub(crate) fn new(clock: &'a R, stream: &'a TcpStream) -> Timed<'a, R> {
-        Timed {
-            clock,
-            began: Instant::now(clock).ok(),
-            stream,
-        }
-    }
-}
-
-impl<R: Clock> Read for Timed<'_, R> {
-    fn read(&mut self, buf: &mut [u8]) -> io::Result<usize> {
-        let Some(most) = wait_for(milliseconds_since(self.clock, self.began)) else {
-            return Err(ErrorKind::TimedOut.into());
-        };
-        self.stream
-            .set_read_timeout(Some(Duration::from_millis(most)))?;
-        let mut input = self.stream;
-        input.read(buf)
+    let idle = now.saturating_sub(moved);
+    match stage {
+        Stage::Silent | Stage::Writing { .. } => MOST_SILENT.saturating_sub(idle),
+        Stage::Reading { first, .. } => MOST_SILENT
+            .saturating_sub(idle)
+            .min(MOST_REQUEST.saturating_sub(now.saturating_sub(first))),
+        Stage::Ending { .. } => MOST_AFTER.saturating_sub(idle),
     }
 }

@@ -1,4 +1,4 @@
-//! Requests of HTTP/1.1 (RFC 9112) that come in on a listener, one at a time, answered by a desk.
+//! Requests of HTTP/1.1 (RFC 9112) that come in on a listener, read side by side and answered one after the other by a desk.
 #![tactic(auto)]
 
 mod address;
@@ -7,9 +7,12 @@ mod deadline;
 mod fault;
 mod listening;
 mod log;
+mod receiving;
 mod reception;
+mod reply;
 mod server;
-mod waiting;
+mod table;
+mod writing;
 
 pub use address::{ListenLocally, Local, listen_at, local_at};
 pub use fault::ServingFault;

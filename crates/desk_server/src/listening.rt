@@ -1,34 +1,35 @@
-//! Connections, one after the other.
+//! The connections of a listener, side by side.
 ghost use Rattle.std.specs.Prelude.{◌≡◌, ◌≢◌, [], false, true, ◌<◌, ◌≤◌, length, Ok, Err, IfErr, IfOk};
 ghost use Rattle.std.specs.Prelude.{OnErr, OnOk};
 ghost use Rattle.sqlite.specs.Held.{state};
 ghost use Rattle.sqlite.specs.State.{HasCleanDisk};
 ghost use Rattle.desk_server.specs.Serving.{EndsServing, IsSameStore, ServesAtMost};
-ghost use Rattle.desk_server.specs.Waiting.{FitsStep};
+ghost use Rattle.desk_server.specs.Table.{FitsStep};
 
-use crate::connection::{read_on, read_rest};
+use crate::connection::{Connection, Stage};
 use crate::fault::ServingFault;
 use crate::log::AccessLog;
+use crate::receiving::Received;
 use crate::reception::Acceptor;
 use crate::server::Server;
-use crate::waiting::{PendingConnection, Step, Waiting};
+use crate::table::{Arrivals, Step, Table};
 use plant_desk_store::Desk;
 use plant_http_requests::{Routes, RoutesFault, Terms};
 use sqlite::Alter;
 use std::alloc::{AllocGlobal, Global};
-use std::net::{Net, TcpListener, TcpStream};
+use std::net::{Net, TcpListener};
 use std::rt::Clock;
 use std::time::Instant;
 
 /// The connections of a listener.
 #[derive(Drop)]
-struct Connections<'a> {
+pub(crate) struct Connections<'a> {
     /// Where they come in.
-    reception: Acceptor<'a>,
-    /// Those that wait.
-    waiting: Waiting,
-    /// The last one, where its client has its answer and may not have ended it.
-    answered: Option<TcpStream>,
+    pub(crate) reception: Acceptor<'a>,
+    /// Those that were taken.
+    pub(crate) table: Table,
+    /// Whether it is the turn of one that comes in.
+    have_turn: bool,
 }
 
 impl<'a> Connections<'a> {
@@ -41,30 +42,47 @@ impl<'a> Connections<'a> {
     ) -> Result<Connections<'a>, ServingFault>
         ensures { IfErr result (λ fault. fault ≢ ServingFault.Store) }
     {
-        let Ok(waiting) = Waiting::new(alloc) else {
+        let Ok(table) = Table::new(alloc) else {
             return Err(ServingFault::Memory);
         };
         Ok(Connections {
             reception: Acceptor::new(alloc, net, listener)?,
-            waiting,
-            answered: None,
+            table,
+            have_turn: true,
         })
     }
 
-    /// What is done next, at so many milliseconds.
-    fn next(&self, now: u64) -> Step
-        ensures { FitsStep result self.now.waiting.pending.items }
+    /// What is done next, at so many milliseconds. After one was taken it is the turn of those that are there.
+    fn next(&mut self, now: u64) -> Step
+        ensures fits { FitsStep result self.new.table.connections.items }
+        ensures unchanged { self.new.table ≡ self.old.table }
     {
-        self.waiting.next(now, self.reception.may_take())
+        let arrivals = Arrivals {
+            may_take: self.reception.may_take(),
+            have_turn: self.have_turn,
+        };
+        let step = self.table.next(now, arrivals);
+        self.have_turn = !matches!(step, Step::Take);
+        step
     }
 
-    /// Takes a connection out of those that wait.
-    fn remove(&mut self, index: usize) -> PendingConnection
-        requires { index < length self.old.waiting.pending.items }
+    /// What is done next where none is taken any more.
+    fn next_of_taken(&self, now: u64) -> Step
+        ensures { FitsStep result self.now.table.connections.items }
     {
-        let waiter = self.waiting.remove(index);
-        self.reception.leave(&waiter.stream);
-        waiter
+        let arrivals = Arrivals {
+            may_take: false,
+            have_turn: false,
+        };
+        self.table.next(now, arrivals)
+    }
+
+    /// Takes a connection out.
+    fn remove(&mut self, index: usize) -> Connection
+        requires { index < length self.old.table.connections.items }
+        ensures { length self.new.table.connections.items ≤ 64 }
+    {
+        self.table.remove(index)
     }
 
     /// Asks the system what is there by the time that a step is done. `Net`: it doesn't say. No
@@ -72,28 +90,19 @@ impl<'a> Connections<'a> {
     fn ask(&mut self, step: Step) -> Result<(), ServingFault>
         ensures { IfErr result (λ fault. fault ≡ ServingFault.Net) }
     {
-        self.reception.ask(step, &mut self.waiting)
-    }
-
-    /// Keeps a connection as the last one. The former one was kept while this one was served, by
-    /// when its client mostly has ended it.
-    fn keep(&mut self, answered: Option<TcpStream>) {
-        if let Some(former) = &self.answered {
-            read_rest(former);
-        }
-        self.answered = answered;
+        self.reception.ask(step, &mut self.table)
     }
 }
 
 impl<R: Clock> Server<'_, R> {
-    /// Takes a connection, where one is there, and has it wait. One that the system doesn't follow
-    /// is dropped. Where the system refuses one, as with too many open files, there is room made for it. Returns how many
+    /// Takes a connection, where one is there. One that the system doesn't follow is dropped. Where the system refuses one, as with
+    /// too many open files, there is room made for it. Returns how many
     /// were dropped, 0 or 1. `Net`: none can be taken, and there is no connection to be dropped for it.
     fn take_next(&self, connections: &mut Connections<'_>) -> Result<u32, ServingFault>
-        requires { length connections.old.waiting.pending.items ≤ 64 }
+        requires { length connections.old.table.connections.items ≤ 64 }
         ensures few { IfOk result (λ done. done ≤ 1) }
         ensures net { IfErr result (λ fault. fault ≡ ServingFault.Net) }
-        ensures alone { OnErr result (connections.old.waiting.pending.items ≡ []) }
+        ensures alone { OnErr result (connections.old.table.connections.items ≡ []) }
     {
         let taken = match connections.reception.take() {
             Ok(taken) => taken,
@@ -107,69 +116,143 @@ impl<R: Clock> Server<'_, R> {
             self.log.note_request(arrival, &[], None);
             return Ok(1);
         };
-        connections.waiting.add(PendingConnection {
+        connections.table.add(Connection {
             stream,
             arrival,
             token,
-            came: self.milliseconds(),
-            has_bytes: false,
+            stage: Stage::Silent,
+            moved: self.milliseconds(),
+            is_ready: false,
+            now: None,
+            request: Vec::new(self.alloc),
+            size: None,
+            answer: Vec::new(self.alloc),
+            handed: 0,
         });
         Ok(0)
     }
 
-    /// Makes room for a connection that the system refuses: the oldest that waits is dropped, else the last one that has its
-    /// answer is ended. Returns how many were dropped, 0 or 1. `Net`: neither is there.
+    /// Makes room for a connection that the system refuses: the one that has stayed as it is for longest is dropped. Returns how many were
+    /// dropped without being served, 0 or 1. `Net`: none is there.
     fn make_room(&self, connections: &mut Connections<'_>) -> Result<u32, ServingFault>
         ensures few { IfOk result (λ done. done ≤ 1) }
         ensures net { IfErr result (λ fault. fault ≡ ServingFault.Net) }
-        ensures alone { OnErr result (connections.old.waiting.pending.items ≡ []) }
+        ensures alone { OnErr result (connections.old.table.connections.items ≡ []) }
     {
-        if !connections.waiting.pending.is_empty() {
-            self.drop_oldest(connections);
-            return Ok(1);
+        if connections.table.connections.is_empty() {
+            return Err(ServingFault::Net);
         }
-        if connections.answered.is_some() {
-            connections.keep(None);
-            return Ok(0);
-        }
-        Err(ServingFault::Net)
+        Ok(self.drop_at(0, connections))
     }
 
-    /// Drops the oldest connection that waits. No byte came on it.
-    fn drop_oldest(&self, connections: &mut Connections<'_>)
-        requires { 0 < length connections.old.waiting.pending.items }
+    /// Drops a connection. Returns 1 where its request wasn't served, else 0, since it was counted then.
+    fn drop_at(&self, index: usize, connections: &mut Connections<'_>) -> u32
+        requires { index < length connections.old.table.connections.items }
+        ensures { result ≤ 1 }
     {
-        let oldest = connections.waiting.remove(0);
-        self.log.note_request(oldest.arrival, &[], None);
+        let connection = connections.remove(index);
+        let is_served = connection.is_served();
+        self.drop_connection(connection);
+        if is_served { 0 } else { 1 }
     }
 
-    /// Serves a connection of those that wait. `Store`: a fault of the store has shut the desk. No
-    /// other fault comes.
+    /// Serves what was received on a connection, and begins to hand over the answer. `Store`: a fault of the store has shut the
+    /// desk. No other fault comes.
     fn serve_at<S: Alter + Drop>(
         &self,
-        index: usize,
+        mut connection: Connection,
         connections: &mut Connections<'_>,
         desk: &mut Desk<S>,
-    ) -> Result<(), ServingFault>
-        requires { index < length connections.old.waiting.pending.items }
+    ) -> Result<u32, ServingFault>
+        requires { length connections.old.table.connections.items ≤ 64 }
         ensures same { IsSameStore S.Store desk.old desk.new }
         ensures serves { desk.old.is_shut ≡ false
             → ServesAtMost S.Store self.now.terms 1 desk.old desk.new }
+        ensures one { IfOk result (λ done. done ≡ 1) }
         ensures open { OnOk result (desk.new.is_shut ≡ false) }
         ensures shut { OnErr result (desk.new.is_shut ≡ true) }
         ensures store { IfErr result (λ fault. fault ≡ ServingFault.Store) }
     {
-        let waiter = connections.remove(index);
-        let answered = self.serve_stream(waiter.stream, waiter.arrival, desk);
-        connections.keep(answered);
+        let is_answered = self.serve_connection(&mut connection, desk);
+        match connection.stage {
+            Stage::Writing { status } if is_answered => {
+                self.write_at(connection, status, connections);
+            }
+            _ => self.drop_connection(connection),
+        }
         if desk.is_shut() {
             return Err(ServingFault::Store);
         }
-        Ok(())
+        Ok(1)
     }
 
-    /// Serves so many connections of a listener, one at a time: the first of those that wait on
-    /// which bytes came. Those that were dropped count.
+    /// Reads once on a connection of its request, and serves it once it is whole or its client has ended it. Returns 1 where it was served
+    /// or dropped, else 0. `Store`: a fault of the store has shut the desk. No other fault comes.
+    #[tactic(auto, using(crate::proofs::ServedRequests::desk_unasked))]
+    fn read_at<S: Alter + Drop>(
+        &self,
+        mut connection: Connection,
+        connections: &mut Connections<'_>,
+        desk: &mut Desk<S>,
+    ) -> Result<u32, ServingFault>
+        requires room { length connections.old.table.connections.items ≤ 64 }
+        requires is_live { desk.old.is_shut ≡ false }
+        ensures same { IsSameStore S.Store desk.old desk.new }
+        ensures serves { ServesAtMost S.Store self.now.terms 1 desk.old desk.new }
+        ensures few { IfOk result (λ done. done ≤ 1) }
+        ensures unasked { IfOk result (λ done. done ≡ 0 → desk.new ≡ desk.old) }
+        ensures open { OnOk result (desk.new.is_shut ≡ false) }
+        ensures shut { OnErr result (desk.new.is_shut ≡ true) }
+        ensures store { IfErr result (λ fault. fault ≡ ServingFault.Store) }
+    {
+        match self.receive(&mut connection) {
+            Received::Whole | Received::Ended => self.serve_at(connection, connections, desk),
+            Received::Lacks => {
+                connections.table.add(connection);
+                Ok(0)
+            }
+            Received::Broken => {
+                self.drop_connection(connection);
+                Ok(1)
+            }
+        }
+    }
+
+    /// Has a connection go on: its request is read and served, its answer is handed over, or what comes after it is passed over. Returns 1
+    /// where it was served or dropped now, else 0. `Store`: a fault of the store has shut the desk. No other fault comes.
+    #[tactic(auto, using(crate::proofs::ServedRequests::desk_unasked))]
+    fn advance_at<S: Alter + Drop>(
+        &self,
+        index: usize,
+        connections: &mut Connections<'_>,
+        desk: &mut Desk<S>,
+    ) -> Result<u32, ServingFault>
+        requires within { index < length connections.old.table.connections.items }
+        requires is_live { desk.old.is_shut ≡ false }
+        ensures same { IsSameStore S.Store desk.old desk.new }
+        ensures serves { ServesAtMost S.Store self.now.terms 1 desk.old desk.new }
+        ensures few { IfOk result (λ done. done ≤ 1) }
+        ensures unasked { IfOk result (λ done. done ≡ 0 → desk.new ≡ desk.old) }
+        ensures open { OnOk result (desk.new.is_shut ≡ false) }
+        ensures shut { OnErr result (desk.new.is_shut ≡ true) }
+        ensures store { IfErr result (λ fault. fault ≡ ServingFault.Store) }
+    {
+        let connection = connections.remove(index);
+        match connection.stage {
+            Stage::Silent | Stage::Reading { .. } => self.read_at(connection, connections, desk),
+            Stage::Writing { status } => {
+                self.write_at(connection, status, connections);
+                Ok(0)
+            }
+            Stage::Ending { pieces } => {
+                self.pass_over_at(connection, pieces, connections);
+                Ok(0)
+            }
+        }
+    }
+
+    /// Serves so many connections of a listener: they are read side by side, and served one after the other as they become whole. Those
+    /// that were dropped before they were served count.
     fn serve_each<S: Alter + Drop>(
         &self,
         connections: &mut Connections<'_>,
@@ -189,14 +272,8 @@ impl<R: Clock> Server<'_, R> {
             }
             let step = connections.next(self.milliseconds());
             let done = match step {
-                Step::Serve(index) => {
-                    self.serve_at(index, connections, desk)?;
-                    1
-                }
-                Step::Drop => {
-                    self.drop_oldest(connections);
-                    1
-                }
+                Step::Advance(index) => self.advance_at(index, connections, desk)?,
+                Step::Drop(index) => self.drop_at(index, connections),
                 Step::Take => self.take_next(connections)?,
                 Step::Wait(_) => 0,
             };
@@ -204,6 +281,39 @@ impl<R: Clock> Server<'_, R> {
             left -= done;
         }
         Ok(())
+    }
+
+    /// Has a connection go on that was served, and drops another one.
+    fn finish_at(&self, index: usize, connections: &mut Connections<'_>)
+        requires { index < length connections.old.table.connections.items }
+    {
+        let connection = connections.remove(index);
+        match connection.stage {
+            Stage::Silent | Stage::Reading { .. } => {}
+            Stage::Writing { status } => self.write_at(connection, status, connections),
+            Stage::Ending { pieces } => self.pass_over_at(connection, pieces, connections),
+        }
+    }
+
+    /// Hands over what is on its way of the answers, where none is served any more, within their time.
+    fn finish(&self, connections: &mut Connections<'_>) {
+        connections.table.keep_served();
+        for _turn in 0..u64::MAX {
+            if connections.table.connections.is_empty() {
+                return;
+            }
+            let step = connections.next_of_taken(self.milliseconds());
+            match step {
+                Step::Advance(index) => self.finish_at(index, connections),
+                Step::Drop(index) => {
+                    self.drop_at(index, connections);
+                }
+                Step::Take | Step::Wait(_) => {}
+            }
+            if connections.ask(step).is_err() {
+                return;
+            }
+        }
     }
 }
 
@@ -218,7 +328,8 @@ fn routes_of(made: Result<Routes, RoutesFault>) -> Result<Routes, ServingFault>
     }
 }
 
-/// Serves so many connections of a listener, one at a time, by an open desk, as the terms say. What is answered to a request ends nothing,
+/// Serves so many connections of a listener by an open desk, as the terms say: they are read and answered side by side, and their requests
+/// executed one after the other. What is answered to a request ends nothing,
 /// and neither does a fault of a connection; one without a byte counts too, and one whose request isn't whole within its twenty seconds.
 /// Each is noted in the log where there is one.
 ///
@@ -248,8 +359,6 @@ pub fn serve_listener<R: Net + Clock + AllocGlobal, S: Alter + Drop>(
         log,
     };
     let end = server.serve_each(&mut connections, count, desk);
-    if let Some(last) = connections.answered {
-        read_on(&last);
-    }
+    server.finish(&mut connections);
     end
 }

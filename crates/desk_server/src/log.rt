@@ -1,14 +1,12 @@
 //! Requests noted on standard error, a line each.
-ghost use Rattle.std.specs.Prelude.{◌≡◌, ◌≤◌, length, Some};
+ghost use Rattle.std.specs.Prelude.{◌≡◌, Some};
 ghost use Rattle.desk_server.specs.Noting.{is_printable, logged_status, noted_text};
 
-use arrayvec::ArrayVec;
-use std::io::{self, Read};
 use std::rt::Clock;
 use std::time::{Instant, SystemTime, UNIX_EPOCH};
 use std::{fmt, str};
 
-/// How many bytes of a request are kept for its line.
+/// How many bytes of a request its line has at most.
 const MOST_HEARD: usize = 120;
 
 /// Where requests are noted.
@@ -150,49 +148,9 @@ fn printable_prefix(heard: &[u8]) -> &[u8] {
 
 /// The first line of a request, as far as it is noted.
 fn request_line(heard: &[u8]) -> &str {
-    match str::from_utf8(printable_prefix(heard)) {
+    let front = &heard[..heard.len().min(MOST_HEARD)];
+    match str::from_utf8(printable_prefix(front)) {
         Ok(line) => line,
         Err(_) => "",
-    }
-}
-
-/// Keeps of these bytes what there is room for.
-fn keep(kept: &mut ArrayVec<u8, MOST_HEARD>, bytes: &[u8]) {
-    for b in bytes {
-        if kept.try_push(*b).is_err() {
-            return;
-        }
-    }
-}
-
-/// A reader whose first bytes are kept.
-#[derive(Drop)]
-pub(crate) struct PrefixReader<R> {
-    reader: R,
-    bytes: ArrayVec<u8, MOST_HEARD>,
-}
-
-impl<R> PrefixReader<R> {
-    /// The reader, of which nothing was read so far.
-    pub(crate) fn new(reader: R) -> PrefixReader<R> {
-        PrefixReader {
-            reader,
-            bytes: ArrayVec::new(),
-        }
-    }
-
-    /// The first bytes that were read, 120 at most.
-    pub(crate) fn prefix(&self) -> &[u8] {
-        self.bytes.as_slice()
-    }
-}
-
-impl<R: Read> Read for PrefixReader<R> {
-    ghost remaining = { λ heard. R.remaining heard.reader };
-
-    fn read(&mut self, buf: &mut [u8]) -> io::Result<usize> {
-        let n = self.reader.read(buf)?;
-        keep(&mut self.bytes, &buf[..n]);
-        Ok(n)
     }
 }

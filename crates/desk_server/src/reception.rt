@@ -2,7 +2,7 @@
 ghost use Rattle.std.specs.Prelude.{◌≡◌, ◌≢◌, IfErr};
 
 use crate::fault::ServingFault;
-use crate::waiting::{Step, Waiting};
+use crate::table::{Step, Table};
 use mio::unix::SourceFd;
 use mio::{Events, Interest, Poll, Token};
 use std::alloc::Global;
@@ -11,10 +11,10 @@ use std::net::{Net, TcpListener, TcpStream};
 use std::os::fd::{AsRawFd, RawFd};
 use std::time::Duration;
 
-/// How many things the system reports at once at most: of each connection that waits, and of the listener.
-const MOST_EVENTS: usize = 65;
+/// How many things the system reports at once at most: of each connection, and of the listener.
+const MOST_EVENTS: usize = 66;
 
-/// A listener, and what is known of it and of the connections that wait.
+/// A listener, and what is known of it and of the connections that were taken.
 #[derive(Drop)]
 pub(crate) struct Acceptor<'a> {
     listener: &'a TcpListener,
@@ -31,7 +31,7 @@ fn token_of(fd: RawFd) -> usize {
 /// How long the system is asked at most for what is there.
 fn most_wait(step: Step) -> Option<Duration> {
     match step {
-        Step::Serve(_) | Step::Drop | Step::Take => Some(Duration::ZERO),
+        Step::Advance(_) | Step::Drop(_) | Step::Take => Some(Duration::ZERO),
         Step::Wait(Some(most)) => Some(Duration::from_millis(most)),
         Step::Wait(None) => None,
     }
@@ -95,9 +95,12 @@ impl<'a> Acceptor<'a> {
         }
     }
 
-    /// Has the system report when there is something to be read on a connection, under the token that comes back. Where it
-    /// doesn't, none comes back.
+    /// Has the system report when there is something to be read on a connection, which never waits from now on, under the token
+    /// that comes back. Where it doesn't, none comes back.
     pub(crate) fn follow(&self, stream: &TcpStream) -> Option<usize> {
+        if stream.set_nonblocking(true).is_err() {
+            return None;
+        }
         let fd = stream.as_raw_fd();
         let token = token_of(fd);
         match self
@@ -110,15 +113,19 @@ impl<'a> Acceptor<'a> {
         }
     }
 
-    /// Has the system report no more of a connection.
-    pub(crate) fn leave(&self, stream: &TcpStream) {
+    /// Has the system report of a connection, which is followed, when it may go on so. Returns whether it does.
+    pub(crate) fn expect(&self, stream: &TcpStream, interest: Interest) -> bool {
         let fd = stream.as_raw_fd();
-        let _ = self.poll.registry().deregister(&mut SourceFd(&fd));
+        let token = Token(token_of(fd));
+        self.poll
+            .registry()
+            .reregister(&mut SourceFd(&fd), token, interest)
+            .is_ok()
     }
 
     /// Asks the system what is there: at once, or, where nothing is to be done, when something comes or the time is over.
     /// `Net`: it doesn't say. No other fault comes.
-    pub(crate) fn ask(&mut self, step: Step, waiting: &mut Waiting) -> Result<(), ServingFault>
+    pub(crate) fn ask(&mut self, step: Step, table: &mut Table) -> Result<(), ServingFault>
         ensures { IfErr result (λ fault. fault ≡ ServingFault.Net) }
     {
         if self.poll.poll(&mut self.events, most_wait(step)).is_err() {
@@ -130,7 +137,7 @@ impl<'a> Acceptor<'a> {
             if token == listener {
                 self.may_take = true;
             } else {
-                waiting.mark(token);
+                table.mark(token);
             }
         }
         Ok(())

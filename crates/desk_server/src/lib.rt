@@ -7,11 +7,11 @@ mod deadline;
 mod fault;
 mod listening;
 mod log;
+mod queue;
 mod receiving;
 mod reception;
 mod reply;
 mod server;
-mod table;
 mod writing;
 
 pub use address::{ListenLocally, Local, listen_at, local_at};

@@ -4,15 +4,15 @@ ghost use Rattle.std.specs.Prelude.{OnErr, OnOk};
 ghost use Rattle.sqlite.specs.Held.{state};
 ghost use Rattle.sqlite.specs.State.{HasCleanDisk};
 ghost use Rattle.desk_server.specs.Serving.{EndsServing, IsSameStore, ServesAtMost};
-ghost use Rattle.desk_server.specs.Table.{FitsStep};
+ghost use Rattle.desk_server.specs.Queue.{FitsStep};
 
 use crate::connection::{Connection, Stage};
 use crate::fault::ServingFault;
 use crate::log::AccessLog;
+use crate::queue::{Arrivals, Queue, Step};
 use crate::receiving::Received;
 use crate::reception::Acceptor;
 use crate::server::Server;
-use crate::table::{Arrivals, Step, Table};
 use plant_desk_store::Desk;
 use plant_http_requests::{Routes, RoutesFault, Terms};
 use sqlite::Alter;
@@ -27,7 +27,7 @@ pub(crate) struct Connections<'a> {
     /// Where they come in.
     pub(crate) reception: Acceptor<'a>,
     /// Those that were taken.
-    pub(crate) table: Table,
+    pub(crate) queue: Queue,
     /// Whether it is the turn of one that comes in.
     have_turn: bool,
 }
@@ -42,47 +42,47 @@ impl<'a> Connections<'a> {
     ) -> Result<Connections<'a>, ServingFault>
         ensures { IfErr result (λ fault. fault ≢ ServingFault.Store) }
     {
-        let Ok(table) = Table::new(alloc) else {
+        let Ok(queue) = Queue::new(alloc) else {
             return Err(ServingFault::Memory);
         };
         Ok(Connections {
             reception: Acceptor::new(alloc, net, listener)?,
-            table,
+            queue,
             have_turn: true,
         })
     }
 
     /// What is done next, at so many milliseconds. After one was taken it is the turn of those that are there.
     fn next(&mut self, now: u64) -> Step
-        ensures fits { FitsStep result self.new.table.connections.items }
-        ensures unchanged { self.new.table ≡ self.old.table }
+        ensures fits { FitsStep result self.new.queue.connections.items }
+        ensures unchanged { self.new.queue ≡ self.old.queue }
     {
         let arrivals = Arrivals {
             may_take: self.reception.may_take(),
             have_turn: self.have_turn,
         };
-        let step = self.table.next(now, arrivals);
+        let step = self.queue.next(now, arrivals);
         self.have_turn = !matches!(step, Step::Take);
         step
     }
 
     /// What is done next where none is taken any more.
     fn next_of_taken(&self, now: u64) -> Step
-        ensures { FitsStep result self.now.table.connections.items }
+        ensures { FitsStep result self.now.queue.connections.items }
     {
         let arrivals = Arrivals {
             may_take: false,
             have_turn: false,
         };
-        self.table.next(now, arrivals)
+        self.queue.next(now, arrivals)
     }
 
     /// Takes a connection out.
     fn remove(&mut self, index: usize) -> Connection
-        requires { index < length self.old.table.connections.items }
-        ensures { length self.new.table.connections.items ≤ 64 }
+        requires { index < length self.old.queue.connections.items }
+        ensures { length self.new.queue.connections.items ≤ 64 }
     {
-        self.table.remove(index)
+        self.queue.remove(index)
     }
 
     /// Asks the system what is there by the time that a step is done. `Net`: it doesn't say. No
@@ -90,7 +90,7 @@ impl<'a> Connections<'a> {
     fn ask(&mut self, step: Step) -> Result<(), ServingFault>
         ensures { IfErr result (λ fault. fault ≡ ServingFault.Net) }
     {
-        self.reception.ask(step, &mut self.table)
+        self.reception.ask(step, &mut self.queue)
     }
 }
 
@@ -99,10 +99,10 @@ impl<R: Clock> Server<'_, R> {
     /// too many open files, there is room made for it. Returns how many
     /// were dropped, 0 or 1. `Net`: none can be taken, and there is no connection to be dropped for it.
     fn take_next(&self, connections: &mut Connections<'_>) -> Result<u32, ServingFault>
-        requires { length connections.old.table.connections.items ≤ 64 }
+        requires { length connections.old.queue.connections.items ≤ 64 }
         ensures few { IfOk result (λ done. done ≤ 1) }
         ensures net { IfErr result (λ fault. fault ≡ ServingFault.Net) }
-        ensures alone { OnErr result (connections.old.table.connections.items ≡ []) }
+        ensures alone { OnErr result (connections.old.queue.connections.items ≡ []) }
     {
         let taken = match connections.reception.take() {
             Ok(taken) => taken,
@@ -116,7 +116,7 @@ impl<R: Clock> Server<'_, R> {
             self.log.note_request(arrival, &[], None);
             return Ok(1);
         };
-        connections.table.add(Connection {
+        connections.queue.add(Connection {
             stream,
             arrival,
             token,
@@ -137,9 +137,9 @@ impl<R: Clock> Server<'_, R> {
     fn make_room(&self, connections: &mut Connections<'_>) -> Result<u32, ServingFault>
         ensures few { IfOk result (λ done. done ≤ 1) }
         ensures net { IfErr result (λ fault. fault ≡ ServingFault.Net) }
-        ensures alone { OnErr result (connections.old.table.connections.items ≡ []) }
+        ensures alone { OnErr result (connections.old.queue.connections.items ≡ []) }
     {
-        if connections.table.connections.is_empty() {
+        if connections.queue.connections.is_empty() {
             return Err(ServingFault::Net);
         }
         Ok(self.drop_at(0, connections))
@@ -147,7 +147,7 @@ impl<R: Clock> Server<'_, R> {
 
     /// Drops a connection. Returns 1 where its request wasn't served, else 0, since it was counted then.
     fn drop_at(&self, index: usize, connections: &mut Connections<'_>) -> u32
-        requires { index < length connections.old.table.connections.items }
+        requires { index < length connections.old.queue.connections.items }
         ensures { result ≤ 1 }
     {
         let connection = connections.remove(index);
@@ -164,7 +164,7 @@ impl<R: Clock> Server<'_, R> {
         connections: &mut Connections<'_>,
         desk: &mut Desk<S>,
     ) -> Result<u32, ServingFault>
-        requires { length connections.old.table.connections.items ≤ 64 }
+        requires { length connections.old.queue.connections.items ≤ 64 }
         ensures same { IsSameStore S.Store desk.old desk.new }
         ensures serves { desk.old.is_shut ≡ false
             → ServesAtMost S.Store self.now.terms 1 desk.old desk.new }
@@ -195,7 +195,7 @@ impl<R: Clock> Server<'_, R> {
         connections: &mut Connections<'_>,
         desk: &mut Desk<S>,
     ) -> Result<u32, ServingFault>
-        requires room { length connections.old.table.connections.items ≤ 64 }
+        requires room { length connections.old.queue.connections.items ≤ 64 }
         requires is_live { desk.old.is_shut ≡ false }
         ensures same { IsSameStore S.Store desk.old desk.new }
         ensures serves { ServesAtMost S.Store self.now.terms 1 desk.old desk.new }
@@ -208,7 +208,7 @@ impl<R: Clock> Server<'_, R> {
         match self.receive(&mut connection) {
             Received::Whole | Received::Ended => self.serve_at(connection, connections, desk),
             Received::Lacks => {
-                connections.table.add(connection);
+                connections.queue.add(connection);
                 Ok(0)
             }
             Received::Broken => {
@@ -227,7 +227,7 @@ impl<R: Clock> Server<'_, R> {
         connections: &mut Connections<'_>,
         desk: &mut Desk<S>,
     ) -> Result<u32, ServingFault>
-        requires within { index < length connections.old.table.connections.items }
+        requires within { index < length connections.old.queue.connections.items }
         requires is_live { desk.old.is_shut ≡ false }
         ensures same { IsSameStore S.Store desk.old desk.new }
         ensures serves { ServesAtMost S.Store self.now.terms 1 desk.old desk.new }
@@ -285,7 +285,7 @@ impl<R: Clock> Server<'_, R> {
 
     /// Has a connection go on that was served, and drops another one.
     fn finish_at(&self, index: usize, connections: &mut Connections<'_>)
-        requires { index < length connections.old.table.connections.items }
+        requires { index < length connections.old.queue.connections.items }
     {
         let connection = connections.remove(index);
         match connection.stage {
@@ -297,9 +297,9 @@ impl<R: Clock> Server<'_, R> {
 
     /// Hands over what is on its way of the answers, where none is served any more, within their time.
     fn finish(&self, connections: &mut Connections<'_>) {
-        connections.table.keep_served();
+        connections.queue.keep_served();
         for _turn in 0..u64::MAX {
-            if connections.table.connections.is_empty() {
+            if connections.queue.connections.is_empty() {
                 return;
             }
             let step = connections.next_of_taken(self.milliseconds());

@@ -2,7 +2,7 @@
 ghost use Rattle.std.specs.Prelude.{◌≡◌, ◌≢◌, IfErr};
 
 use crate::fault::ServingFault;
-use crate::table::{Step, Table};
+use crate::queue::{Queue, Step};
 use mio::unix::SourceFd;
 use mio::{Events, Interest, Poll, Token};
 use std::alloc::Global;
@@ -125,7 +125,7 @@ impl<'a> Acceptor<'a> {
 
     /// Asks the system what is there: at once, or, where nothing is to be done, when something comes or the time is over.
     /// `Net`: it doesn't say. No other fault comes.
-    pub(crate) fn ask(&mut self, step: Step, table: &mut Table) -> Result<(), ServingFault>
+    pub(crate) fn ask(&mut self, step: Step, queue: &mut Queue) -> Result<(), ServingFault>
         ensures { IfErr result (λ fault. fault ≡ ServingFault.Net) }
     {
         if self.poll.poll(&mut self.events, most_wait(step)).is_err() {
@@ -137,7 +137,7 @@ impl<'a> Acceptor<'a> {
             if token == listener {
                 self.may_take = true;
             } else {
-                table.mark(token);
+                queue.mark(token);
             }
         }
         Ok(())

@@ -26,7 +26,7 @@ impl<R: Clock> Server<'_, R> {
     /// A socket that is closed with unread bytes in it resets the connection, and a reset can destroy an answer on its way.
     /// So the connection is closed in stages (RFC 9112, section 9.6).
     fn end_answer(&self, mut connection: Connection, status: u16, connections: &mut Connections<'_>)
-        requires { length connections.old.table.connections.items ≤ 64 }
+        requires { length connections.old.queue.connections.items ≤ 64 }
     {
         self.log.note_request(
             connection.arrival,
@@ -44,7 +44,7 @@ impl<R: Clock> Server<'_, R> {
                 .reception
                 .expect(&connection.stream, Interest::READABLE)
         {
-            connections.table.add(connection);
+            connections.queue.add(connection);
         }
     }
 
@@ -55,7 +55,7 @@ impl<R: Clock> Server<'_, R> {
         status: u16,
         connections: &mut Connections<'_>,
     )
-        requires { length connections.old.table.connections.items ≤ 64 }
+        requires { length connections.old.queue.connections.items ≤ 64 }
     {
         let Some(sent) = connection.hand_over() else {
             self.drop_connection(connection);
@@ -67,7 +67,7 @@ impl<R: Clock> Server<'_, R> {
         }
         if sent > 0 {
             connection.moved = self.milliseconds();
-            connections.table.add(connection);
+            connections.queue.add(connection);
             return;
         }
         connection.is_ready = false;
@@ -75,7 +75,7 @@ impl<R: Clock> Server<'_, R> {
             .reception
             .expect(&connection.stream, Interest::WRITABLE)
         {
-            connections.table.add(connection);
+            connections.queue.add(connection);
         } else {
             self.drop_connection(connection);
         }
@@ -88,16 +88,16 @@ impl<R: Clock> Server<'_, R> {
         pieces: u32,
         connections: &mut Connections<'_>,
     )
-        requires { length connections.old.table.connections.items ≤ 64 }
+        requires { length connections.old.queue.connections.items ≤ 64 }
     {
         match connection.pass_over() {
             Piece::Bytes(_) if pieces < MOST_PIECES => {
                 connection.stage = Stage::Ending { pieces: pieces + 1 };
-                connections.table.add(connection);
+                connections.queue.add(connection);
             }
             Piece::Nothing => {
                 connection.is_ready = false;
-                connections.table.add(connection);
+                connections.queue.add(connection);
             }
             Piece::Bytes(_) | Piece::End | Piece::Broken => {}
         }

@@ -3,9 +3,9 @@ use Rattle.std.specs.Prelude.{⊤, ◌≡◌, ◌<◌, ◌≤◌, ◌⊎◌, ℕ
 use Rattle.std.specs.List.{reduce, remove}
 use Rattle.desk_server.specs.Deadline.{time_left}
 use Rattle.desk_server.specs.declared.connection.Connection.{Connection}
-use Rattle.desk_server.specs.declared.table.Arrivals.{Arrivals}
-use Rattle.desk_server.specs.declared.table.Step.{Step}
-use Rattle.desk_server.specs.declared.table.Step.TheVariants as step
+use Rattle.desk_server.specs.declared.queue.Arrivals.{Arrivals}
+use Rattle.desk_server.specs.declared.queue.Step.{Step}
+use Rattle.desk_server.specs.declared.queue.Step.TheVariants as step
 
 -- for how many milliseconds more a connection may stay as it is
 abbrev pub left_of : ℕ → Connection → ℕ

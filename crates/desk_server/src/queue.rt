@@ -2,8 +2,8 @@
 ghost use Rattle.std.specs.Prelude.{◌≡◌, ◌<◌, ◌≤◌, ◌++◌, [], ◌∷◌, length, None, IfOk, IfSome};
 ghost use Rattle.std.specs.Prelude.{vec_capacity, slice_index_or};
 ghost use Rattle.std.specs.List.{remove};
-ghost use Rattle.desk_server.specs.Table.{FitsStep, IsNext, first_over, first_ready, marked};
-ghost use Rattle.desk_server.specs.Table.{soonest, waits_for};
+ghost use Rattle.desk_server.specs.Queue.{FitsStep, IsNext, first_over, first_ready, marked};
+ghost use Rattle.desk_server.specs.Queue.{soonest, waits_for};
 
 use crate::connection::Connection;
 use crate::deadline::time_left;
@@ -15,7 +15,7 @@ pub(crate) const MOST_CONNECTIONS: usize = 64;
 
 /// The connections, 64 at most and one that was just taken, in the order in which they last moved on.
 #[derive(Drop)]
-pub(crate) struct Table {
+pub(crate) struct Queue {
     pub(crate) connections: Vec<Connection>,
     ghost bound: { length connections.items ≤ 65 },
     ghost room: { 65 ≤ vec_capacity connections },
@@ -114,12 +114,12 @@ fn next_step(connections: &[Connection], now: u64, arrivals: Arrivals) -> Step
     }
 }
 
-impl Table {
+impl Queue {
     /// No connection.
-    pub(crate) fn new(alloc: Global) -> Result<Table, AllocError>
-        ensures { IfOk result (λ table. table.connections.items ≡ []) }
+    pub(crate) fn new(alloc: Global) -> Result<Queue, AllocError>
+        ensures { IfOk result (λ queue. queue.connections.items ≡ []) }
     {
-        Ok(Table {
+        Ok(Queue {
             connections: Vec::with_capacity(alloc, MOST_CONNECTIONS + 1)?,
         })
     }

@@ -1,5 +1,5 @@
 -- The faults that the program ends with: where they come from, and the exit status of each.
-use Rattle.std.specs.Prelude.{◌≡◌, ℕ, List, Bool, Option, Result, Ok, Err, ⊤}
+use Rattle.std.specs.Prelude.{◌≡◌, ℕ, List, Bool, Option, Some, None, Result, Ok, Err, ok_or, ⊤}
 use Rattle.plant_questions.specs.{Answer, DeskFault}
 use Rattle.plant_questions.specs.declared.question.Answer.TheVariants as A
 use Rattle.plant_questions.specs.declared.reply.DeskFault.TheVariants as desk
@@ -43,10 +43,14 @@ outcome_of_turn (Ok refused) = Ok refused
 outcome_of_turn (Err stop.Write) = Err fault.Write
 outcome_of_turn (Err (stop.Fault f)) = Err (desk_fault f)
 
+-- the summary of a keeper in its answer to the question for that
+abbrev pub summary_in : Answer → Option DeskSummary
+summary_in (A.Desk schema seq) = Some (record { schema = schema; seq = seq })
+summary_in _ = None
+
 -- the summary of a keeper by what it answered when it was asked for that; an answer of another kind is a fault of the store
 abbrev pub summary_of : Result Answer DeskFault → Result DeskSummary ProgramFault
-summary_of (Ok (A.Desk schema seq)) = Ok (record { schema = schema; seq = seq })
-summary_of (Ok _) = Err fault.Store
+summary_of (Ok a) = ok_or (summary_in a) fault.Store
 summary_of (Err f) = Err (desk_fault f)
 
 -- a fault at which no line was printed of an adopted desk: of the store, of memory or of the writer

@@ -16,6 +16,20 @@ pub(crate) struct DeskSummary {
     pub(crate) seq: u64,
 }
 
+/// The summary in an answer, where it is one.
+fn summary_in(answer: &Answer) -> Option<DeskSummary>
+    ensures { result ≡ spec.summary_in answer.now }
+{
+    if let Answer::Desk { schema, seq } = answer {
+        Some(DeskSummary {
+            schema: *schema,
+            seq: *seq,
+        })
+    } else {
+        None
+    }
+}
+
 /// The summary of a keeper by what it answered, or its fault.
 fn summary_of(asked: Result<Answer, DeskFault>) -> Result<DeskSummary, ProgramFault>
     ensures is { result ≡ spec.summary_of asked }
@@ -23,9 +37,8 @@ fn summary_of(asked: Result<Answer, DeskFault>) -> Result<DeskSummary, ProgramFa
     ensures write_error { IfErr result (λ fault. fault ≢ ProgramFault.Write) }
 {
     match asked {
-        Ok(Answer::Desk { schema, seq }) => Ok(DeskSummary { schema, seq }),
         // No keeper that keeps its contract answers anything else.
-        Ok(_) => Err(ProgramFault::Store),
+        Ok(answer) => summary_in(&answer).ok_or(ProgramFault::Store),
         Err(fault) => Err(ProgramFault::from(fault)),
     }
 }

@@ -1,10 +1,10 @@
 -- From one served request to many.
-use Rattle.std.proofs.Common.{◌≡◌, ℕ, zero, suc, ◌+◌, ◌-◌, ◌≤◌, Bool, true, false, List, [], ◌∷◌, ◌++◌, length, Option, Result, Ok, Err, refl, inl, inr, arith, length-append}
+use Rattle.std.proofs.Common.{◌≡◌, ℕ, zero, suc, ◌+◌, ◌-◌, ◌≤◌, Bool, true, false, List, [], ◌∷◌, ◌++◌, length, Option, Some, Result, Ok, Err, refl, subst, inl, inr, arith, length-append}
 use Rattle.sqlite.specs.Held.{state}
 use Rattle.sqlite_trees.specs.declared.store.Store.{Ghosts}
 use Rattle.plant_desk_store.specs.{Represents, HasCrashStates, Desk}
 use Rattle.httpdate.specs.declared.date.HttpDate.{HttpDate}
-use Rattle.plant_base.specs.{State}
+use Rattle.plant_base.specs.{Agrees, State}
 use Rattle.plant_desk.specs.{States}
 use Rattle.plant_desk.proofs.SameDesk.{same_after}
 use Rattle.plant_questions.specs.{DeskFault}
@@ -16,6 +16,7 @@ use Rattle.plant_http.specs.{Out, entry_of, Performs, Serves, ServeFault, Served
 use Rattle.plant_http.specs.declared.serve.Served.TheVariants.{Answered, Nothing}
 use Rattle.plant_http.specs.declared.serve.ServeFault.TheVariants as end
 use Rattle.desk_server.specs.{Asked, entries, HasServed, ServesAtMost, IsSameStore}
+use Rattle.desk_server.specs.Serving.{status_of}
 
 -- ---- one connection
 
@@ -55,6 +56,22 @@ one_served terms now k s whole old new represents shut crash_states (Err end.Wri
 one_served terms now k s whole old new represents shut crash_states (Err end.Read) law h = open_served terms 1 s represents shut crash_states [] h.is_live (omega arith) h.state
 one_served terms now k s whole old new represents shut crash_states (Err end.Endless) law (h, many) = open_served terms 1 s represents shut crash_states [] h.is_live (omega arith) h.state
 one_served terms now k s whole old new represents shut crash_states (Err end.Memory) law h = open_served terms 1 s represents shut crash_states [] h.is_live (omega arith) h.state
+
+-- ---- its answer
+
+answered_of : (r : Result Served ServeFault) (status : ℕ) → status_of r ≡ Some status → r ≡ Ok (Answered status)
+answered_of (Ok (Answered code)) status h = cc
+answered_of (Ok Nothing) status h = absurd (cc)
+answered_of (Err f) status h = absurd (cc)
+
+-- what was written where nothing was before is the answer of this status to the bytes that were known
+pub one_answered : (terms : Terms) (k : ℕ) (s : State) (request whole : List ℕ) (before : List ℕ) (text : Option (List ℕ)) (represents : States) (shut : Bool) (crash_states : States → Type 0)
+    (r : Result Served ServeFault) (status : ℕ) → Agrees (Some request) whole → before ≡ [] → status_of r ≡ Some status → Serves terms k s whole (Some before) text represents shut crash_states r
+    → Serves terms k s request (Some []) text represents shut crash_states (Ok (Answered status))
+one_answered terms k s request whole before text represents shut crash_states r status agrees empty answered h =
+    subst (λ (w : List ℕ). Serves terms k s w (Some []) text represents shut crash_states (Ok (Answered status))) agrees
+    (subst (λ (b : List ℕ). Serves terms k s whole (Some b) text represents shut crash_states (Ok (Answered status))) empty
+    (subst (λ (e : Result Served ServeFault). Serves terms k s whole (Some before) text represents shut crash_states e) (answered_of r status answered) h))
 
 -- ---- one connection more
 

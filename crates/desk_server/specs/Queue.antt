@@ -1,5 +1,5 @@
 -- What is done next with the connections.
-use Rattle.std.specs.Prelude.{⊤, ◌≡◌, ◌<◌, ◌≤◌, ◌⊎◌, ℕ, ◌==◌, ◌&&◌, not, Bool, true, false, List, [], ◌∷◌, ◌++◌, length, map, min, Option, Some, None, slice_get, position}
+use Rattle.std.specs.Prelude.{⊤, ◌≡◌, ◌<◌, ◌≤◌, ◌⊎◌, ℕ, ◌==◌, ◌&&◌, not, true, false, List, [], ◌∷◌, ◌++◌, length, map, min, Option, Some, None, slice_get, position}
 use Rattle.std.specs.List.{reduce, remove}
 use Rattle.desk_server.specs.Deadline.{time_left}
 use Rattle.desk_server.specs.declared.connection.Connection.{Connection}

@@ -23,7 +23,7 @@ from tests.support.program import wait_for
 from tests.support.scenarios import traced
 
 # Within how many seconds a question is answered in the middle, and each, whatever other clients do.
-PROMPT, MOST_PROMPT = 0.1, 2.0
+PROMPT, MOST_PROMPT = 0.1, 5.0
 
 # How many questions are asked next to slow clients, and how many clients of each kind are slow.
 ASKED, EACH = 20, 10
@@ -247,6 +247,7 @@ class Readers(ClientsTestCase, LimitTestCase):
             lazy = [stack.enter_context(small_connection(server.port)) for _ in range(EACH)]
             for it in lazy:
                 it.sendall(got("/v1/lots/T/forward"))
+            self.check("an answer after those that were asked for before it", server.answered(ASK), desk)
             self.check_prompt("after ten that don't read", server, desk)
             slow = stack.enter_context(connected(server.port))
             slow.sendall(got("/v1/lots/T/forward"))

@@ -1,5 +1,5 @@
 """Ids that begin with another, over the built desk: what is asked in no form, by lines and by requests. tests/support/finding.py computes the answers
-of whole sessions, which test_sessions, test_keepers and test_sizes run."""
+of whole sessions, which test_sessions and test_keepers run."""
 from __future__ import annotations
 
 from tests.support.commands import GOODS, receive

@@ -417,7 +417,7 @@ def ask_for_blocked(session: Session, blocked: Iterable[str], is_recalled: bool)
 
 def above_a_page() -> list[Session]:
     made = [long_ledger(), long_batches(), versions_of_one_recipe(), definitions_and_cancelled_orders(), recalls_of_one_lot()]
-    return [*made, *stock.every(), *finding.every()]
+    return [*made, *stock.every()]
 
 
 # ---- bytes that are a line, a bad one, or none
@@ -495,5 +495,5 @@ def scraps() -> Session:
 def every() -> list[Session]:
     """Returns all sessions, those that are written out and those that are made here."""
     pages = [session(count) for count in COUNTS for session in (lists, paired_lists, by_due, booked)]
-    made = [*limits(), long_chain(), wide_fan(), standing(), *pages, *above_a_page(), *lines(), scraps()]
+    made = [*limits(), long_chain(), wide_fan(), standing(), *pages, *above_a_page(), *finding.every(), *lines(), scraps()]
     return [*map(sessions.read, sessions.files()), *made]

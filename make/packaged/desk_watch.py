@@ -68,7 +68,8 @@ def asked(url: str) -> tuple[int | None, Found]:
         except (KeyError, TypeError, ValueError):
             reasons.append("another answer than a desk's")
         except (OSError, http.client.HTTPException) as error:
-            reasons.append(str(error))
+            if not isinstance(getattr(error, "reason", error), TimeoutError):
+                reasons.append(str(error))
 
     asking = threading.Thread(target=ask, daemon=True)
     asking.start()

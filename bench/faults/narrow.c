@@ -1,7 +1,7 @@
 /* Narrows the streams of a program: its standard input and output, and its connections. A read gives READ_MOST bytes at most, and a write takes
    WRITE_MOST; where READS or WRITES is given, so many go well, and each later one fails, by the error that READ_ERROR or WRITE_ERROR numbers,
-   or as a failing device; a WRITE_ERROR of 0 takes nothing. So many connections come as ACCEPTS says, where that is given, and then none can be had.
-   It is put before a program by LD_PRELOAD. */
+   or as a failing device; a WRITE_ERROR of 0 takes nothing. A read of a connection that finds nothing yet isn't counted. So many connections come as
+   ACCEPTS says, where that is given, and then none can be had. It is put before a program by LD_PRELOAD. */
 #define _GNU_SOURCE
 #include <dlfcn.h>
 #include <errno.h>
@@ -55,7 +55,11 @@ ssize_t read(int file, void *bytes, size_t size) {
 }
 
 ssize_t recv(int file, void *bytes, size_t size, int flags) {
-    return reads_on() ? NEXT(recv)(file, bytes, at_most("READ_MOST", size), flags) : -1;
+    ssize_t told = reads_on() ? NEXT(recv)(file, bytes, at_most("READ_MOST", size), flags) : -1;
+    if (told < 0 && (errno == EAGAIN || errno == EWOULDBLOCK)) {
+        reads--;
+    }
+    return told;
 }
 
 ssize_t write(int file, const void *bytes, size_t size) {

@@ -23,7 +23,7 @@ from tests.support.program import wait_for
 from tests.support.scenarios import traced
 
 # Within how many seconds a question is answered in the middle, and each, whatever other clients do.
-PROMPT, MOST_PROMPT = 0.1, 5.0
+PROMPT, MOST_PROMPT = 0.1, 2.0
 
 # How many questions are asked next to slow clients, and how many clients of each kind are slow.
 ASKED, EACH = 20, 10

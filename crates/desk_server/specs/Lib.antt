@@ -1,4 +1,6 @@
 pub mod Serving
+pub mod Channels
+pub mod Exchanges
 pub mod Noting
 pub mod Connection
 pub mod Queue
@@ -7,4 +9,6 @@ pub mod Receiving
 pub mod Deadline
 pub use Serving.{Asked, EndsServing, HasServed, IsSameStore, ServesAtMost, entries}
 pub use Queue.{marked, waits_for}
+pub use Channels.{Channel, new_channel}
+pub use Exchanges.{AreExchangedOn, Exchange, HasMade, IsExchangedOn, IsJournal, Leads, ServesPort, text_of}
 pub use declared.fault.ServingFault.{ServingFault}

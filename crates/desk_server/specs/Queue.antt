@@ -19,9 +19,9 @@ first_over connections now = position (λ (c : Connection). time_left c.stage c.
 abbrev pub first_ready : List Connection → Option ℕ
 first_ready connections = position (λ (c : Connection). c.is_ready) connections
 
--- the first connection of this token that isn't ready
+-- the first connection of this number that isn't ready
 abbrev pub waits_for : List Connection → ℕ → Option ℕ
-waits_for connections token = position (λ (c : Connection). (c.token == token) && not c.is_ready) connections
+waits_for connections number = position (λ (c : Connection). (c.number == number) && not c.is_ready) connections
 
 -- a connection after the others, which may go on
 abbrev pub with_ready : List Connection → Option Connection → List Connection
@@ -32,9 +32,9 @@ abbrev pub marked_at : List Connection → Option ℕ → List Connection
 marked_at connections None = connections
 marked_at connections (Some index) = with_ready (remove connections index) (slice_get connections index)
 
--- the connections, where the first of this token that wasn't ready may go on after the others
+-- the connections, where the first of this number that wasn't ready may go on after the others
 abbrev pub marked : List Connection → ℕ → List Connection
-marked connections token = marked_at connections (waits_for connections token)
+marked connections number = marked_at connections (waits_for connections number)
 
 -- for how long all of them may stay as they are
 abbrev pub soonest : List Connection → ℕ → Option ℕ

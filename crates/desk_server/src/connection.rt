@@ -1,17 +1,11 @@
 //! One connection: what came of it, and what it is answered.
 ghost use Rattle.std.specs.Prelude.{◌≡◌, ◌<◌, ◌≤◌, ◌++◌, length, IfSome};
-ghost use Rattle.desk_server.specs.Connection.{HasReceived, IsSentFrom, IsTakenOf};
+ghost use Rattle.desk_server.specs.Connection.{HandsOver, HasPassedOver, HasReceived, IsSentFrom};
+ghost use Rattle.desk_server.specs.Connection.{Receives};
 
 use crate::log::Arrival;
+use crate::port::{PIECE_BYTES, Piece, Port};
 use httpdate::HttpDate;
-use std::io::{ErrorKind, Read, Write};
-use std::net::TcpStream;
-
-/// How many bytes of a request one read gives at most.
-const PIECE_BYTES: usize = 4096;
-
-/// How many bytes after a request one read gives at most.
-const PASSED_BYTES: usize = 8192;
 
 /// How far a connection has come.
 #[derive(Clone, Copy, Debug, PartialEq, Eq)]
@@ -40,10 +34,9 @@ pub(crate) enum Stage {
 /// A connection that was taken.
 #[derive(Drop)]
 pub(crate) struct Connection {
-    pub(crate) stream: TcpStream,
+    /// Its number at the port.
+    pub(crate) number: u64,
     pub(crate) arrival: Arrival,
-    /// By which the system names it.
-    pub(crate) token: usize,
     pub(crate) stage: Stage,
     /// When it last moved on, in milliseconds since serving began.
     pub(crate) moved: u64,
@@ -59,49 +52,6 @@ pub(crate) struct Connection {
     pub(crate) answer: Vec<u8>,
     /// How many bytes of the answer were handed over.
     pub(crate) handed: usize,
-}
-
-/// What one read of a connection gave.
-#[derive(Clone, Copy, Debug, PartialEq, Eq)]
-pub(crate) enum Piece {
-    /// So many bytes.
-    Bytes(usize),
-    /// The client has ended its side.
-    End,
-    /// Nothing is there now.
-    Nothing,
-    /// The read failed, or was interrupted.
-    Broken,
-}
-
-/// Reads once from a connection, without waiting.
-fn read_piece(stream: &TcpStream, piece: &mut [u8]) -> Piece
-    ensures { IsTakenOf result (length piece.old) }
-{
-    let mut input = stream;
-    match input.read(piece) {
-        Ok(0) => Piece::End,
-        Ok(n) => Piece::Bytes(n),
-        Err(e) => match e.kind() {
-            ErrorKind::WouldBlock => Piece::Nothing,
-            _ => Piece::Broken,
-        },
-    }
-}
-
-/// Writes once to a connection, without waiting. `Some(0)`: it takes nothing now. `None`: the write failed, was interrupted, or took no byte.
-fn write_piece(stream: &TcpStream, rest: &[u8]) -> Option<usize>
-    ensures { IfSome result (λ n. n ≤ length rest.now) }
-{
-    let mut output = stream;
-    match output.write(rest) {
-        Ok(0) => None,
-        Ok(n) => Some(n),
-        Err(e) => match e.kind() {
-            ErrorKind::WouldBlock => Some(0),
-            _ => None,
-        },
-    }
 }
 
 impl Connection {
@@ -121,14 +71,18 @@ impl Connection {
     }
 
     /// Reads once of its request, and keeps what came. `Broken`: the read failed, or memory was refused for the bytes.
-    pub(crate) fn receive(&mut self) -> Piece
+    pub(crate) fn receive<P: Port>(&mut self, port: &mut P) -> Piece
         ensures received { HasReceived result self.old.request.items self.new.request.items }
+        ensures shown { Receives result self.old.number self.old.request.items self.new.request.items
+            (P.channels port.old) (P.channels port.new) }
+        ensures number { self.new.number ≡ self.old.number }
+        ensures stage { self.new.stage ≡ self.old.stage }
         ensures unanswered { self.new.answer ≡ self.old.answer }
+        ensures handed { self.new.handed ≡ self.old.handed }
         ensures unchanged { self.new.now ≡ self.old.now }
     {
         let mut piece = [0u8; PIECE_BYTES];
-        let room = self.room();
-        let came = read_piece(&self.stream, &mut piece[..room]);
+        let came = port.read(self.number, self.room(), &mut piece);
         if let Piece::Bytes(n) = came {
             if self.request.extend_from_slice(&piece[..n]).is_err() {
                 return Piece::Broken;
@@ -139,8 +93,12 @@ impl Connection {
 
     /// Hands over once of the rest of its answer, as much as the system takes now, and says how many bytes it took. `None`: the
     /// connection takes no more.
-    pub(crate) fn hand_over(&mut self) -> Option<usize>
+    pub(crate) fn hand_over<P: Port>(&mut self, port: &mut P) -> Option<usize>
         ensures sent { IsSentFrom result (length self.old.answer.items) self.old.handed self.new.handed }
+        ensures shown { HandsOver result self.old.number self.old.answer.items self.old.handed self.new.handed
+            (P.channels port.old) (P.channels port.new) }
+        ensures number { self.new.number ≡ self.old.number }
+        ensures stage { self.new.stage ≡ self.old.stage }
         ensures unchanged { self.new.answer ≡ self.old.answer }
         ensures received { self.new.request ≡ self.old.request }
     {
@@ -148,14 +106,16 @@ impl Connection {
         if self.handed >= len {
             return Some(0);
         }
-        let sent = write_piece(&self.stream, &self.answer[self.handed..])?;
+        let sent = port.write(self.number, &self.answer[self.handed..])?;
         self.handed += sent;
         Some(sent)
     }
 
     /// Reads once of what its client sends after its request, and passes it over.
-    pub(crate) fn pass_over(&self) -> Piece {
-        let mut piece = [0u8; PASSED_BYTES];
-        read_piece(&self.stream, &mut piece)
+    pub(crate) fn pass_over<P: Port>(&self, port: &mut P) -> Piece
+        ensures { HasPassedOver self.entry.now.number (P.channels port.old) (P.channels port.new) }
+    {
+        let mut piece = [0u8; PIECE_BYTES];
+        port.read(self.number, PIECE_BYTES, &mut piece)
     }
 }

@@ -7,14 +7,16 @@ mod deadline;
 mod fault;
 mod listening;
 mod log;
+mod port;
 mod queue;
 mod receiving;
-mod reception;
 mod reply;
 mod server;
+mod sockets;
 mod writing;
 
 pub use address::{ListenLocally, Local, listen_at, local_at};
 pub use fault::ServingFault;
-pub use listening::serve_listener;
+pub use listening::{serve_listener, serve_port};
 pub use log::AccessLog;
+pub use port::{PIECE_BYTES, Piece, Port};

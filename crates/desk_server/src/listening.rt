@@ -1,64 +1,67 @@
-//! The connections of a listener, side by side.
-ghost use Rattle.std.specs.Prelude.{◌≡◌, ◌≢◌, [], false, true, ◌<◌, ◌≤◌, length, Ok, Err, IfErr, IfOk};
+//! The connections of a port, side by side.
+ghost use Rattle.std.specs.Prelude.{◌≡◌, ◌≢◌, [], ◌∷◌, false, true, ◌<◌, ◌≤◌, length, Ok, Err, IfErr, IfOk};
 ghost use Rattle.std.specs.Prelude.{OnErr, OnOk};
 ghost use Rattle.sqlite.specs.Held.{state};
 ghost use Rattle.sqlite.specs.State.{HasCleanDisk};
+ghost use Rattle.desk_server.specs.Exchanges.{GoesOn, GoesOnServed, IsUnserved, KeepsHeld};
+ghost use Rattle.desk_server.specs.Exchanges.{ServesPort, StaysHeld, made_by};
 ghost use Rattle.desk_server.specs.Serving.{EndsServing, IsSameStore, ServesAtMost};
 ghost use Rattle.desk_server.specs.Queue.{FitsStep};
 
 use crate::connection::{Connection, Stage};
 use crate::fault::ServingFault;
 use crate::log::AccessLog;
-use crate::queue::{Arrivals, Queue, Step};
+use crate::port::Port;
+use crate::queue::{Arrivals, MOST_CONNECTIONS, Queue, Step};
 use crate::receiving::Received;
-use crate::reception::Acceptor;
 use crate::server::Server;
+use crate::sockets::Sockets;
 use plant_desk_store::Desk;
 use plant_http_requests::{Routes, RoutesFault, Terms};
 use sqlite::Alter;
-use std::alloc::{AllocGlobal, Global};
+use std::alloc::{AllocError, AllocGlobal, Global};
 use std::net::{Net, TcpListener};
 use std::rt::Clock;
 use std::time::Instant;
 
-/// The connections of a listener.
+/// How many connections the system is asked about at most after a step: as many as there are.
+const MOST_READY: usize = 66;
+
+/// The connections of a port.
 #[derive(Drop)]
-pub(crate) struct Connections<'a> {
-    /// Where they come in.
-    pub(crate) reception: Acceptor<'a>,
+pub(crate) struct Connections {
     /// Those that were taken.
     pub(crate) queue: Queue,
     /// Whether it is the turn of one that comes in.
     have_turn: bool,
 }
 
-impl<'a> Connections<'a> {
-    /// None so far. `Net`: the system doesn't report those that come in. `Memory`: memory was
-    /// refused. No other fault comes.
-    fn new<N: Net>(
-        alloc: Global,
-        net: &N,
-        listener: &'a TcpListener,
-    ) -> Result<Connections<'a>, ServingFault>
-        ensures { IfErr result (λ fault. fault ≢ ServingFault.Store) }
+/// How long the system is asked at most for what is there, in milliseconds; `None` where only something that comes ends it.
+fn most_wait(step: Step) -> Option<u64> {
+    match step {
+        Step::Advance(_) | Step::Drop(_) | Step::Take => Some(0),
+        Step::Wait(most) => most,
+    }
+}
+
+impl Connections {
+    /// None so far. `AllocError`: memory was refused.
+    fn new(alloc: Global) -> Result<Connections, AllocError>
+        ensures { IfOk result (λ made. made.queue.connections.items ≡ []) }
     {
-        let Ok(queue) = Queue::new(alloc) else {
-            return Err(ServingFault::Memory);
-        };
         Ok(Connections {
-            reception: Acceptor::new(alloc, net, listener)?,
-            queue,
+            queue: Queue::new(alloc)?,
             have_turn: true,
         })
     }
 
     /// What is done next, at so many milliseconds. After one was taken it is the turn of those that are there.
-    fn next(&mut self, now: u64) -> Step
+    fn next(&mut self, now: u64, may_take: bool) -> Step
         ensures fits { FitsStep result self.new.queue.connections.items }
         ensures unchanged { self.new.queue ≡ self.old.queue }
     {
         let arrivals = Arrivals {
-            may_take: self.reception.may_take(),
+            may_take,
             have_turn: self.have_turn,
         };
         let step = self.queue.next(now, arrivals);
@@ -77,20 +80,21 @@ impl<'a> Connections<'a> {
         self.queue.next(now, arrivals)
     }
 
-    /// Takes a connection out.
-    fn remove(&mut self, index: usize) -> Connection
-        requires { index < length self.old.queue.connections.items }
-        ensures { length self.new.queue.connections.items ≤ 64 }
-    {
-        self.queue.remove(index)
-    }
-
     /// Asks the system what is there by the time that a step is done. `Net`: it doesn't say. No
     /// other fault comes.
-    fn ask(&mut self, step: Step) -> Result<(), ServingFault>
-        ensures { IfErr result (λ fault. fault ≡ ServingFault.Net) }
+    fn ask<P: Port>(&mut self, step: Step, port: &mut P) -> Result<(), ServingFault>
+        ensures net { IfErr result (λ fault. fault ≡ ServingFault.Net) }
+        ensures shown { P.channels port.new ≡ P.channels port.old }
+        ensures held { StaysHeld self.old.queue.connections.items self.new.queue.connections.items }
     {
-        self.reception.ask(step, &mut self.queue)
+        port.ask(most_wait(step))?;
+        for _ in 0..MOST_READY {
+            let Some(number) = port.next_ready() else {
+                return Ok(());
+            };
+            self.queue.mark(number);
+        }
+        Ok(())
     }
 }
 
@@ -98,28 +102,34 @@ impl<R: Clock> Server<'_, R> {
     /// Takes a connection, where one is there. One that the system doesn't follow is dropped. Where the system refuses one, as with
     /// too many open files, there is room made for it. Returns how many
     /// were dropped, 0 or 1. `Net`: none can be taken, and there is no connection to be dropped for it.
-    fn take_next(&self, connections: &mut Connections<'_>) -> Result<u32, ServingFault>
+    fn take_next<P: Port>(
+        &self,
+        connections: &mut Connections,
+        port: &mut P,
+    ) -> Result<u32, ServingFault>
         requires { length connections.old.queue.connections.items ≤ 64 }
         ensures few { IfOk result (λ done. done ≤ 1) }
         ensures net { IfErr result (λ fault. fault ≡ ServingFault.Net) }
         ensures alone { OnErr result (connections.old.queue.connections.items ≡ []) }
+        ensures held { KeepsHeld self.now.terms (P.channels port.old) connections.old.queue.connections.items
+            (P.channels port.new) connections.new.queue.connections.items }
     {
-        let taken = match connections.reception.take() {
+        let taken = match port.take() {
             Ok(taken) => taken,
-            Err(_) => return self.make_room(connections),
+            Err(_) => return self.make_room(connections, port),
         };
-        let Some(stream) = taken else {
+        let Some(number) = taken else {
             return Ok(0);
         };
         let arrival = self.log.arrival();
-        let Some(token) = connections.reception.follow(&stream) else {
+        if !port.follow(number) {
+            port.close(number);
             self.log.note_request(arrival, &[], None);
             return Ok(1);
-        };
+        }
         connections.queue.add(Connection {
-            stream,
+            number,
             arrival,
-            token,
             stage: Stage::Silent,
             moved: self.milliseconds(),
             is_ready: false,
@@ -134,40 +144,52 @@ impl<R: Clock> Server<'_, R> {
 
     /// Makes room for a connection that the system refuses: the one that has stayed as it is for longest is dropped. Returns how many were
     /// dropped without being served, 0 or 1. `Net`: none is there.
-    fn make_room(&self, connections: &mut Connections<'_>) -> Result<u32, ServingFault>
+    fn make_room<P: Port>(
+        &self,
+        connections: &mut Connections,
+        port: &mut P,
+    ) -> Result<u32, ServingFault>
         ensures few { IfOk result (λ done. done ≤ 1) }
         ensures net { IfErr result (λ fault. fault ≡ ServingFault.Net) }
         ensures alone { OnErr result (connections.old.queue.connections.items ≡ []) }
+        ensures held { KeepsHeld self.now.terms (P.channels port.old) connections.old.queue.connections.items
+            (P.channels port.new) connections.new.queue.connections.items }
     {
         if connections.queue.connections.is_empty() {
             return Err(ServingFault::Net);
         }
-        Ok(self.drop_at(0, connections))
+        Ok(self.drop_at(0, connections, port))
     }
 
     /// Drops a connection. Returns 1 where its request wasn't served, else 0, since it was counted then.
-    fn drop_at(&self, index: usize, connections: &mut Connections<'_>) -> u32
+    fn drop_at<P: Port>(&self, index: usize, connections: &mut Connections, port: &mut P) -> u32
         requires { index < length connections.old.queue.connections.items }
-        ensures { result ≤ 1 }
+        ensures few { result ≤ 1 }
+        ensures held { KeepsHeld self.now.terms (P.channels port.old) connections.old.queue.connections.items
+            (P.channels port.new) connections.new.queue.connections.items }
     {
-        let connection = connections.remove(index);
+        let connection = connections.queue.remove(index);
         let is_served = connection.is_served();
-        self.drop_connection(connection);
+        self.drop_connection(connection, port);
         if is_served { 0 } else { 1 }
     }
 
     /// Serves what was received on a connection, and begins to hand over the answer. `Store`: a fault of the store has shut the
     /// desk. No other fault comes.
-    fn serve_at<S: Alter + Drop>(
+    fn serve_at<P: Port, S: Alter + Drop>(
         &self,
         mut connection: Connection,
-        connections: &mut Connections<'_>,
+        connections: &mut Connections,
+        port: &mut P,
         desk: &mut Desk<S>,
     ) -> Result<u32, ServingFault>
         requires { length connections.old.queue.connections.items ≤ 64 }
         ensures same { IsSameStore S.Store desk.old desk.new }
         ensures serves { desk.old.is_shut ≡ false
             → ServesAtMost S.Store self.now.terms 1 desk.old desk.new }
+        ensures exchanges { desk.old.is_shut ≡ false → GoesOnServed S.Store self.now.terms
+            (P.channels port.old) connection connections.old.queue.connections.items desk.old
+            (P.channels port.new) connections.new.queue.connections.items desk.new }
         ensures one { IfOk result (λ done. done ≡ 1) }
         ensures open { OnOk result (desk.new.is_shut ≡ false) }
         ensures shut { OnErr result (desk.new.is_shut ≡ true) }
@@ -176,9 +198,9 @@ impl<R: Clock> Server<'_, R> {
         let is_answered = self.serve_connection(&mut connection, desk);
         match connection.stage {
             Stage::Writing { status } if is_answered => {
-                self.write_at(connection, status, connections);
+                self.write_at(connection, status, connections, port);
             }
-            _ => self.drop_connection(connection),
+            _ => self.drop_connection(connection, port),
         }
         if desk.is_shut() {
             return Err(ServingFault::Store);
@@ -189,30 +211,35 @@ impl<R: Clock> Server<'_, R> {
     /// Reads once on a connection of its request, and serves it once it is whole or its client has ended it. Returns 1 where it was served
     /// or dropped, else 0. `Store`: a fault of the store has shut the desk. No other fault comes.
     #[tactic(auto, using(crate::proofs::ServedRequests::desk_unasked))]
-    fn read_at<S: Alter + Drop>(
+    fn read_at<P: Port, S: Alter + Drop>(
         &self,
         mut connection: Connection,
-        connections: &mut Connections<'_>,
+        connections: &mut Connections,
+        port: &mut P,
         desk: &mut Desk<S>,
     ) -> Result<u32, ServingFault>
         requires room { length connections.old.queue.connections.items ≤ 64 }
         requires is_live { desk.old.is_shut ≡ false }
+        requires unserved { IsUnserved connection.stage }
         ensures same { IsSameStore S.Store desk.old desk.new }
         ensures serves { ServesAtMost S.Store self.now.terms 1 desk.old desk.new }
+        ensures exchanges { GoesOn S.Store self.now.terms (made_by result)
+            (P.channels port.old) (connection ∷ connections.old.queue.connections.items) desk.old
+            (P.channels port.new) connections.new.queue.connections.items desk.new }
         ensures few { IfOk result (λ done. done ≤ 1) }
         ensures unasked { IfOk result (λ done. done ≡ 0 → desk.new ≡ desk.old) }
         ensures open { OnOk result (desk.new.is_shut ≡ false) }
         ensures shut { OnErr result (desk.new.is_shut ≡ true) }
         ensures store { IfErr result (λ fault. fault ≡ ServingFault.Store) }
     {
-        match self.receive(&mut connection) {
-            Received::Whole | Received::Ended => self.serve_at(connection, connections, desk),
+        match self.receive(&mut connection, port) {
+            Received::Whole | Received::Ended => self.serve_at(connection, connections, port, desk),
             Received::Lacks => {
                 connections.queue.add(connection);
                 Ok(0)
             }
             Received::Broken => {
-                self.drop_connection(connection);
+                self.drop_connection(connection, port);
                 Ok(1)
             }
         }
@@ -221,47 +248,57 @@ impl<R: Clock> Server<'_, R> {
     /// Has a connection go on: its request is read and served, its answer is handed over, or what comes after it is passed over. Returns 1
     /// where it was served or dropped now, else 0. `Store`: a fault of the store has shut the desk. No other fault comes.
     #[tactic(auto, using(crate::proofs::ServedRequests::desk_unasked))]
-    fn advance_at<S: Alter + Drop>(
+    fn advance_at<P: Port, S: Alter + Drop>(
         &self,
         index: usize,
-        connections: &mut Connections<'_>,
+        connections: &mut Connections,
+        port: &mut P,
         desk: &mut Desk<S>,
     ) -> Result<u32, ServingFault>
         requires within { index < length connections.old.queue.connections.items }
         requires is_live { desk.old.is_shut ≡ false }
         ensures same { IsSameStore S.Store desk.old desk.new }
         ensures serves { ServesAtMost S.Store self.now.terms 1 desk.old desk.new }
+        ensures exchanges { GoesOn S.Store self.now.terms (made_by result)
+            (P.channels port.old) connections.old.queue.connections.items desk.old
+            (P.channels port.new) connections.new.queue.connections.items desk.new }
         ensures few { IfOk result (λ done. done ≤ 1) }
         ensures unasked { IfOk result (λ done. done ≡ 0 → desk.new ≡ desk.old) }
         ensures open { OnOk result (desk.new.is_shut ≡ false) }
         ensures shut { OnErr result (desk.new.is_shut ≡ true) }
         ensures store { IfErr result (λ fault. fault ≡ ServingFault.Store) }
     {
-        let connection = connections.remove(index);
+        let connection = connections.queue.remove(index);
         match connection.stage {
-            Stage::Silent | Stage::Reading { .. } => self.read_at(connection, connections, desk),
+            Stage::Silent | Stage::Reading { .. } => {
+                self.read_at(connection, connections, port, desk)
+            }
             Stage::Writing { status } => {
-                self.write_at(connection, status, connections);
+                self.write_at(connection, status, connections, port);
                 Ok(0)
             }
             Stage::Ending { pieces } => {
-                self.pass_over_at(connection, pieces, connections);
+                self.pass_over_at(connection, pieces, connections, port);
                 Ok(0)
             }
         }
     }
 
-    /// Serves so many connections of a listener: they are read side by side, and served one after the other as they become whole. Those
+    /// Serves so many connections of a port: they are read side by side, and served one after the other as they become whole. Those
     /// that were dropped before they were served count.
-    fn serve_each<S: Alter + Drop>(
+    fn serve_each<P: Port, S: Alter + Drop>(
         &self,
-        connections: &mut Connections<'_>,
+        connections: &mut Connections,
+        port: &mut P,
         count: u32,
         desk: &mut Desk<S>,
     ) -> Result<(), ServingFault>
         requires { desk.old.is_shut ≡ false }
         ensures same { IsSameStore S.Store desk.old desk.new }
         ensures serves { ServesAtMost S.Store self.now.terms count desk.old desk.new }
+        ensures exchanges { GoesOn S.Store self.now.terms count
+            (P.channels port.old) connections.old.queue.connections.items desk.old
+            (P.channels port.new) connections.new.queue.connections.items desk.new }
         ensures ends { EndsServing desk.new.is_shut result }
         ensures routed { IfErr result (λ fault. fault ≢ ServingFault.Memory) }
     {
@@ -270,47 +307,66 @@ impl<R: Clock> Server<'_, R> {
             if left == 0 {
                 return Ok(());
             }
-            let step = connections.next(self.milliseconds());
+            let step = connections.next(self.milliseconds(), port.may_take());
             let done = match step {
-                Step::Advance(index) => self.advance_at(index, connections, desk)?,
-                Step::Drop(index) => self.drop_at(index, connections),
-                Step::Take => self.take_next(connections)?,
+                Step::Advance(index) => self.advance_at(index, connections, port, desk)?,
+                Step::Drop(index) => self.drop_at(index, connections, port),
+                Step::Take => self.take_next(connections, port)?,
                 Step::Wait(_) => 0,
             };
-            connections.ask(step)?;
+            connections.ask(step, port)?;
             left -= done;
         }
         Ok(())
     }
 
     /// Has a connection go on that was served, and drops another one.
-    fn finish_at(&self, index: usize, connections: &mut Connections<'_>)
+    fn finish_at<P: Port>(&self, index: usize, connections: &mut Connections, port: &mut P)
         requires { index < length connections.old.queue.connections.items }
+        ensures held { KeepsHeld self.now.terms (P.channels port.old) connections.old.queue.connections.items
+            (P.channels port.new) connections.new.queue.connections.items }
     {
-        let connection = connections.remove(index);
+        let connection = connections.queue.remove(index);
         match connection.stage {
-            Stage::Silent | Stage::Reading { .. } => {}
-            Stage::Writing { status } => self.write_at(connection, status, connections),
-            Stage::Ending { pieces } => self.pass_over_at(connection, pieces, connections),
+            Stage::Silent | Stage::Reading { .. } => port.close(connection.number),
+            Stage::Writing { status } => self.write_at(connection, status, connections, port),
+            Stage::Ending { pieces } => self.pass_over_at(connection, pieces, connections, port),
+        }
+    }
+
+    /// Drops those that weren't served.
+    fn drop_unserved<P: Port>(&self, connections: &mut Connections, port: &mut P)
+        ensures held { KeepsHeld self.now.terms (P.channels port.old) connections.old.queue.connections.items
+            (P.channels port.new) connections.new.queue.connections.items }
+    {
+        for _ in 0..=MOST_CONNECTIONS {
+            let Some(index) = connections.queue.first_unserved() else {
+                return;
+            };
+            let connection = connections.queue.remove(index);
+            port.close(connection.number);
         }
     }
 
     /// Hands over what is on its way of the answers, where none is served any more, within their time.
-    fn finish(&self, connections: &mut Connections<'_>) {
-        connections.queue.keep_served();
+    fn finish<P: Port>(&self, connections: &mut Connections, port: &mut P)
+        ensures held { KeepsHeld self.now.terms (P.channels port.old) connections.old.queue.connections.items
+            (P.channels port.new) connections.new.queue.connections.items }
+    {
+        self.drop_unserved(connections, port);
         for _turn in 0..u64::MAX {
             if connections.queue.connections.is_empty() {
                 return;
             }
             let step = connections.next_of_taken(self.milliseconds());
             match step {
-                Step::Advance(index) => self.finish_at(index, connections),
+                Step::Advance(index) => self.finish_at(index, connections, port),
                 Step::Drop(index) => {
-                    self.drop_at(index, connections);
+                    self.drop_at(index, connections, port);
                 }
                 Step::Take | Step::Wait(_) => {}
             }
-            if connections.ask(step).is_err() {
+            if connections.ask(step, port).is_err() {
                 return;
             }
         }
@@ -328,13 +384,46 @@ fn routes_of(made: Result<Routes, RoutesFault>) -> Result<Routes, ServingFault>
     }
 }
 
-/// Serves so many connections of a listener by an open desk, as the terms say: they are read and answered side by side, and their requests
+/// Serves so many connections of a port by an open desk, as the terms say: they are read and answered side by side, and their requests
 /// executed one after the other. What is answered to a request ends nothing,
 /// and neither does a fault of a connection; one without a byte counts too, and one whose request isn't whole within its twenty seconds.
 /// Each is noted in the log where there is one.
 ///
 /// `Store`: a fault of the store has shut the desk; no further connection is taken. `Net`: no connection could be taken.
-/// `Memory`: memory was refused for the routes, before the first connection. No other fault comes.
+/// `Memory`: memory was refused for the routes or for the connections, before the first. No other fault comes.
+pub fn serve_port<R: Clock + AllocGlobal, P: Port, S: Alter + Drop>(
+    rt: &R,
+    port: &mut P,
+    terms: Terms<'_>,
+    count: u32,
+    desk: &mut Desk<S>,
+    log: AccessLog<'_>,
+) -> Result<(), ServingFault>
+    requires { desk.old.is_shut ≡ false }
+    ensures same { IsSameStore S.Store desk.old desk.new }
+    ensures serves { ServesAtMost S.Store terms.entry count desk.old desk.new }
+    ensures exchanges { ServesPort S.Store terms.entry count (P.channels port.old) (P.channels port.new) desk.old desk.new }
+    ensures ends { EndsServing desk.new.is_shut result }
+{
+    let routes = routes_of(Routes::new(rt.alloc()))?;
+    let Ok(mut connections) = Connections::new(rt.alloc()) else {
+        return Err(ServingFault::Memory);
+    };
+    let server = Server {
+        alloc: rt.alloc(),
+        clock: rt,
+        began: Instant::now(rt).ok(),
+        routes,
+        terms,
+        log,
+    };
+    let end = server.serve_each(&mut connections, port, count, desk);
+    server.finish(&mut connections, port);
+    end
+}
+
+/// Serves so many connections of a listener, as [`serve_port`] does those of any port: the system's sockets are one that shows nothing of what
+/// passes. `Net` comes also where the system doesn't report those that come in.
 pub fn serve_listener<R: Net + Clock + AllocGlobal, S: Alter + Drop>(
     rt: &R,
     listener: &TcpListener,
@@ -348,17 +437,6 @@ pub fn serve_listener<R: Net + Clock + AllocGlobal, S: Alter + Drop>(
     ensures serves { ServesAtMost S.Store terms.entry count desk.old desk.new }
     ensures ends { EndsServing desk.new.is_shut result }
 {
-    let routes = routes_of(Routes::new(rt.alloc()))?;
-    let mut connections = Connections::new(rt.alloc(), rt, listener)?;
-    let server = Server {
-        alloc: rt.alloc(),
-        clock: rt,
-        began: Instant::now(rt).ok(),
-        routes,
-        terms,
-        log,
-    };
-    let end = server.serve_each(&mut connections, count, desk);
-    server.finish(&mut connections);
-    end
+    let mut sockets = Sockets::new(rt.alloc(), rt, listener)?;
+    serve_port(rt, &mut sockets, terms, count, desk, log)
 }

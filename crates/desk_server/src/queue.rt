@@ -61,14 +61,14 @@ fn first_ready(connections: &[Connection]) -> Option<usize>
     connections.iter().position(|c| c.is_ready)
 }
 
-/// The first connection of a token that isn't ready.
-fn waits_for(connections: &[Connection], token: usize) -> Option<usize>
-    ensures first { result ≡ waits_for connections.now token }
+/// The first connection of a number that isn't ready.
+fn waits_for(connections: &[Connection], number: u64) -> Option<usize>
+    ensures first { result ≡ waits_for connections.now number }
     ensures bound { IfSome result (λ index. index < length connections.now) }
 {
     connections
         .iter()
-        .position(|c| c.token == token && !c.is_ready)
+        .position(|c| c.number == number && !c.is_ready)
 }
 
 /// For how many milliseconds the connections may stay as they are, `None` where there is none.
@@ -149,22 +149,18 @@ impl Queue {
         self.connections.remove(index)
     }
 
-    /// Drops those that weren't served.
-    pub(crate) fn keep_served(&mut self) {
-        for _ in 0..=MOST_CONNECTIONS {
-            let found = self.connections.iter().position(|c| !c.is_served());
-            let Some(index) = found else {
-                return;
-            };
-            self.remove(index);
-        }
+    /// The first that wasn't served.
+    pub(crate) fn first_unserved(&self) -> Option<usize>
+        ensures { IfSome result (λ index. index < length self.now.connections.items) }
+    {
+        self.connections.iter().position(|c| !c.is_served())
     }
 
-    /// Has the connection of a token go on after those that may already. Nothing else changes.
-    pub(crate) fn mark(&mut self, token: usize)
-        ensures { self.new.connections.items ≡ marked self.old.connections.items token }
+    /// Has the connection of a number go on after those that may already. Nothing else changes.
+    pub(crate) fn mark(&mut self, number: u64)
+        ensures { self.new.connections.items ≡ marked self.old.connections.items number }
     {
-        if let Some(index) = waits_for(self.connections.as_slice(), token) {
+        if let Some(index) = waits_for(self.connections.as_slice(), number) {
             let mut connection = self.remove(index);
             connection.is_ready = true;
             self.add(connection);

@@ -1,11 +1,14 @@
 //! Requests, received side by side.
-ghost use Rattle.std.specs.Prelude.{◌≡◌, true, false, IfSome};
+ghost use Rattle.std.specs.Prelude.{◌≡◌, ◌≢◌, true, false, IfSome, List};
 ghost use Rattle.plant_base.specs.{State};
 ghost use Rattle.plant_desk.specs.{IsSameDesk};
+ghost use Rattle.desk_server.specs.Exchanges.{Exchange, HasMade, IsUnserved, Lacks, MakesOne};
+ghost use Rattle.desk_server.specs.Exchanges.{BeginsToAnswer, ReadsOn, reply_of};
 ghost use Rattle.desk_server.specs.Receiving.{AnswersConnection, IsReceived};
 ghost use Rattle.desk_server.specs.Serving.{HasServed};
 
-use crate::connection::{Connection, Piece, Stage};
+use crate::connection::{Connection, Stage};
+use crate::port::{Piece, Port};
 use crate::server::Server;
 use plant_desk::Keeper;
 use plant_http_requests::{MOST_READS, RequestProgress, Terms, request_progress};
@@ -34,6 +37,8 @@ impl Connection {
     fn count_read(&mut self, now: u64)
         ensures unchanged { self.new.request ≡ self.old.request }
         ensures time { self.new.now ≡ self.old.now }
+        ensures number { self.new.number ≡ self.old.number }
+        ensures stage { IsUnserved self.new.stage }
     {
         self.stage = match self.stage {
             Stage::Reading { first, reads } => Stage::Reading {
@@ -52,6 +57,8 @@ impl Connection {
     fn make_room(&mut self, size: usize) -> bool
         ensures unchanged { self.new.request.items ≡ self.old.request.items }
         ensures time { self.new.now ≡ self.old.now }
+        ensures number { self.new.number ≡ self.old.number }
+        ensures stage { self.new.stage ≡ self.old.stage }
     {
         self.size = Some(size);
         let lacking = size.saturating_sub(self.request.len());
@@ -64,6 +71,10 @@ impl<R: Clock> Server<'_, R> {
     fn judge(&self, connection: &mut Connection) -> Received
         ensures whole { IsReceived self.now.terms connection.new.now connection.new.request.items result }
         ensures unchanged { connection.new.request.items ≡ connection.old.request.items }
+        ensures time { connection.new.now ≡ connection.old.now }
+        ensures number { connection.new.number ≡ connection.old.number }
+        ensures stage { connection.new.stage ≡ connection.old.stage }
+        ensures unended { result ≢ Received.Ended }
     {
         if matches!(connection.size, Some(size) if connection.request.len() < size) {
             return Received::Lacks;
@@ -85,17 +96,30 @@ impl<R: Clock> Server<'_, R> {
         }
     }
 
+    /// Notes the machine's time on a connection of whose request nothing has come.
+    fn note_time(&self, connection: &mut Connection)
+        ensures number { connection.new.number ≡ connection.old.number }
+        ensures stage { connection.new.stage ≡ connection.old.stage }
+        ensures unchanged { connection.new.request ≡ connection.old.request }
+        ensures answer { connection.new.answer ≡ connection.old.answer }
+        ensures handed { connection.new.handed ≡ connection.old.handed }
+    {
+        if matches!(connection.stage, Stage::Silent) {
+            connection.now = self.now();
+        }
+    }
+
     /// Reads once of a request, without waiting. The machine's time is read before its first byte.
-    pub(crate) fn receive(&self, connection: &mut Connection) -> Received
+    pub(crate) fn receive<P: Port>(&self, connection: &mut Connection, port: &mut P) -> Received
         ensures whole { IsReceived self.now.terms connection.new.now connection.new.request.items result }
+        ensures shown { ReadsOn self.now.terms (P.channels port.old) connection.old
+            (P.channels port.new) connection.new result }
     {
         if connection.has_made_its_reads() {
             return Received::Broken;
         }
-        if matches!(connection.stage, Stage::Silent) {
-            connection.now = self.now();
-        }
-        match connection.receive() {
+        self.note_time(connection);
+        match connection.receive(port) {
             Piece::Bytes(_) => {
                 connection.count_read(self.milliseconds());
                 self.judge(connection)
@@ -123,19 +147,29 @@ impl<R: Clock> Server<'_, R> {
         ensures answers { result ≡ true → K.honest keeper.new → K.shut keeper.old ≡ false → (s : State)
             → K.represents keeper.old s → AnswersConnection self.now.terms (K.schema keeper.old) s connection.old
             (K.represents keeper.new) (K.shut keeper.new) (K.crash_states keeper.new) connection.new }
+        ensures makes { K.honest keeper.new → K.shut keeper.old ≡ false → (s : State)
+            → (journal : List (Exchange self.now.terms)) → Lacks connection.old.number journal
+            → HasMade self.now.terms (K.schema keeper.old) s journal
+            (K.represents keeper.old) (K.shut keeper.old) (K.crash_states keeper.old)
+            → MakesOne self.now.terms connection.old.now connection.old.number connection.old.request.items (K.schema keeper.old) s journal
+            (K.represents keeper.new) (K.shut keeper.new) (K.crash_states keeper.new) (reply_of result connection.new) }
+        ensures number { connection.new.number ≡ connection.old.number }
+        ensures begins { result ≡ true → BeginsToAnswer connection.new }
+        ensures unanswered { result ≡ false → connection.new ≡ connection.old }
         ensures unchanged { K.shut keeper.old ≡ true → keeper.new ≡ keeper.old }
     {
-        let Some(reply) = self.reply_to(connection.now, connection.request.as_slice(), keeper)
-        else {
-            return false;
-        };
-        connection.stage = Stage::Writing {
-            status: reply.status,
-        };
-        connection.answer = reply.text;
-        connection.handed = 0;
-        connection.moved = self.milliseconds();
-        connection.is_ready = true;
-        true
+        match self.reply_to(connection.now, connection.request.as_slice(), keeper) {
+            Some(reply) => {
+                connection.stage = Stage::Writing {
+                    status: reply.status,
+                };
+                connection.answer = reply.text;
+                connection.handed = 0;
+                connection.moved = self.milliseconds();
+                connection.is_ready = true;
+                true
+            }
+            None => false,
+        }
     }
 }

@@ -1,7 +1,8 @@
 //! A request whose bytes are there, served.
-ghost use Rattle.std.specs.Prelude.{◌≡◌, ℕ, true, false, IfSome};
+ghost use Rattle.std.specs.Prelude.{◌≡◌, ℕ, true, false, IfSome, List};
 ghost use Rattle.plant_base.specs.{State};
 ghost use Rattle.plant_desk.specs.{IsSameDesk};
+ghost use Rattle.desk_server.specs.Exchanges.{Exchange, HasMade, Lacks, MakesOne};
 ghost use Rattle.desk_server.specs.Reply.{AnswersBytes};
 ghost use Rattle.desk_server.specs.Serving.{HasServed, status_of};
 
@@ -50,6 +51,12 @@ impl<R: Clock> Server<'_, R> {
         ensures answers { IfSome result (λ reply. K.honest keeper.new → K.shut keeper.old ≡ false → (s : State)
             → K.represents keeper.old s → AnswersBytes self.now.terms now (K.schema keeper.old) s request.now
             (K.represents keeper.new) (K.shut keeper.new) (K.crash_states keeper.new) reply) }
+        ensures makes { (n : ℕ) → K.honest keeper.new → K.shut keeper.old ≡ false → (s : State)
+            → (journal : List (Exchange self.now.terms)) → Lacks n journal
+            → HasMade self.now.terms (K.schema keeper.old) s journal
+            (K.represents keeper.old) (K.shut keeper.old) (K.crash_states keeper.old)
+            → MakesOne self.now.terms now n request.now (K.schema keeper.old) s journal
+            (K.represents keeper.new) (K.shut keeper.new) (K.crash_states keeper.new) result }
         ensures unchanged { K.shut keeper.old ≡ true → keeper.new ≡ keeper.old }
     {
         let Ok(mut text) = Vec::with_capacity(self.alloc, ANSWER_BYTES) else {
@@ -65,7 +72,9 @@ impl<R: Clock> Server<'_, R> {
             &mut text,
             keeper,
         );
-        let status = status_of(&served)?;
-        Some(Reply { status, text })
+        match status_of(&served) {
+            Some(status) => Some(Reply { status, text }),
+            None => None,
+        }
     }
 }

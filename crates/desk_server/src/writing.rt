@@ -1,19 +1,22 @@
 //! Answers, handed over side by side.
-ghost use Rattle.std.specs.Prelude.{◌≤◌, ◌≡◌, length};
+ghost use Rattle.std.specs.Prelude.{◌≤◌, ◌≡◌, ◌∷◌, length};
+ghost use Rattle.desk_server.specs.Exchanges.{IsWriting, KeepsHeld};
 
-use crate::connection::{Connection, Piece, Stage};
+use crate::connection::{Connection, Stage};
 use crate::listening::Connections;
+use crate::port::{Piece, Port};
 use crate::server::Server;
-use mio::Interest;
-use std::net::Shutdown;
 use std::rt::Clock;
 
 /// How many pieces are read at most of what a client sends after its request.
-const MOST_PIECES: u32 = 64;
+const MOST_PIECES: u32 = 128;
 
 impl<R: Clock> Server<'_, R> {
     /// Drops a connection, and notes it as unanswered unless its answer was handed over.
-    pub(crate) fn drop_connection(&self, connection: Connection) {
+    pub(crate) fn drop_connection<P: Port>(&self, connection: Connection, port: &mut P)
+        ensures { P.channels port.new ≡ P.channels port.old }
+    {
+        port.close(connection.number);
         if !matches!(connection.stage, Stage::Ending { .. }) {
             self.log
                 .note_request(connection.arrival, connection.request.as_slice(), None);
@@ -25,8 +28,16 @@ impl<R: Clock> Server<'_, R> {
     ///
     /// A socket that is closed with unread bytes in it resets the connection, and a reset can destroy an answer on its way.
     /// So the connection is closed in stages (RFC 9112, section 9.6).
-    fn end_answer(&self, mut connection: Connection, status: u16, connections: &mut Connections<'_>)
+    fn end_answer<P: Port>(
+        &self,
+        mut connection: Connection,
+        status: u16,
+        connections: &mut Connections,
+        port: &mut P,
+    )
         requires { length connections.old.queue.connections.items ≤ 64 }
+        ensures held { KeepsHeld self.now.terms (P.channels port.old) (connection ∷ connections.old.queue.connections.items)
+            (P.channels port.new) connections.new.queue.connections.items }
     {
         self.log.note_request(
             connection.arrival,
@@ -38,31 +49,32 @@ impl<R: Clock> Server<'_, R> {
         connection.request = Vec::new(self.alloc);
         connection.moved = self.milliseconds();
         connection.is_ready = true;
-        let is_ended = connection.stream.shutdown(Shutdown::Write).is_ok();
-        if is_ended
-            && connections
-                .reception
-                .expect(&connection.stream, Interest::READABLE)
-        {
+        if port.end(connection.number) {
             connections.queue.add(connection);
+        } else {
+            port.close(connection.number);
         }
     }
 
     /// Hands over once of the answer of a connection, of this status, as much as the system takes now.
-    pub(crate) fn write_at(
+    pub(crate) fn write_at<P: Port>(
         &self,
         mut connection: Connection,
         status: u16,
-        connections: &mut Connections<'_>,
+        connections: &mut Connections,
+        port: &mut P,
     )
-        requires { length connections.old.queue.connections.items ≤ 64 }
+        requires room { length connections.old.queue.connections.items ≤ 64 }
+        requires writing { IsWriting connection.stage }
+        ensures held { KeepsHeld self.now.terms (P.channels port.old) (connection ∷ connections.old.queue.connections.items)
+            (P.channels port.new) connections.new.queue.connections.items }
     {
-        let Some(sent) = connection.hand_over() else {
-            self.drop_connection(connection);
+        let Some(sent) = connection.hand_over(port) else {
+            self.drop_connection(connection, port);
             return;
         };
         if connection.handed >= connection.answer.len() {
-            self.end_answer(connection, status, connections);
+            self.end_answer(connection, status, connections, port);
             return;
         }
         if sent > 0 {
@@ -71,26 +83,27 @@ impl<R: Clock> Server<'_, R> {
             return;
         }
         connection.is_ready = false;
-        if connections
-            .reception
-            .expect(&connection.stream, Interest::WRITABLE)
-        {
+        if port.await_room(connection.number) {
             connections.queue.add(connection);
         } else {
-            self.drop_connection(connection);
+            self.drop_connection(connection, port);
         }
     }
 
     /// Reads once of what a client sends after its request, of which so many pieces came.
-    pub(crate) fn pass_over_at(
+    pub(crate) fn pass_over_at<P: Port>(
         &self,
         mut connection: Connection,
         pieces: u32,
-        connections: &mut Connections<'_>,
+        connections: &mut Connections,
+        port: &mut P,
     )
-        requires { length connections.old.queue.connections.items ≤ 64 }
+        requires room { length connections.old.queue.connections.items ≤ 64 }
+        requires ending { connection.stage ≡ Stage.Ending pieces }
+        ensures held { KeepsHeld self.now.terms (P.channels port.old) (connection ∷ connections.old.queue.connections.items)
+            (P.channels port.new) connections.new.queue.connections.items }
     {
-        match connection.pass_over() {
+        match connection.pass_over(port) {
             Piece::Bytes(_) if pieces < MOST_PIECES => {
                 connection.stage = Stage::Ending { pieces: pieces + 1 };
                 connections.queue.add(connection);
@@ -99,7 +112,7 @@ impl<R: Clock> Server<'_, R> {
                 connection.is_ready = false;
                 connections.queue.add(connection);
             }
-            Piece::Bytes(_) | Piece::End | Piece::Broken => {}
+            Piece::Bytes(_) | Piece::End | Piece::Broken => port.close(connection.number),
         }
     }
 }

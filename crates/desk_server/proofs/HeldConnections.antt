@@ -5,12 +5,12 @@ use Rattle.std.proofs.lemmas.List.{append_assoc, append-nil, take-append-drop}
 use Rattle.std.proofs.Math.Seq.{take-add}
 use Rattle.httpdate.specs.declared.date.HttpDate.{HttpDate}
 use Rattle.plant_http_requests.specs.{Terms}
-use Rattle.desk_server.specs.Channels.{Channel, changed_at, new_channel, with_end, with_received, with_sent}
+use Rattle.desk_server.specs.Traffic.{Traffic, changed_at, no_traffic, with_end, with_received, with_sent}
 use Rattle.desk_server.specs.Exchanges.{AreApart, AreExchangedOn, AreHeld, Exchange, HasComeOn, IsAt, IsBeginning, IsExchangedOn, IsHeld, IsUnserved, Lacks, MayBeServed, text_of}
 use Rattle.desk_server.specs.declared.connection.Connection.{Connection}
 use Rattle.desk_server.specs.declared.connection.Stage.{Stage}
 use Rattle.desk_server.specs.declared.connection.Stage.TheVariants as stage
-use Rattle.desk_server.proofs.ChannelsChanged.{changed_there, changed_elsewhere, changed_back, changed_forth, added_before, added_last, added_back}
+use Rattle.desk_server.proofs.TrafficChanged.{changed_there, changed_elsewhere, changed_back, changed_forth, added_before, added_last, added_back}
 
 -- ---- lists
 
@@ -57,27 +57,27 @@ apart_last (x ∷ held) c a other = (all_last (λ (d : Connection). d.number ≢
 -- ---- the exchanges of connections
 
 -- what was handed over to a connection is the beginning of the answer of each exchange of it
-pub sent_of : {terms : Terms} (all : List Channel) (n : ℕ) (c : Channel) (journal : List (Exchange terms)) → slice_get all n ≡ Some c → AllByRecursion (IsExchangedOn all) journal
+pub sent_of : {terms : Terms} (all : List Traffic) (n : ℕ) (c : Traffic) (journal : List (Exchange terms)) → slice_get all n ≡ Some c → AllByRecursion (IsExchangedOn all) journal
     → AllByRecursion (λ (e : Exchange terms). e.number ≡ n → IsBeginning c.sent (text_of e)) journal
 sent_of all n c [] at a = tt
 sent_of all n c (e ∷ journal) at a =
     let one = a.0 in
-    (λ is. let same : one.0 ≡ c = cc in subst (λ (d : Channel). IsBeginning d.sent (text_of e)) same one.4, sent_of all n c journal at a.1)
+    (λ is. let same : one.0 ≡ c = cc in subst (λ (d : Traffic). IsBeginning d.sent (text_of e)) same one.4, sent_of all n c journal at a.1)
 
 -- a change by which a connection has received no less, and has ended if it had
-pub record Grows (f : Channel → Channel) : Type 0 where
-  pub received : (c : Channel) → IsBeginning c.received (f c).received
-  pub ended : (c : Channel) → c.has_ended ≡ true → (f c).has_ended ≡ true
+pub record Grows (f : Traffic → Traffic) : Type 0 where
+  pub received : (c : Traffic) → IsBeginning c.received (f c).received
+  pub ended : (c : Traffic) → c.has_ended ≡ true → (f c).has_ended ≡ true
 
 begins_on : (front middle whole : List ℕ) → IsBeginning front middle → IsBeginning middle whole → IsBeginning front whole
 begins_on front middle whole (a, is) (b, so) = (a ++ b, cc (append_assoc front a b))
 
-come_on : (terms : Terms) (now : Option HttpDate) (input : List ℕ) (c d : Channel) → (c.has_ended ≡ true → d.has_ended ≡ true) → HasComeOn terms now input c → HasComeOn terms now input d
+come_on : (terms : Terms) (now : Option HttpDate) (input : List ℕ) (c d : Traffic) → (c.has_ended ≡ true → d.has_ended ≡ true) → HasComeOn terms now input c → HasComeOn terms now input d
 come_on terms now input c d ended (inl whole) = inl whole
 come_on terms now input c d ended (inr h) = inr (ended h)
 
-exchanged_changed : {terms : Terms} (f : Channel → Channel) (n : ℕ) (all : List Channel) (journal : List (Exchange terms)) → Grows f
-    → ((c : Channel) → slice_get all n ≡ Some c → AllByRecursion (λ (e : Exchange terms). e.number ≡ n → IsBeginning (f c).sent (text_of e)) journal)
+exchanged_changed : {terms : Terms} (f : Traffic → Traffic) (n : ℕ) (all : List Traffic) (journal : List (Exchange terms)) → Grows f
+    → ((c : Traffic) → slice_get all n ≡ Some c → AllByRecursion (λ (e : Exchange terms). e.number ≡ n → IsBeginning (f c).sent (text_of e)) journal)
     → AllByRecursion (IsExchangedOn all) journal → AllByRecursion (IsExchangedOn (changed_at f n all)) journal
 exchanged_changed f n all [] grows sent a = tt
 exchanged_changed {terms} f n all (e ∷ journal) grows sent a =
@@ -95,9 +95,9 @@ exchanged_changed {terms} f n all (e ∷ journal) grows sent a =
       exchanged_changed f n all journal grows (λ d there. (sent d there).1) a.1,
     )
 
-pub changed_exchanges : {terms : Terms} (f : Channel → Channel) (n : ℕ) (all : List Channel) (journal : List (Exchange terms)) → Grows f
-    → ((c : Channel) → slice_get all n ≡ Some c → AllByRecursion (λ (e : Exchange terms). e.number ≡ n → IsBeginning (f c).sent (text_of e)) journal)
-    → ((c : Channel) → slice_get all n ≡ Some c → Lacks n journal → (f c).sent ≡ [])
+pub changed_exchanges : {terms : Terms} (f : Traffic → Traffic) (n : ℕ) (all : List Traffic) (journal : List (Exchange terms)) → Grows f
+    → ((c : Traffic) → slice_get all n ≡ Some c → AllByRecursion (λ (e : Exchange terms). e.number ≡ n → IsBeginning (f c).sent (text_of e)) journal)
+    → ((c : Traffic) → slice_get all n ≡ Some c → Lacks n journal → (f c).sent ≡ [])
     → AreExchangedOn all journal → AreExchangedOn (changed_at f n all) journal
 changed_exchanges f n all journal grows sent quiet a = record {
   each = exchanged_changed f n all journal grows sent a.each;
@@ -112,22 +112,22 @@ changed_exchanges f n all journal grows sent quiet a = record {
 
 -- ---- a connection that is held
 
-held_elsewhere : {terms : Terms} (f : Channel → Channel) (n : ℕ) (all : List Channel) (journal : List (Exchange terms)) (c : Connection) → c.number ≢ n → IsHeld all journal c → IsHeld (changed_at f n all) journal c
+held_elsewhere : {terms : Terms} (f : Traffic → Traffic) (n : ℕ) (all : List Traffic) (journal : List (Exchange terms)) (c : Connection) → c.number ≢ n → IsHeld all journal c → IsHeld (changed_at f n all) journal c
 held_elsewhere f n all journal c other (shown, at, is) = (shown, cc (changed_elsewhere f n c.number all other), is)
 
-all_elsewhere : {terms : Terms} (f : Channel → Channel) (n : ℕ) (all : List Channel) (journal : List (Exchange terms)) (held : List Connection) → AllByRecursion (λ (d : Connection). d.number ≢ n) held
+all_elsewhere : {terms : Terms} (f : Traffic → Traffic) (n : ℕ) (all : List Traffic) (journal : List (Exchange terms)) (held : List Connection) → AllByRecursion (λ (d : Connection). d.number ≢ n) held
     → AllByRecursion (IsHeld all journal) held → AllByRecursion (IsHeld (changed_at f n all) journal) held
 all_elsewhere f n all journal [] other a = tt
 all_elsewhere f n all journal (c ∷ held) other a = (held_elsewhere f n all journal c other.0 a.0, all_elsewhere f n all journal held other.1 a.1)
 
-unserved_at : {terms : Terms} (journal : List (Exchange terms)) (shown : Channel) (c : Connection) (s : Stage) → IsUnserved s → IsAt journal shown c s
+unserved_at : {terms : Terms} (journal : List (Exchange terms)) (shown : Traffic) (c : Connection) (s : Stage) → IsUnserved s → IsAt journal shown c s
     → (shown.received ≡ c.request.items) × (shown.sent ≡ []) × Lacks c.number journal
 unserved_at journal shown c stage.Silent u a = a
 unserved_at journal shown c (stage.Reading first reads) u a = a
 unserved_at journal shown c (stage.Writing status) u a = absurd u
 unserved_at journal shown c (stage.Ending pieces) u a = absurd u
 
-at_unserved : {terms : Terms} (journal : List (Exchange terms)) (shown : Channel) (c : Connection) (s : Stage) → IsUnserved s
+at_unserved : {terms : Terms} (journal : List (Exchange terms)) (shown : Traffic) (c : Connection) (s : Stage) → IsUnserved s
     → (shown.received ≡ c.request.items) × (shown.sent ≡ []) × Lacks c.number journal → IsAt journal shown c s
 at_unserved journal shown c stage.Silent u a = a
 at_unserved journal shown c (stage.Reading first reads) u a = a
@@ -136,10 +136,10 @@ at_unserved journal shown c (stage.Ending pieces) u a = absurd u
 
 -- ---- connections that are held
 
-pub dropped : {terms : Terms} (all : List Channel) (c : Connection) (others : List Connection) (journal : List (Exchange terms)) → AreHeld all (c ∷ others) journal → AreHeld all others journal
+pub dropped : {terms : Terms} (all : List Traffic) (c : Connection) (others : List Connection) (journal : List (Exchange terms)) → AreHeld all (c ∷ others) journal → AreHeld all others journal
 dropped all c others journal a = record { apart = a.apart.1; each = a.each.1; exchanged = a.exchanged }
 
-pub replaced : {terms : Terms} (all : List Channel) (c d : Connection) (others : List Connection) (journal : List (Exchange terms)) → d.number ≡ c.number → IsHeld all journal d
+pub replaced : {terms : Terms} (all : List Traffic) (c d : Connection) (others : List Connection) (journal : List (Exchange terms)) → d.number ≡ c.number → IsHeld all journal d
     → AreHeld all (c ∷ others) journal → AreHeld all (d ∷ others) journal
 replaced all c d others journal same held a = record {
   apart = (subst (λ n. AllByRecursion (λ (e : Connection). e.number ≢ n) others) (sym same) a.apart.0, a.apart.1);
@@ -147,7 +147,7 @@ replaced all c d others journal same held a = record {
   exchanged = a.exchanged;
 }
 
-writing_alike : {terms : Terms} (journal : List (Exchange terms)) (shown : Channel) (c d : Connection) (status : ℕ) → d.number ≡ c.number → d.answer.items ≡ c.answer.items → shown.sent ≡ take d.handed d.answer.items
+writing_alike : {terms : Terms} (journal : List (Exchange terms)) (shown : Traffic) (c d : Connection) (status : ℕ) → d.number ≡ c.number → d.answer.items ≡ c.answer.items → shown.sent ≡ take d.handed d.answer.items
     → (Lacks c.number journal → ⊥) → AllByRecursion (λ (e : Exchange terms). e.number ≡ c.number → text_of e ≡ c.answer.items) journal → IsAt journal shown d (stage.Writing status)
 writing_alike {terms} journal shown c d status n w sent some says = (
   sent,
@@ -156,7 +156,7 @@ writing_alike {terms} journal shown c d status n w sent some says = (
       (λ e said same. let text = said (cc) in cc) journal says,
 )
 
-at_alike : {terms : Terms} (journal : List (Exchange terms)) (shown : Channel) (c d : Connection) (s : Stage) → d.number ≡ c.number → d.request.items ≡ c.request.items → d.answer.items ≡ c.answer.items → d.handed ≡ c.handed
+at_alike : {terms : Terms} (journal : List (Exchange terms)) (shown : Traffic) (c d : Connection) (s : Stage) → d.number ≡ c.number → d.request.items ≡ c.request.items → d.answer.items ≡ c.answer.items → d.handed ≡ c.handed
     → IsAt journal shown c s → IsAt journal shown d s
 at_alike journal shown c d stage.Silent n r w h is = (cc, is.1, subst (λ m. Lacks m journal) (sym n) is.2)
 at_alike journal shown c d (stage.Reading first reads) n r w h is = (cc, is.1, subst (λ m. Lacks m journal) (sym n) is.2)
@@ -164,31 +164,31 @@ at_alike journal shown c d (stage.Writing status) n r w h is = writing_alike jou
 at_alike journal shown c d (stage.Ending pieces) n r w h is = tt
 
 -- what is known of it says nothing of when it moved on, and whether it is ready
-pub alike : {terms : Terms} (all : List Channel) (c d : Connection) (others : List Connection) (journal : List (Exchange terms)) → d.number ≡ c.number → d.stage ≡ c.stage → d.request.items ≡ c.request.items → d.answer.items ≡ c.answer.items
+pub alike : {terms : Terms} (all : List Traffic) (c d : Connection) (others : List Connection) (journal : List (Exchange terms)) → d.number ≡ c.number → d.stage ≡ c.stage → d.request.items ≡ c.request.items → d.answer.items ≡ c.answer.items
     → d.handed ≡ c.handed → AreHeld all (c ∷ others) journal → AreHeld all (d ∷ others) journal
 alike all c d others journal n s r w h a =
     let (shown, at, is) = a.each.0 in
     replaced all c d others journal n (shown, cc, subst (λ s. IsAt journal shown d s) (sym s) (at_alike journal shown c d c.stage n r w h is)) a
 
-pub taken_out : {terms : Terms} (all : List Channel) (held : List Connection) (i : ℕ) (c : Connection) (journal : List (Exchange terms)) → slice_get held i ≡ Some c → AreHeld all held journal
+pub taken_out : {terms : Terms} (all : List Traffic) (held : List Connection) (i : ℕ) (c : Connection) (journal : List (Exchange terms)) → slice_get held i ≡ Some c → AreHeld all held journal
     → AreHeld all (c ∷ remove held i) journal
 taken_out all held i c journal at a = record { apart = apart_out held i c at a.apart; each = all_out (IsHeld all journal) held i c at a.each; exchanged = a.exchanged }
 
-pub removed : {terms : Terms} (all : List Channel) (held : List Connection) (i : ℕ) (journal : List (Exchange terms)) → AreHeld all held journal → AreHeld all (remove held i) journal
+pub removed : {terms : Terms} (all : List Traffic) (held : List Connection) (i : ℕ) (journal : List (Exchange terms)) → AreHeld all held journal → AreHeld all (remove held i) journal
 removed all held i journal a = record { apart = apart_removed held i a.apart; each = all_removed (IsHeld all journal) held i a.each; exchanged = a.exchanged }
 
-pub unserved_lacks : {terms : Terms} (all : List Channel) (c : Connection) (others : List Connection) (journal : List (Exchange terms)) → IsUnserved c.stage → AreHeld all (c ∷ others) journal → Lacks c.number journal
+pub unserved_lacks : {terms : Terms} (all : List Traffic) (c : Connection) (others : List Connection) (journal : List (Exchange terms)) → IsUnserved c.stage → AreHeld all (c ∷ others) journal → Lacks c.number journal
 unserved_lacks all c others journal u a = let (shown, at, is) = a.each.0 in (unserved_at journal shown c c.stage u is).2
 
-pub put_last : {terms : Terms} (all : List Channel) (c : Connection) (others : List Connection) (journal : List (Exchange terms)) → AreHeld all (c ∷ others) journal → AreHeld all (others ++ c ∷ []) journal
+pub put_last : {terms : Terms} (all : List Traffic) (c : Connection) (others : List Connection) (journal : List (Exchange terms)) → AreHeld all (c ∷ others) journal → AreHeld all (others ++ c ∷ []) journal
 put_last all c others journal a = record { apart = apart_last others c a.apart.1 a.apart.0; each = all_last (IsHeld all journal) others c a.each.1 a.each.0; exchanged = a.exchanged }
 
 -- ---- what passes over one of them
 
-pub changed_held : {terms : Terms} (f : Channel → Channel) (all : List Channel) (c d : Connection) (others : List Connection) (journal : List (Exchange terms)) → Grows f
-    → ((shown : Channel) → slice_get all c.number ≡ Some shown → AllByRecursion (λ (e : Exchange terms). e.number ≡ c.number → IsBeginning (f shown).sent (text_of e)) journal)
-    → ((shown : Channel) → slice_get all c.number ≡ Some shown → Lacks c.number journal → (f shown).sent ≡ [])
-    → d.number ≡ c.number → ((shown : Channel) → slice_get all c.number ≡ Some shown → IsAt journal shown c c.stage → IsAt journal (f shown) d d.stage)
+pub changed_held : {terms : Terms} (f : Traffic → Traffic) (all : List Traffic) (c d : Connection) (others : List Connection) (journal : List (Exchange terms)) → Grows f
+    → ((shown : Traffic) → slice_get all c.number ≡ Some shown → AllByRecursion (λ (e : Exchange terms). e.number ≡ c.number → IsBeginning (f shown).sent (text_of e)) journal)
+    → ((shown : Traffic) → slice_get all c.number ≡ Some shown → Lacks c.number journal → (f shown).sent ≡ [])
+    → d.number ≡ c.number → ((shown : Traffic) → slice_get all c.number ≡ Some shown → IsAt journal shown c c.stage → IsAt journal (f shown) d d.stage)
     → AreHeld all (c ∷ others) journal → AreHeld (changed_at f c.number all) (d ∷ others) journal
 changed_held f all c d others journal grows sent quiet same then a =
     let (shown, at, is) = a.each.0 in record {
@@ -207,62 +207,62 @@ growing_sent : (bytes : List ℕ) → Grows (with_sent bytes)
 growing_sent bytes = record { received = λ c. ([], cc (append-nil c.received)); ended = λ c h. h }
 
 -- more was received of its request, which is no exchange yet
-pub received_more : {terms : Terms} (came : List ℕ) (all : List Channel) (c d : Connection) (others : List Connection) (journal : List (Exchange terms)) → IsUnserved c.stage → IsUnserved d.stage → d.number ≡ c.number
+pub received_more : {terms : Terms} (came : List ℕ) (all : List Traffic) (c d : Connection) (others : List Connection) (journal : List (Exchange terms)) → IsUnserved c.stage → IsUnserved d.stage → d.number ≡ c.number
     → d.request.items ≡ c.request.items ++ came → AreHeld all (c ∷ others) journal → AreHeld (changed_at (with_received came) c.number all) (d ∷ others) journal
 received_more came all c d others journal u v same is a = changed_held (with_received came) all c d others journal (growing_received came)
     (λ shown at. sent_of all c.number shown journal at a.exchanged.each) (λ shown at none. a.exchanged.silent c.number shown at none) same
     (λ shown at was. let (received, sent, none) = unserved_at journal shown c c.stage u was in
     at_unserved journal (with_received came shown) d d.stage v (cc, sent, subst (λ n. Lacks n journal) (sym same) none)) a
 
-pub ended_now : {terms : Terms} (all : List Channel) (c d : Connection) (others : List Connection) (journal : List (Exchange terms)) → IsUnserved c.stage → IsUnserved d.stage → d.number ≡ c.number
+pub ended_now : {terms : Terms} (all : List Traffic) (c d : Connection) (others : List Connection) (journal : List (Exchange terms)) → IsUnserved c.stage → IsUnserved d.stage → d.number ≡ c.number
     → d.request.items ≡ c.request.items → AreHeld all (c ∷ others) journal → AreHeld (changed_at with_end c.number all) (d ∷ others) journal
 ended_now all c d others journal u v same is a = changed_held with_end all c d others journal growing_end
     (λ shown at. sent_of all c.number shown journal at a.exchanged.each) (λ shown at none. a.exchanged.silent c.number shown at none) same
     (λ shown at was. let (received, sent, none) = unserved_at journal shown c c.stage u was in
     at_unserved journal (with_end shown) d d.stage v (cc, sent, subst (λ n. Lacks n journal) (sym same) none)) a
 
-ending_at : {terms : Terms} (journal : List (Exchange terms)) (shown : Channel) (d : Connection) (s : Stage) (pieces : ℕ) → s ≡ stage.Ending pieces → IsAt journal shown d s
+ending_at : {terms : Terms} (journal : List (Exchange terms)) (shown : Traffic) (d : Connection) (s : Stage) (pieces : ℕ) → s ≡ stage.Ending pieces → IsAt journal shown d s
 ending_at journal shown d stage.Silent pieces is = absurd (cc)
 ending_at journal shown d (stage.Reading first reads) pieces is = absurd (cc)
 ending_at journal shown d (stage.Writing status) pieces is = absurd (cc)
 ending_at journal shown d (stage.Ending more) pieces is = tt
 
 -- more was received after its request
-pub passed_more : {terms : Terms} (came : List ℕ) (all : List Channel) (c d : Connection) (others : List Connection) (journal : List (Exchange terms)) (pieces : ℕ) → d.stage ≡ stage.Ending pieces → d.number ≡ c.number
+pub passed_more : {terms : Terms} (came : List ℕ) (all : List Traffic) (c d : Connection) (others : List Connection) (journal : List (Exchange terms)) (pieces : ℕ) → d.stage ≡ stage.Ending pieces → d.number ≡ c.number
     → AreHeld all (c ∷ others) journal → AreHeld (changed_at (with_received came) c.number all) (d ∷ others) journal
 passed_more came all c d others journal pieces ends same a = changed_held (with_received came) all c d others journal (growing_received came)
     (λ shown at. sent_of all c.number shown journal at a.exchanged.each) (λ shown at none. a.exchanged.silent c.number shown at none) same
     (λ shown at was. ending_at journal (with_received came shown) d d.stage pieces ends) a
 
-pub passed_end : {terms : Terms} (all : List Channel) (c d : Connection) (others : List Connection) (journal : List (Exchange terms)) (pieces : ℕ) → d.stage ≡ stage.Ending pieces → d.number ≡ c.number
+pub passed_end : {terms : Terms} (all : List Traffic) (c d : Connection) (others : List Connection) (journal : List (Exchange terms)) (pieces : ℕ) → d.stage ≡ stage.Ending pieces → d.number ≡ c.number
     → AreHeld all (c ∷ others) journal → AreHeld (changed_at with_end c.number all) (d ∷ others) journal
 passed_end all c d others journal pieces ends same a = changed_held with_end all c d others journal growing_end
     (λ shown at. sent_of all c.number shown journal at a.exchanged.each) (λ shown at none. a.exchanged.silent c.number shown at none) same
     (λ shown at was. ending_at journal (with_end shown) d d.stage pieces ends) a
 
 -- it was answered, or its client sends on
-pub now_ending : {terms : Terms} (all : List Channel) (c d : Connection) (others : List Connection) (journal : List (Exchange terms)) (pieces : ℕ) → d.stage ≡ stage.Ending pieces → d.number ≡ c.number
+pub now_ending : {terms : Terms} (all : List Traffic) (c d : Connection) (others : List Connection) (journal : List (Exchange terms)) (pieces : ℕ) → d.stage ≡ stage.Ending pieces → d.number ≡ c.number
     → AreHeld all (c ∷ others) journal → AreHeld all (d ∷ others) journal
 now_ending all c d others journal pieces ends same a =
     let (shown, at, is) = a.each.0 in replaced all c d others journal same (shown, cc, ending_at journal shown d d.stage pieces ends) a
 
 -- ---- its answer
 
-writing_at : {terms : Terms} (journal : List (Exchange terms)) (shown : Channel) (c : Connection) (s : Stage) (status : ℕ) → s ≡ stage.Writing status → IsAt journal shown c s → IsAt journal shown c (stage.Writing status)
+writing_at : {terms : Terms} (journal : List (Exchange terms)) (shown : Traffic) (c : Connection) (s : Stage) (status : ℕ) → s ≡ stage.Writing status → IsAt journal shown c s → IsAt journal shown c (stage.Writing status)
 writing_at journal shown c s status is a = subst (λ s. IsAt journal shown c s) is a
 
 begins_with : (n : ℕ) (whole : List ℕ) → IsBeginning (take n whole) whole
 begins_with n whole = (drop n whole, cc (take-append-drop n whole))
 
 -- the next bytes of its answer were handed over
-pub handed_more : {terms : Terms} (k : ℕ) (all : List Channel) (c d : Connection) (others : List Connection) (journal : List (Exchange terms)) (status : ℕ) → c.stage ≡ stage.Writing status → d.stage ≡ stage.Writing status
+pub handed_more : {terms : Terms} (k : ℕ) (all : List Traffic) (c d : Connection) (others : List Connection) (journal : List (Exchange terms)) (status : ℕ) → c.stage ≡ stage.Writing status → d.stage ≡ stage.Writing status
     → d.number ≡ c.number → d.answer.items ≡ c.answer.items → d.handed ≡ c.handed + k
     → AreHeld all (c ∷ others) journal → AreHeld (changed_at (with_sent (take k (drop c.handed c.answer.items))) c.number all) (d ∷ others) journal
 handed_more {terms} k all c d others journal status was now same answer handed a =
     let (held, there, is) = a.each.0 in
     let (sent, some, says) = writing_at journal held c c.stage status was is in
     let next = take k (drop c.handed c.answer.items) in
-    let more : (shown : Channel) → slice_get all c.number ≡ Some shown → shown.sent ++ next ≡ take (c.handed + k) c.answer.items =
+    let more : (shown : Traffic) → slice_get all c.number ≡ Some shown → shown.sent ++ next ≡ take (c.handed + k) c.answer.items =
     λ shown at. let one : shown ≡ held = cc in cc (take-add c.handed k c.answer.items) in
     changed_held (with_sent next) all c d others journal (growing_sent next)
     (λ shown at. all_weaker (λ (e : Exchange terms). e.number ≡ c.number → text_of e ≡ c.answer.items) (λ (e : Exchange terms). e.number ≡ c.number → IsBeginning (shown.sent ++ next) (text_of e))
@@ -274,67 +274,67 @@ handed_more {terms} k all c d others journal status was now same answer handed a
 
 -- ---- one more connection
 
-not_past : (all : List Channel) (m : ℕ) (c : Channel) → slice_get all m ≡ Some c → m ≢ length all
+not_past : (all : List Traffic) (m : ℕ) (c : Traffic) → slice_get all m ≡ Some c → m ≢ length all
 not_past [] m c at same = absurd (cc)
 not_past (x ∷ all) zero c at same = absurd (omega (arith, same))
 not_past (x ∷ all) (suc m) c at same = not_past all m c at (omega (arith, same))
 
-new_exchange : {terms : Terms} (all : List Channel) (x : Channel) (e : Exchange terms) → IsExchangedOn all e → IsExchangedOn (all ++ x ∷ []) e
+new_exchange : {terms : Terms} (all : List Traffic) (x : Traffic) (e : Exchange terms) → IsExchangedOn all e → IsExchangedOn (all ++ x ∷ []) e
 new_exchange all x e (c, at, begins, came, answers) = (c, added_before all x e.number c at, begins, came, answers)
 
-new_held : {terms : Terms} (all : List Channel) (x : Channel) (journal : List (Exchange terms)) (c : Connection) → IsHeld all journal c → IsHeld (all ++ x ∷ []) journal c
+new_held : {terms : Terms} (all : List Traffic) (x : Traffic) (journal : List (Exchange terms)) (c : Connection) → IsHeld all journal c → IsHeld (all ++ x ∷ []) journal c
 new_held all x journal c (shown, at, is) = (shown, added_before all x c.number shown at, is)
 
 -- one over which nothing has passed
-pub added_channel : {terms : Terms} (all : List Channel) (held : List Connection) (journal : List (Exchange terms)) → AreHeld all held journal → AreHeld (all ++ new_channel ∷ []) held journal
-added_channel {terms} all held journal a = record {
+pub added_traffic : {terms : Terms} (all : List Traffic) (held : List Connection) (journal : List (Exchange terms)) → AreHeld all held journal → AreHeld (all ++ no_traffic ∷ []) held journal
+added_traffic {terms} all held journal a = record {
   apart = a.apart;
-  each = all_weaker (IsHeld all journal) (IsHeld (all ++ new_channel ∷ []) journal) (new_held all new_channel journal) held a.each;
+  each = all_weaker (IsHeld all journal) (IsHeld (all ++ no_traffic ∷ []) journal) (new_held all no_traffic journal) held a.each;
   exchanged = record {
-    each = all_weaker (IsExchangedOn all) (IsExchangedOn (all ++ new_channel ∷ [])) (new_exchange all new_channel) journal a.exchanged.each;
-    silent = λ n d there none. elim (added_back all new_channel n d there) [
+    each = all_weaker (IsExchangedOn all) (IsExchangedOn (all ++ no_traffic ∷ [])) (new_exchange all no_traffic) journal a.exchanged.each;
+    silent = λ n d there none. elim (added_back all no_traffic n d there) [
       | inl it ↦ a.exchanged.silent n d it none
       | inr it ↦ cc
     ];
   };
 }
 
-pub added : {terms : Terms} (all : List Channel) (held : List Connection) (c : Connection) (journal : List (Exchange terms)) → c.number ≡ length all → c.stage ≡ stage.Silent → c.request.items ≡ [] → AreHeld all held journal
-    → AreHeld (all ++ new_channel ∷ []) (c ∷ held) journal
+pub added : {terms : Terms} (all : List Traffic) (held : List Connection) (c : Connection) (journal : List (Exchange terms)) → c.number ≡ length all → c.stage ≡ stage.Silent → c.request.items ≡ [] → AreHeld all held journal
+    → AreHeld (all ++ no_traffic ∷ []) (c ∷ held) journal
 added {terms} all held c journal number silent empty a =
-    let with_channel = added_channel all held journal a in record {
+    let with_traffic = added_traffic all held journal a in record {
       apart = (all_weaker (IsHeld all journal) (λ (d : Connection). d.number ≢ c.number) (λ d is same. not_past all d.number is.0 is.1 (cc)) held a.each, a.apart);
       each = (
         (
-          new_channel,
-          cc (added_last all new_channel),
-          subst (λ s. IsAt journal new_channel c s) (sym silent) (
+          no_traffic,
+          cc (added_last all no_traffic),
+          subst (λ s. IsAt journal no_traffic c s) (sym silent) (
             cc,
             refl,
             all_weaker (IsExchangedOn all) (λ (e : Exchange terms). e.number ≢ c.number) (λ e is same. not_past all e.number is.0 is.1 (cc)) journal a.exchanged.each,
           ),
         ),
-        with_channel.each,
+        with_traffic.each,
       );
-      exchanged = with_channel.exchanged;
+      exchanged = with_traffic.exchanged;
     }
 
 -- ---- one more exchange
 
-beside : {terms : Terms} (e : Exchange terms) (journal : List (Exchange terms)) (shown : Channel) (d : Connection) (s : Stage) → e.number ≢ d.number → IsAt journal shown d s → IsAt (e ∷ journal) shown d s
+beside : {terms : Terms} (e : Exchange terms) (journal : List (Exchange terms)) (shown : Traffic) (d : Connection) (s : Stage) → e.number ≢ d.number → IsAt journal shown d s → IsAt (e ∷ journal) shown d s
 beside e journal shown d stage.Silent other is = (is.0, is.1, (other, is.2))
 beside e journal shown d (stage.Reading first reads) other is = (is.0, is.1, (other, is.2))
 beside e journal shown d (stage.Writing status) other is = (is.0, (λ none. is.1 none.1), ((λ same. absurd (other same)), is.2))
 beside e journal shown d (stage.Ending pieces) other is = tt
 
-all_beside : {terms : Terms} (all : List Channel) (e : Exchange terms) (journal : List (Exchange terms)) (n : ℕ) (held : List Connection) → e.number ≡ n → AllByRecursion (λ (d : Connection). d.number ≢ n) held
+all_beside : {terms : Terms} (all : List Traffic) (e : Exchange terms) (journal : List (Exchange terms)) (n : ℕ) (held : List Connection) → e.number ≡ n → AllByRecursion (λ (d : Connection). d.number ≢ n) held
     → AllByRecursion (IsHeld all journal) held → AllByRecursion (IsHeld all (e ∷ journal)) held
 all_beside all e journal n [] is other a = tt
 all_beside all e journal n (d ∷ held) is other a =
     let (shown, at, so) = a.0 in ((shown, at, beside e journal shown d d.stage (λ same. other.0 (cc)) so), all_beside all e journal n held is other.1 a.1)
 
 -- a request that was received whole was served: there is one exchange more
-pub served : {terms : Terms} (all : List Channel) (c : Connection) (others : List Connection) (journal : List (Exchange terms)) (e : Exchange terms) → IsUnserved c.stage → MayBeServed terms all c
+pub served : {terms : Terms} (all : List Traffic) (c : Connection) (others : List Connection) (journal : List (Exchange terms)) (e : Exchange terms) → IsUnserved c.stage → MayBeServed terms all c
     → e.number ≡ c.number → e.asked.now ≡ c.now → e.asked.input ≡ c.request.items → AreHeld all (c ∷ others) journal → AreHeld all others (e ∷ journal)
 served {terms} all c others journal e u may number time input a =
     let (shown, at, is) = a.each.0 in
@@ -352,7 +352,7 @@ served {terms} all c others journal e u may number time input a =
     }
 
 -- and its answer begins to be handed over
-pub answering : {terms : Terms} (all : List Channel) (c d : Connection) (others : List Connection) (journal : List (Exchange terms)) (e : Exchange terms) (status : ℕ) → IsUnserved c.stage → MayBeServed terms all c
+pub answering : {terms : Terms} (all : List Traffic) (c d : Connection) (others : List Connection) (journal : List (Exchange terms)) (e : Exchange terms) (status : ℕ) → IsUnserved c.stage → MayBeServed terms all c
     → e.number ≡ c.number → e.asked.now ≡ c.now → e.asked.input ≡ c.request.items → d.number ≡ c.number → d.stage ≡ stage.Writing status → d.handed ≡ 0 → text_of e ≡ d.answer.items
     → AreHeld all (c ∷ others) journal → AreHeld all (d ∷ others) (e ∷ journal)
 answering {terms} all c d others journal e status u may number time input same writing begun text a =

@@ -1,5 +1,5 @@
 pub mod ServedRequests
-pub mod ChannelsChanged
+pub mod TrafficChanged
 pub mod HeldConnections
 pub mod MadeExchanges
 pub mod StepsOfConnections

@@ -17,8 +17,8 @@ use Rattle.plant_http.specs.{entry_of, fault_out, Performs, Serves, ServeFault, 
 use Rattle.plant_http.specs.Serving.{may_fail}
 use Rattle.plant_http.specs.declared.serve.Served.TheVariants.{Answered, Nothing}
 use Rattle.plant_http.specs.declared.serve.ServeFault.TheVariants as end
-use Rattle.desk_server.specs.Channels.{Channel}
-use Rattle.desk_server.specs.Exchanges.{AreHeld, Exchange, GoesOn, HasDeskMade, HasMade, IsJournal, KeepsHeld, Lacks, MakesOne, ServesPort, StaysHeld, made_by}
+use Rattle.desk_server.specs.Traffic.{Traffic}
+use Rattle.desk_server.specs.Exchanges.{AreHeld, Exchange, GoesOn, HasDeskMade, HasMade, IsJournal, KeepsHeld, Lacks, MakesOne, ServesOver, StaysHeld, made_by}
 use Rattle.desk_server.specs.Serving.{status_of}
 use Rattle.desk_server.specs.declared.connection.Connection.{Connection}
 use Rattle.desk_server.specs.declared.fault.ServingFault.{ServingFault}
@@ -119,20 +119,20 @@ pub made_one : (r : Result ℕ ServingFault) → IfOk r (λ done. done ≡ 1) �
 made_one (Ok done) one = omega (arith, one)
 made_one (Err f) one = omega arith
 
-pub keeps_itself : (terms : Terms) (shown : Option (List Channel)) (held : List Connection) → KeepsHeld terms shown held shown held
+pub keeps_itself : (terms : Terms) (shown : Option (List Traffic)) (held : List Connection) → KeepsHeld terms shown held shown held
 keeps_itself terms shown held = λ all journal at h. (all, at, h)
 
-pub keeps_then : (terms : Terms) (a b c : Option (List Channel)) (h k l : List Connection) → KeepsHeld terms a h b k → KeepsHeld terms b k c l → KeepsHeld terms a h c l
+pub keeps_then : (terms : Terms) (a b c : Option (List Traffic)) (h k l : List Connection) → KeepsHeld terms a h b k → KeepsHeld terms b k c l → KeepsHeld terms a h c l
 keeps_then terms a b c h k l first more = λ all journal at held. let (now, is, kept) = first all journal at held in more now journal is kept
 
-pub stays_kept : (terms : Terms) (a b : Option (List Channel)) (h k : List Connection) → b ≡ a → StaysHeld h k → KeepsHeld terms a h b k
+pub stays_kept : (terms : Terms) (a b : Option (List Traffic)) (h k : List Connection) → b ≡ a → StaysHeld h k → KeepsHeld terms a h b k
 stays_kept terms a b h k same stays = λ all journal at held. (all, cc, stays terms all journal held)
 
-pub kept_on : {S : Type 0} (g : Ghosts S) (terms : Terms) (most : ℕ) (a b : Option (List Channel)) (h k : List Connection) (desk : Desk S g) → KeepsHeld terms a h b k → GoesOn g terms most a h desk b k desk
+pub kept_on : {S : Type 0} (g : Ghosts S) (terms : Terms) (most : ℕ) (a b : Option (List Traffic)) (h k : List Connection) (desk : Desk S g) → KeepsHeld terms a h b k → GoesOn g terms most a h desk b k desk
 kept_on g terms most a b h k desk keeps = λ clean all journal s at held made. let (now, is, kept) = keeps all journal at held in (now, is, journal, kept, made, omega arith)
 
 -- so many exchanges and so many more, by a desk whose store was clean in between
-pub goes_then : {S : Type 0} (g : Ghosts S) (terms : Terms) (n m most : ℕ) (a b c : Option (List Channel)) (h k l : List Connection) (x y z : Desk S g) → n + m ≤ most
+pub goes_then : {S : Type 0} (g : Ghosts S) (terms : Terms) (n m most : ℕ) (a b c : Option (List Traffic)) (h k l : List Connection) (x y z : Desk S g) → n + m ≤ most
     → (HasCleanDisk (state g z.connection) → HasCleanDisk (state g y.connection)) → GoesOn g terms n a h x b k y → GoesOn g terms m b k y c l z → GoesOn g terms most a h x c l z
 goes_then g terms n m most a b c h k l x y z room was first more = λ clean all journal s at held made.
     let (now, is, some, kept, did, few) = first (was clean) all journal s at held made in
@@ -140,12 +140,12 @@ goes_then g terms n m most a b c h k l x y z room was first more = λ clean all 
     (last, so, others, left, done, omega (arith, room, few, many))
 
 -- it has gone on at most so often
-pub goes_fewer : {S : Type 0} (g : Ghosts S) (terms : Terms) (n most : ℕ) (a b : Option (List Channel)) (h k : List Connection) (x y : Desk S g) → n ≤ most → GoesOn g terms n a h x b k y → GoesOn g terms most a h x b k y
+pub goes_fewer : {S : Type 0} (g : Ghosts S) (terms : Terms) (n most : ℕ) (a b : Option (List Traffic)) (h k : List Connection) (x y : Desk S g) → n ≤ most → GoesOn g terms n a h x b k y → GoesOn g terms most a h x b k y
 goes_fewer g terms n most a b h k x y room goes = λ clean all journal s at held made.
     let (now, is, some, kept, did, few) = goes clean all journal s at held made in (now, is, some, kept, did, omega (arith, room, few))
 
 -- a step of which so many were done, and what the system reported after it
-pub goes_step : {S : Type 0} (g : Ghosts S) (terms : Terms) (count left done : ℕ) (a b c e : Option (List Channel)) (h k l m n : List Connection) (x y z : Desk S g) → done ≤ left → left ≤ count
+pub goes_step : {S : Type 0} (g : Ghosts S) (terms : Terms) (count left done : ℕ) (a b c e : Option (List Traffic)) (h k l m n : List Connection) (x y z : Desk S g) → done ≤ left → left ≤ count
     → (HasCleanDisk (state g z.connection) → HasCleanDisk (state g y.connection)) → GoesOn g terms (count - left) a h x b k y → l ≡ k → GoesOn g terms done b l y c m z → e ≡ c → StaysHeld m n
     → GoesOn g terms (count - (left - done)) a h x e n z
 goes_step g terms count left done a b c e h k l m n x y z few room was before same step shows stays =
@@ -156,9 +156,9 @@ goes_step g terms count left done a b c e h k l m n x y z few room was before sa
 
 -- ---- from no connection on
 
-pub served_port : {S : Type 0} (g : Ghosts S) (terms : Terms) (most : ℕ) (a b : Option (List Channel)) (kept : List Connection) (x y : Desk S g) → x.is_shut ≡ false
-    → (HasCleanDisk (state g y.connection) → HasCleanDisk (state g x.connection)) → GoesOn g terms most a [] x b kept y → ServesPort g terms most a b x y
-served_port g terms most a b kept x y is_live was goes = λ clean empty s represents.
+pub served_over : {S : Type 0} (g : Ghosts S) (terms : Terms) (most : ℕ) (a b : Option (List Traffic)) (kept : List Connection) (x y : Desk S g) → x.is_shut ≡ false
+    → (HasCleanDisk (state g y.connection) → HasCleanDisk (state g x.connection)) → GoesOn g terms most a [] x b kept y → ServesOver g terms most a b x y
+served_over g terms most a b kept x y is_live was goes = λ clean empty s represents.
     let nothing : AreHeld {terms = terms} [] [] [] = record { apart = tt; each = tt; exchanged = record { each = tt; silent = λ n c at none. absurd (cc) } } in
     let made : HasDeskMade g terms s [] x = open_made terms newest_schema s s [] (Represents (state g x.connection) x.is_shut) x.is_shut (λ states. HasCrashStates (state g x.connection) states) is_live refl
     (represents, represents.1 is_live) in

@@ -1,8 +1,8 @@
 -- What a connection receives, and what is handed over to it.
 use Rattle.std.specs.Prelude.{⊤, ◌≡◌, ◌+◌, ◌<◌, ◌≤◌, ◌⊎◌, ℕ, List, ◌++◌, length, take, drop, Option, Some, None, option_map}
-use Rattle.desk_server.specs.Channels.{Channel, changed_at, with_end, with_received, with_sent}
-use Rattle.desk_server.specs.declared.port.Piece.{Piece}
-use Rattle.desk_server.specs.declared.port.Piece.TheVariants as piece
+use Rattle.desk_server.specs.Traffic.{Traffic, changed_at, with_end, with_received, with_sent}
+use Rattle.desk_server.specs.declared.transport.Piece.{Piece}
+use Rattle.desk_server.specs.declared.transport.Piece.TheVariants as piece
 
 -- a read that had room for so many bytes gave no more, and one at least
 abbrev pub IsTakenOf : Piece → ℕ → Type 0
@@ -24,19 +24,19 @@ IsSentFrom None size old new = new ≡ old
 IsSentFrom (Some n) size old new = (new ≡ old + n) × (old ≤ size → new ≤ size)
 
 -- nothing but further bytes of the connection of this number, or its end, were received
-abbrev pub HasPassedOver : ℕ → Option (List Channel) → Option (List Channel) → Type 0
+abbrev pub HasPassedOver : ℕ → Option (List Traffic) → Option (List Traffic) → Type 0
 HasPassedOver n old new =
     (new ≡ old) ⊎ (new ≡ option_map (changed_at with_end n) old) ⊎ ((came : List ℕ) × (new ≡ option_map (changed_at (with_received came) n) old))
 
 -- what the connection of this number received last was put after what it had received before
-abbrev pub Receives : Piece → ℕ → List ℕ → List ℕ → Option (List Channel) → Option (List Channel) → Type 0
+abbrev pub Receives : Piece → ℕ → List ℕ → List ℕ → Option (List Traffic) → Option (List Traffic) → Type 0
 Receives (piece.Bytes k) n before after old new = (came : List ℕ) × (after ≡ before ++ came) × (new ≡ option_map (changed_at (with_received came) n) old)
 Receives piece.End n before after old new = (after ≡ before) × (new ≡ option_map (changed_at with_end n) old)
 Receives piece.Nothing n before after old new = (after ≡ before) × (new ≡ old)
 Receives piece.Broken n before after old new = HasPassedOver n old new
 
 -- the next bytes of the answer of the connection of this number were handed over to it, or none
-abbrev pub HandsOver : Option ℕ → ℕ → List ℕ → ℕ → ℕ → Option (List Channel) → Option (List Channel) → Type 0
+abbrev pub HandsOver : Option ℕ → ℕ → List ℕ → ℕ → ℕ → Option (List Traffic) → Option (List Traffic) → Type 0
 HandsOver None n answer before after old new = new ≡ old
 HandsOver (Some k) n answer before after old new =
     ((after ≡ before) × (new ≡ old)) ⊎ ((after ≡ before + k) × (new ≡ option_map (changed_at (with_sent (take k (drop before answer))) n) old))

@@ -16,7 +16,7 @@ use Rattle.plant_http_requests.specs.declared.progress.RequestProgress.TheVarian
 use Rattle.plant_http.specs.{Out, dated, entry_of, fault_out, is_silent}
 use Rattle.plant_http.specs.Answers.{answer_bytes, out_of}
 use Rattle.plant_http.specs.Serving.{may_fail}
-use Rattle.desk_server.specs.Channels.{Channel}
+use Rattle.desk_server.specs.Traffic.{Traffic}
 use Rattle.desk_server.specs.Serving.{Asked}
 use Rattle.desk_server.specs.declared.connection.Connection.{Connection}
 use Rattle.desk_server.specs.declared.fault.ServingFault.{ServingFault}
@@ -75,27 +75,27 @@ abbrev pub IsBeginning : List ℕ → List ℕ → Type 0
 IsBeginning front whole = (rest : List ℕ) × (whole ≡ front ++ rest)
 
 -- these bytes of a connection were served once they were a whole request, or its client had ended its side
-abbrev pub HasComeOn : Terms → Option HttpDate → List ℕ → Channel → Type 0
+abbrev pub HasComeOn : Terms → Option HttpDate → List ℕ → Traffic → Type 0
 HasComeOn terms now input c = HasCome (record terms { now = now }) input progress.Whole ⊎ (c.has_ended ≡ true)
 
 -- The exchange is of one of these connections: its input is what was first received on that, and what was handed over to that is its answer,
 -- as far as it was.
-abbrev pub IsExchangedOn : {terms : Terms} → List Channel → Exchange terms → Type 0
-IsExchangedOn {terms} all e = (c : Channel) × (slice_get all e.number ≡ Some c) × IsBeginning e.asked.input c.received
+abbrev pub IsExchangedOn : {terms : Terms} → List Traffic → Exchange terms → Type 0
+IsExchangedOn {terms} all e = (c : Traffic) × (slice_get all e.number ≡ Some c) × IsBeginning e.asked.input c.received
     × HasComeOn terms e.asked.now e.asked.input c × IsBeginning c.sent (text_of e)
 
 -- Each exchange is of one of these connections, and to one that has no exchange nothing was handed over.
-pub record AreExchangedOn {terms : Terms} (all : List Channel) (journal : List (Exchange terms)) : Type 0 where
+pub record AreExchangedOn {terms : Terms} (all : List Traffic) (journal : List (Exchange terms)) : Type 0 where
   pub each : AllByRecursion (IsExchangedOn all) journal
-  pub silent : (n : ℕ) (c : Channel) → slice_get all n ≡ Some c → Lacks n journal → c.sent ≡ []
+  pub silent : (n : ℕ) (c : Traffic) → slice_get all n ≡ Some c → Lacks n journal → c.sent ≡ []
 
--- Over a port that shows what passes, and over which nothing had passed, an open desk has made at most so many exchanges, of as many
+-- Over a transport that shows what passes, and over which nothing had passed, an open desk has made at most so many exchanges, of as many
 -- connections: of each connection the request that was received on it was judged and done, once, and all that was handed over to it is
 -- the answer in the state in which it was done, or the beginning of it.
-abbrev pub ServesPort : {S : Type 0} (g : Ghosts S) → Terms → ℕ → Option (List Channel) → Option (List Channel) → Desk S g → Desk S g → Type 0
-ServesPort g terms most shown shows old new =
+abbrev pub ServesOver : {S : Type 0} (g : Ghosts S) → Terms → ℕ → Option (List Traffic) → Option (List Traffic) → Desk S g → Desk S g → Type 0
+ServesOver g terms most shown shows old new =
     HasCleanDisk (state g new.connection) → shown ≡ Some [] → (s : State) → Represents (state g old.connection) old.is_shut s
-    → (all : List Channel) × (shows ≡ Some all) × (journal : List (Exchange terms)) × (length journal ≤ most)
+    → (all : List Traffic) × (shows ≡ Some all) × (journal : List (Exchange terms)) × (length journal ≤ most)
     × HasDeskMade g terms s journal new × AreExchangedOn all journal
 
 -- ---- connections that are there
@@ -106,7 +106,7 @@ AreApart (c ∷ others) = AllByRecursion (λ (d : Connection). d.number ≢ c.nu
 
 -- how far a connection has come: its request isn't served, and is what was received; or its answer is on its way, and what was handed over is
 -- the front of it
-abbrev pub IsAt : {terms : Terms} → List (Exchange terms) → Channel → Connection → Stage → Type 0
+abbrev pub IsAt : {terms : Terms} → List (Exchange terms) → Traffic → Connection → Stage → Type 0
 IsAt journal shown c stage.Silent = (shown.received ≡ c.request.items) × (shown.sent ≡ []) × Lacks c.number journal
 IsAt journal shown c (stage.Reading first reads) = (shown.received ≡ c.request.items) × (shown.sent ≡ []) × Lacks c.number journal
 IsAt {terms} journal shown c (stage.Writing status) =
@@ -114,25 +114,25 @@ IsAt {terms} journal shown c (stage.Writing status) =
     × AllByRecursion (λ (e : Exchange terms). e.number ≡ c.number → text_of e ≡ c.answer.items) journal
 IsAt journal shown c (stage.Ending pieces) = ⊤
 
-abbrev pub IsHeld : {terms : Terms} → List Channel → List (Exchange terms) → Connection → Type 0
-IsHeld all journal c = (shown : Channel) × (slice_get all c.number ≡ Some shown) × IsAt journal shown c c.stage
+abbrev pub IsHeld : {terms : Terms} → List Traffic → List (Exchange terms) → Connection → Type 0
+IsHeld all journal c = (shown : Traffic) × (slice_get all c.number ≡ Some shown) × IsAt journal shown c c.stage
 
--- these connections are each as far as the port shows and the exchanges say
-pub record AreHeld {terms : Terms} (all : List Channel) (held : List Connection) (journal : List (Exchange terms)) : Type 0 where
+-- these connections are each as far as the transport shows and the exchanges say
+pub record AreHeld {terms : Terms} (all : List Traffic) (held : List Connection) (journal : List (Exchange terms)) : Type 0 where
   pub apart : AreApart held
   pub each : AllByRecursion (IsHeld all journal) held
   pub exchanged : AreExchangedOn all journal
 
--- no exchange was made, and what the port shows now fits the second connections as it fitted the first
-abbrev pub KeepsHeld : Terms → Option (List Channel) → List Connection → Option (List Channel) → List Connection → Type 0
-KeepsHeld terms old held new kept = (all : List Channel) (journal : List (Exchange terms)) → old ≡ Some all → AreHeld all held journal
-    → (now : List Channel) × (new ≡ Some now) × AreHeld now kept journal
+-- no exchange was made, and what the transport shows now fits the second connections as it fitted the first
+abbrev pub KeepsHeld : Terms → Option (List Traffic) → List Connection → Option (List Traffic) → List Connection → Type 0
+KeepsHeld terms old held new kept = (all : List Traffic) (journal : List (Exchange terms)) → old ≡ Some all → AreHeld all held journal
+    → (now : List Traffic) × (new ≡ Some now) × AreHeld now kept journal
 
 -- the same where at most so many exchanges were made by a desk
-abbrev pub GoesOn : {S : Type 0} (g : Ghosts S) → Terms → ℕ → Option (List Channel) → List Connection → Desk S g → Option (List Channel) → List Connection → Desk S g → Type 0
+abbrev pub GoesOn : {S : Type 0} (g : Ghosts S) → Terms → ℕ → Option (List Traffic) → List Connection → Desk S g → Option (List Traffic) → List Connection → Desk S g → Type 0
 GoesOn g terms most old held before new kept now = HasCleanDisk (state g now.connection)
-    → (all : List Channel) (journal : List (Exchange terms)) (s : State) → old ≡ Some all → AreHeld all held journal → HasDeskMade g terms s journal before
-    → (shows : List Channel) × (new ≡ Some shows) × (more : List (Exchange terms)) × AreHeld shows kept more × HasDeskMade g terms s more now
+    → (all : List Traffic) (journal : List (Exchange terms)) (s : State) → old ≡ Some all → AreHeld all held journal → HasDeskMade g terms s journal before
+    → (shows : List Traffic) × (new ≡ Some shows) × (more : List (Exchange terms)) × AreHeld shows kept more × HasDeskMade g terms s more now
     × (length more ≤ length journal + most)
 
 -- how many exchanges a step says that it made at most: one where a fault ended it
@@ -140,9 +140,9 @@ abbrev pub made_by : Result ℕ ServingFault → ℕ
 made_by (Ok done) = done
 made_by (Err f) = 1
 
--- the second connections are as far as the first, whatever the port shows and the exchanges say
+-- the second connections are as far as the first, whatever the transport shows and the exchanges say
 abbrev pub StaysHeld : List Connection → List Connection → Type 0
-StaysHeld held kept = (terms : Terms) (all : List Channel) (journal : List (Exchange terms)) → AreHeld all held journal → AreHeld all kept journal
+StaysHeld held kept = (terms : Terms) (all : List Traffic) (journal : List (Exchange terms)) → AreHeld all held journal → AreHeld all kept journal
 
 -- ---- one connection
 
@@ -159,27 +159,27 @@ IsWriting (stage.Writing status) = ⊤
 IsWriting (stage.Ending pieces) = ⊥
 
 -- its bytes are a whole request, or its client has ended its side
-abbrev pub MayBeServed : Terms → List Channel → Connection → Type 0
-MayBeServed terms all c = (shown : Channel) × (slice_get all c.number ≡ Some shown) × HasComeOn terms c.now c.request.items shown
+abbrev pub MayBeServed : Terms → List Traffic → Connection → Type 0
+MayBeServed terms all c = (shown : Traffic) × (slice_get all c.number ≡ Some shown) × HasComeOn terms c.now c.request.items shown
 
 -- what a read has left of a connection, beside others
-abbrev pub IsLeftBy : {terms : Terms} → Received → List Channel → Connection → List Connection → List (Exchange terms) → Type 0
+abbrev pub IsLeftBy : {terms : Terms} → Received → List Traffic → Connection → List Connection → List (Exchange terms) → Type 0
 IsLeftBy {terms} received.Whole all c others journal = AreHeld all (c ∷ others) journal × IsUnserved c.stage × MayBeServed terms all c
 IsLeftBy {terms} received.Ended all c others journal = AreHeld all (c ∷ others) journal × IsUnserved c.stage × MayBeServed terms all c
 IsLeftBy received.Lacks all c others journal = AreHeld all (c ∷ others) journal
 IsLeftBy received.Broken all c others journal = AreHeld all others journal
 
-abbrev pub ReadsOn : Terms → Option (List Channel) → Connection → Option (List Channel) → Connection → Received → Type 0
-ReadsOn terms old before new after received = (all : List Channel) (others : List Connection) (journal : List (Exchange terms)) → old ≡ Some all
+abbrev pub ReadsOn : Terms → Option (List Traffic) → Connection → Option (List Traffic) → Connection → Received → Type 0
+ReadsOn terms old before new after received = (all : List Traffic) (others : List Connection) (journal : List (Exchange terms)) → old ≡ Some all
     → AreHeld all (before ∷ others) journal → IsUnserved before.stage
-    → (now : List Channel) × (new ≡ Some now) × IsLeftBy received now after others journal
+    → (now : List Traffic) × (new ≡ Some now) × IsLeftBy received now after others journal
 
 -- `GoesOn`, of a connection that is served, with one exchange
-abbrev pub GoesOnServed : {S : Type 0} (g : Ghosts S) → Terms → Option (List Channel) → Connection → List Connection → Desk S g → Option (List Channel) → List Connection → Desk S g → Type 0
+abbrev pub GoesOnServed : {S : Type 0} (g : Ghosts S) → Terms → Option (List Traffic) → Connection → List Connection → Desk S g → Option (List Traffic) → List Connection → Desk S g → Type 0
 GoesOnServed g terms old c others before new kept now = HasCleanDisk (state g now.connection)
-    → (all : List Channel) (journal : List (Exchange terms)) (s : State) → old ≡ Some all → AreHeld all (c ∷ others) journal → IsUnserved c.stage
+    → (all : List Traffic) (journal : List (Exchange terms)) (s : State) → old ≡ Some all → AreHeld all (c ∷ others) journal → IsUnserved c.stage
     → MayBeServed terms all c → HasDeskMade g terms s journal before
-    → (shows : List Channel) × (new ≡ Some shows) × (more : List (Exchange terms)) × AreHeld shows kept more × HasDeskMade g terms s more now
+    → (shows : List Traffic) × (new ≡ Some shows) × (more : List (Exchange terms)) × AreHeld shows kept more × HasDeskMade g terms s more now
     × (length more ≤ length journal + 1)
 
 -- A request of the connection of this number, with these bytes and this time, was served by a keeper that had made these exchanges: it made one more,

@@ -1,5 +1,5 @@
 pub mod Serving
-pub mod Channels
+pub mod Traffic
 pub mod Exchanges
 pub mod Noting
 pub mod Connection
@@ -9,6 +9,5 @@ pub mod Receiving
 pub mod Deadline
 pub use Serving.{Asked, EndsServing, HasServed, IsSameStore, ServesAtMost, entries}
 pub use Queue.{marked, waits_for}
-pub use Channels.{Channel, new_channel}
-pub use Exchanges.{AreExchangedOn, Exchange, HasMade, IsExchangedOn, IsJournal, Leads, ServesPort, text_of}
+pub use Exchanges.{AreExchangedOn, Exchange, HasMade, IsExchangedOn, IsJournal, Leads, ServesOver, text_of}
 pub use declared.fault.ServingFault.{ServingFault}

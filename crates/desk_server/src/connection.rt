@@ -4,7 +4,7 @@ ghost use Rattle.desk_server.specs.Connection.{HandsOver, HasPassedOver, HasRece
 ghost use Rattle.desk_server.specs.Connection.{Receives};
 
 use crate::log::Arrival;
-use crate::port::{PIECE_BYTES, Piece, Port};
+use crate::transport::{PIECE_BYTES, Piece, Transport};
 use httpdate::HttpDate;
 
 /// How far a connection has come.
@@ -34,7 +34,7 @@ pub(crate) enum Stage {
 /// A connection that was taken.
 #[derive(Drop)]
 pub(crate) struct Connection {
-    /// Its number at the port.
+    /// Its number at the transport.
     pub(crate) number: u64,
     pub(crate) arrival: Arrival,
     pub(crate) stage: Stage,
@@ -71,10 +71,10 @@ impl Connection {
     }
 
     /// Reads once of its request, and keeps what came. `Broken`: the read failed, or memory was refused for the bytes.
-    pub(crate) fn receive<P: Port>(&mut self, port: &mut P) -> Piece
+    pub(crate) fn receive<T: Transport>(&mut self, transport: &mut T) -> Piece
         ensures received { HasReceived result self.old.request.items self.new.request.items }
         ensures shown { Receives result self.old.number self.old.request.items self.new.request.items
-            (P.channels port.old) (P.channels port.new) }
+            (T.traffic transport.old) (T.traffic transport.new) }
         ensures number { self.new.number ≡ self.old.number }
         ensures stage { self.new.stage ≡ self.old.stage }
         ensures unanswered { self.new.answer ≡ self.old.answer }
@@ -82,7 +82,7 @@ impl Connection {
         ensures unchanged { self.new.now ≡ self.old.now }
     {
         let mut piece = [0u8; PIECE_BYTES];
-        let came = port.read(self.number, self.room(), &mut piece);
+        let came = transport.read(self.number, self.room(), &mut piece);
         if let Piece::Bytes(n) = came {
             if self.request.extend_from_slice(&piece[..n]).is_err() {
                 return Piece::Broken;
@@ -93,10 +93,10 @@ impl Connection {
 
     /// Hands over once of the rest of its answer, as much as the system takes now, and says how many bytes it took. `None`: the
     /// connection takes no more.
-    pub(crate) fn hand_over<P: Port>(&mut self, port: &mut P) -> Option<usize>
+    pub(crate) fn hand_over<T: Transport>(&mut self, transport: &mut T) -> Option<usize>
         ensures sent { IsSentFrom result (length self.old.answer.items) self.old.handed self.new.handed }
         ensures shown { HandsOver result self.old.number self.old.answer.items self.old.handed self.new.handed
-            (P.channels port.old) (P.channels port.new) }
+            (T.traffic transport.old) (T.traffic transport.new) }
         ensures number { self.new.number ≡ self.old.number }
         ensures stage { self.new.stage ≡ self.old.stage }
         ensures unchanged { self.new.answer ≡ self.old.answer }
@@ -106,16 +106,16 @@ impl Connection {
         if self.handed >= len {
             return Some(0);
         }
-        let sent = port.write(self.number, &self.answer[self.handed..])?;
+        let sent = transport.write(self.number, &self.answer[self.handed..])?;
         self.handed += sent;
         Some(sent)
     }
 
     /// Reads once of what its client sends after its request, and passes it over.
-    pub(crate) fn pass_over<P: Port>(&self, port: &mut P) -> Piece
-        ensures { HasPassedOver self.entry.now.number (P.channels port.old) (P.channels port.new) }
+    pub(crate) fn pass_over<T: Transport>(&self, transport: &mut T) -> Piece
+        ensures { HasPassedOver self.entry.now.number (T.traffic transport.old) (T.traffic transport.new) }
     {
         let mut piece = [0u8; PIECE_BYTES];
-        port.read(self.number, PIECE_BYTES, &mut piece)
+        transport.read(self.number, PIECE_BYTES, &mut piece)
     }
 }

@@ -1,21 +1,21 @@
-//! The connections of a port, side by side.
+//! The connections of a transport, side by side.
 ghost use Rattle.std.specs.Prelude.{◌≡◌, ◌≢◌, [], ◌∷◌, false, true, ◌<◌, ◌≤◌, length, Ok, Err, IfErr, IfOk};
 ghost use Rattle.std.specs.Prelude.{OnErr, OnOk};
 ghost use Rattle.sqlite.specs.Held.{state};
 ghost use Rattle.sqlite.specs.State.{HasCleanDisk};
 ghost use Rattle.desk_server.specs.Exchanges.{GoesOn, GoesOnServed, IsUnserved, KeepsHeld};
-ghost use Rattle.desk_server.specs.Exchanges.{ServesPort, StaysHeld, made_by};
+ghost use Rattle.desk_server.specs.Exchanges.{ServesOver, StaysHeld, made_by};
 ghost use Rattle.desk_server.specs.Serving.{EndsServing, IsSameStore, ServesAtMost};
 ghost use Rattle.desk_server.specs.Queue.{FitsStep};
 
 use crate::connection::{Connection, Stage};
 use crate::fault::ServingFault;
 use crate::log::AccessLog;
-use crate::port::Port;
 use crate::queue::{Arrivals, MOST_CONNECTIONS, Queue, Step};
 use crate::receiving::Received;
 use crate::server::Server;
 use crate::sockets::Sockets;
+use crate::transport::Transport;
 use plant_desk_store::Desk;
 use plant_http_requests::{Routes, RoutesFault, Terms};
 use sqlite::Alter;
@@ -27,7 +27,7 @@ use std::time::Instant;
 /// How many connections the system is asked about at most after a step: as many as there are.
 const MOST_READY: usize = 66;
 
-/// The connections of a port.
+/// The connections of a transport.
 #[derive(Drop)]
 pub(crate) struct Connections {
     /// Those that were taken.
@@ -82,14 +82,14 @@ impl Connections {
 
     /// Asks the system what is there by the time that a step is done. `Net`: it doesn't say. No
     /// other fault comes.
-    fn ask<P: Port>(&mut self, step: Step, port: &mut P) -> Result<(), ServingFault>
+    fn ask<T: Transport>(&mut self, step: Step, transport: &mut T) -> Result<(), ServingFault>
         ensures net { IfErr result (λ fault. fault ≡ ServingFault.Net) }
-        ensures shown { P.channels port.new ≡ P.channels port.old }
+        ensures shown { T.traffic transport.new ≡ T.traffic transport.old }
         ensures held { StaysHeld self.old.queue.connections.items self.new.queue.connections.items }
     {
-        port.ask(most_wait(step))?;
+        transport.ask(most_wait(step))?;
         for _ in 0..MOST_READY {
-            let Some(number) = port.next_ready() else {
+            let Some(number) = transport.next_ready() else {
                 return Ok(());
             };
             self.queue.mark(number);
@@ -102,28 +102,28 @@ impl<R: Clock> Server<'_, R> {
     /// Takes a connection, where one is there. One that the system doesn't follow is dropped. Where the system refuses one, as with
     /// too many open files, there is room made for it. Returns how many
     /// were dropped, 0 or 1. `Net`: none can be taken, and there is no connection to be dropped for it.
-    fn take_next<P: Port>(
+    fn take_next<T: Transport>(
         &self,
         connections: &mut Connections,
-        port: &mut P,
+        transport: &mut T,
     ) -> Result<u32, ServingFault>
         requires { length connections.old.queue.connections.items ≤ 64 }
         ensures few { IfOk result (λ done. done ≤ 1) }
         ensures net { IfErr result (λ fault. fault ≡ ServingFault.Net) }
         ensures alone { OnErr result (connections.old.queue.connections.items ≡ []) }
-        ensures held { KeepsHeld self.now.terms (P.channels port.old) connections.old.queue.connections.items
-            (P.channels port.new) connections.new.queue.connections.items }
+        ensures held { KeepsHeld self.now.terms (T.traffic transport.old) connections.old.queue.connections.items
+            (T.traffic transport.new) connections.new.queue.connections.items }
     {
-        let taken = match port.take() {
+        let taken = match transport.take() {
             Ok(taken) => taken,
-            Err(_) => return self.make_room(connections, port),
+            Err(_) => return self.make_room(connections, transport),
         };
         let Some(number) = taken else {
             return Ok(0);
         };
         let arrival = self.log.arrival();
-        if !port.follow(number) {
-            port.close(number);
+        if !transport.follow(number) {
+            transport.close(number);
             self.log.note_request(arrival, &[], None);
             return Ok(1);
         }
@@ -144,43 +144,48 @@ impl<R: Clock> Server<'_, R> {
 
     /// Makes room for a connection that the system refuses: the one that has stayed as it is for longest is dropped. Returns how many were
     /// dropped without being served, 0 or 1. `Net`: none is there.
-    fn make_room<P: Port>(
+    fn make_room<T: Transport>(
         &self,
         connections: &mut Connections,
-        port: &mut P,
+        transport: &mut T,
     ) -> Result<u32, ServingFault>
         ensures few { IfOk result (λ done. done ≤ 1) }
         ensures net { IfErr result (λ fault. fault ≡ ServingFault.Net) }
         ensures alone { OnErr result (connections.old.queue.connections.items ≡ []) }
-        ensures held { KeepsHeld self.now.terms (P.channels port.old) connections.old.queue.connections.items
-            (P.channels port.new) connections.new.queue.connections.items }
+        ensures held { KeepsHeld self.now.terms (T.traffic transport.old) connections.old.queue.connections.items
+            (T.traffic transport.new) connections.new.queue.connections.items }
     {
         if connections.queue.connections.is_empty() {
             return Err(ServingFault::Net);
         }
-        Ok(self.drop_at(0, connections, port))
+        Ok(self.drop_at(0, connections, transport))
     }
 
     /// Drops a connection. Returns 1 where its request wasn't served, else 0, since it was counted then.
-    fn drop_at<P: Port>(&self, index: usize, connections: &mut Connections, port: &mut P) -> u32
+    fn drop_at<T: Transport>(
+        &self,
+        index: usize,
+        connections: &mut Connections,
+        transport: &mut T,
+    ) -> u32
         requires { index < length connections.old.queue.connections.items }
         ensures few { result ≤ 1 }
-        ensures held { KeepsHeld self.now.terms (P.channels port.old) connections.old.queue.connections.items
-            (P.channels port.new) connections.new.queue.connections.items }
+        ensures held { KeepsHeld self.now.terms (T.traffic transport.old) connections.old.queue.connections.items
+            (T.traffic transport.new) connections.new.queue.connections.items }
     {
         let connection = connections.queue.remove(index);
         let is_served = connection.is_served();
-        self.drop_connection(connection, port);
+        self.drop_connection(connection, transport);
         if is_served { 0 } else { 1 }
     }
 
     /// Serves what was received on a connection, and begins to hand over the answer. `Store`: a fault of the store has shut the
     /// desk. No other fault comes.
-    fn serve_at<P: Port, S: Alter + Drop>(
+    fn serve_at<T: Transport, S: Alter + Drop>(
         &self,
         mut connection: Connection,
         connections: &mut Connections,
-        port: &mut P,
+        transport: &mut T,
         desk: &mut Desk<S>,
     ) -> Result<u32, ServingFault>
         requires { length connections.old.queue.connections.items ≤ 64 }
@@ -188,8 +193,8 @@ impl<R: Clock> Server<'_, R> {
         ensures serves { desk.old.is_shut ≡ false
             → ServesAtMost S.Store self.now.terms 1 desk.old desk.new }
         ensures exchanges { desk.old.is_shut ≡ false → GoesOnServed S.Store self.now.terms
-            (P.channels port.old) connection connections.old.queue.connections.items desk.old
-            (P.channels port.new) connections.new.queue.connections.items desk.new }
+            (T.traffic transport.old) connection connections.old.queue.connections.items desk.old
+            (T.traffic transport.new) connections.new.queue.connections.items desk.new }
         ensures one { IfOk result (λ done. done ≡ 1) }
         ensures open { OnOk result (desk.new.is_shut ≡ false) }
         ensures shut { OnErr result (desk.new.is_shut ≡ true) }
@@ -198,9 +203,9 @@ impl<R: Clock> Server<'_, R> {
         let is_answered = self.serve_connection(&mut connection, desk);
         match connection.stage {
             Stage::Writing { status } if is_answered => {
-                self.write_at(connection, status, connections, port);
+                self.write_at(connection, status, connections, transport);
             }
-            _ => self.drop_connection(connection, port),
+            _ => self.drop_connection(connection, transport),
         }
         if desk.is_shut() {
             return Err(ServingFault::Store);
@@ -211,11 +216,11 @@ impl<R: Clock> Server<'_, R> {
     /// Reads once on a connection of its request, and serves it once it is whole or its client has ended it. Returns 1 where it was served
     /// or dropped, else 0. `Store`: a fault of the store has shut the desk. No other fault comes.
     #[tactic(auto, using(crate::proofs::ServedRequests::desk_unasked))]
-    fn read_at<P: Port, S: Alter + Drop>(
+    fn read_at<T: Transport, S: Alter + Drop>(
         &self,
         mut connection: Connection,
         connections: &mut Connections,
-        port: &mut P,
+        transport: &mut T,
         desk: &mut Desk<S>,
     ) -> Result<u32, ServingFault>
         requires room { length connections.old.queue.connections.items ≤ 64 }
@@ -224,22 +229,27 @@ impl<R: Clock> Server<'_, R> {
         ensures same { IsSameStore S.Store desk.old desk.new }
         ensures serves { ServesAtMost S.Store self.now.terms 1 desk.old desk.new }
         ensures exchanges { GoesOn S.Store self.now.terms (made_by result)
-            (P.channels port.old) (connection ∷ connections.old.queue.connections.items) desk.old
-            (P.channels port.new) connections.new.queue.connections.items desk.new }
+            (T.traffic transport.old) (connection ∷ connections.old.queue.connections.items) desk.old
+            (T.traffic transport.new) connections.new.queue.connections.items desk.new }
         ensures few { IfOk result (λ done. done ≤ 1) }
         ensures unasked { IfOk result (λ done. done ≡ 0 → desk.new ≡ desk.old) }
         ensures open { OnOk result (desk.new.is_shut ≡ false) }
         ensures shut { OnErr result (desk.new.is_shut ≡ true) }
         ensures store { IfErr result (λ fault. fault ≡ ServingFault.Store) }
     {
-        match self.receive(&mut connection, port) {
-            Received::Whole | Received::Ended => self.serve_at(connection, connections, port, desk),
+        match self.receive(&mut connection, transport) {
+            Received::Whole | Received::Ended => self.serve_at(
+                connection,
+                connections,
+                transport,
+                desk,
+            ),
             Received::Lacks => {
                 connections.queue.add(connection);
                 Ok(0)
             }
             Received::Broken => {
-                self.drop_connection(connection, port);
+                self.drop_connection(connection, transport);
                 Ok(1)
             }
         }
@@ -248,11 +258,11 @@ impl<R: Clock> Server<'_, R> {
     /// Has a connection go on: its request is read and served, its answer is handed over, or what comes after it is passed over. Returns 1
     /// where it was served or dropped now, else 0. `Store`: a fault of the store has shut the desk. No other fault comes.
     #[tactic(auto, using(crate::proofs::ServedRequests::desk_unasked))]
-    fn advance_at<P: Port, S: Alter + Drop>(
+    fn advance_at<T: Transport, S: Alter + Drop>(
         &self,
         index: usize,
         connections: &mut Connections,
-        port: &mut P,
+        transport: &mut T,
         desk: &mut Desk<S>,
     ) -> Result<u32, ServingFault>
         requires within { index < length connections.old.queue.connections.items }
@@ -260,8 +270,8 @@ impl<R: Clock> Server<'_, R> {
         ensures same { IsSameStore S.Store desk.old desk.new }
         ensures serves { ServesAtMost S.Store self.now.terms 1 desk.old desk.new }
         ensures exchanges { GoesOn S.Store self.now.terms (made_by result)
-            (P.channels port.old) connections.old.queue.connections.items desk.old
-            (P.channels port.new) connections.new.queue.connections.items desk.new }
+            (T.traffic transport.old) connections.old.queue.connections.items desk.old
+            (T.traffic transport.new) connections.new.queue.connections.items desk.new }
         ensures few { IfOk result (λ done. done ≤ 1) }
         ensures unasked { IfOk result (λ done. done ≡ 0 → desk.new ≡ desk.old) }
         ensures open { OnOk result (desk.new.is_shut ≡ false) }
@@ -271,25 +281,25 @@ impl<R: Clock> Server<'_, R> {
         let connection = connections.queue.remove(index);
         match connection.stage {
             Stage::Silent | Stage::Reading { .. } => {
-                self.read_at(connection, connections, port, desk)
+                self.read_at(connection, connections, transport, desk)
             }
             Stage::Writing { status } => {
-                self.write_at(connection, status, connections, port);
+                self.write_at(connection, status, connections, transport);
                 Ok(0)
             }
             Stage::Ending { pieces } => {
-                self.pass_over_at(connection, pieces, connections, port);
+                self.pass_over_at(connection, pieces, connections, transport);
                 Ok(0)
             }
         }
     }
 
-    /// Serves so many connections of a port: they are read side by side, and served one after the other as they become whole. Those
+    /// Serves so many connections of a transport: they are read side by side, and served one after the other as they become whole. Those
     /// that were dropped before they were served count.
-    fn serve_each<P: Port, S: Alter + Drop>(
+    fn serve_each<T: Transport, S: Alter + Drop>(
         &self,
         connections: &mut Connections,
-        port: &mut P,
+        transport: &mut T,
         count: u32,
         desk: &mut Desk<S>,
     ) -> Result<(), ServingFault>
@@ -297,8 +307,8 @@ impl<R: Clock> Server<'_, R> {
         ensures same { IsSameStore S.Store desk.old desk.new }
         ensures serves { ServesAtMost S.Store self.now.terms count desk.old desk.new }
         ensures exchanges { GoesOn S.Store self.now.terms count
-            (P.channels port.old) connections.old.queue.connections.items desk.old
-            (P.channels port.new) connections.new.queue.connections.items desk.new }
+            (T.traffic transport.old) connections.old.queue.connections.items desk.old
+            (T.traffic transport.new) connections.new.queue.connections.items desk.new }
         ensures ends { EndsServing desk.new.is_shut result }
         ensures routed { IfErr result (λ fault. fault ≢ ServingFault.Memory) }
     {
@@ -307,66 +317,76 @@ impl<R: Clock> Server<'_, R> {
             if left == 0 {
                 return Ok(());
             }
-            let step = connections.next(self.milliseconds(), port.may_take());
+            let step = connections.next(self.milliseconds(), transport.may_take());
             let done = match step {
-                Step::Advance(index) => self.advance_at(index, connections, port, desk)?,
-                Step::Drop(index) => self.drop_at(index, connections, port),
-                Step::Take => self.take_next(connections, port)?,
+                Step::Advance(index) => self.advance_at(index, connections, transport, desk)?,
+                Step::Drop(index) => self.drop_at(index, connections, transport),
+                Step::Take => self.take_next(connections, transport)?,
                 Step::Wait(_) => 0,
             };
-            connections.ask(step, port)?;
+            connections.ask(step, transport)?;
             left -= done;
         }
         Ok(())
     }
 
     /// Has a connection go on that was served, and drops another one.
-    fn finish_at<P: Port>(&self, index: usize, connections: &mut Connections, port: &mut P)
+    fn finish_at<T: Transport>(
+        &self,
+        index: usize,
+        connections: &mut Connections,
+        transport: &mut T,
+    )
         requires { index < length connections.old.queue.connections.items }
-        ensures held { KeepsHeld self.now.terms (P.channels port.old) connections.old.queue.connections.items
-            (P.channels port.new) connections.new.queue.connections.items }
+        ensures held { KeepsHeld self.now.terms (T.traffic transport.old) connections.old.queue.connections.items
+            (T.traffic transport.new) connections.new.queue.connections.items }
     {
         let connection = connections.queue.remove(index);
         match connection.stage {
-            Stage::Silent | Stage::Reading { .. } => port.close(connection.number),
-            Stage::Writing { status } => self.write_at(connection, status, connections, port),
-            Stage::Ending { pieces } => self.pass_over_at(connection, pieces, connections, port),
+            Stage::Silent | Stage::Reading { .. } => transport.close(connection.number),
+            Stage::Writing { status } => self.write_at(connection, status, connections, transport),
+            Stage::Ending { pieces } => self.pass_over_at(
+                connection,
+                pieces,
+                connections,
+                transport,
+            ),
         }
     }
 
     /// Drops those that weren't served.
-    fn drop_unserved<P: Port>(&self, connections: &mut Connections, port: &mut P)
-        ensures held { KeepsHeld self.now.terms (P.channels port.old) connections.old.queue.connections.items
-            (P.channels port.new) connections.new.queue.connections.items }
+    fn drop_unserved<T: Transport>(&self, connections: &mut Connections, transport: &mut T)
+        ensures held { KeepsHeld self.now.terms (T.traffic transport.old) connections.old.queue.connections.items
+            (T.traffic transport.new) connections.new.queue.connections.items }
     {
         for _ in 0..=MOST_CONNECTIONS {
             let Some(index) = connections.queue.first_unserved() else {
                 return;
             };
             let connection = connections.queue.remove(index);
-            port.close(connection.number);
+            transport.close(connection.number);
         }
     }
 
     /// Hands over what is on its way of the answers, where none is served any more, within their time.
-    fn finish<P: Port>(&self, connections: &mut Connections, port: &mut P)
-        ensures held { KeepsHeld self.now.terms (P.channels port.old) connections.old.queue.connections.items
-            (P.channels port.new) connections.new.queue.connections.items }
+    fn finish<T: Transport>(&self, connections: &mut Connections, transport: &mut T)
+        ensures held { KeepsHeld self.now.terms (T.traffic transport.old) connections.old.queue.connections.items
+            (T.traffic transport.new) connections.new.queue.connections.items }
     {
-        self.drop_unserved(connections, port);
+        self.drop_unserved(connections, transport);
         for _turn in 0..u64::MAX {
             if connections.queue.connections.is_empty() {
                 return;
             }
             let step = connections.next_of_taken(self.milliseconds());
             match step {
-                Step::Advance(index) => self.finish_at(index, connections, port),
+                Step::Advance(index) => self.finish_at(index, connections, transport),
                 Step::Drop(index) => {
-                    self.drop_at(index, connections, port);
+                    self.drop_at(index, connections, transport);
                 }
                 Step::Take | Step::Wait(_) => {}
             }
-            if connections.ask(step, port).is_err() {
+            if connections.ask(step, transport).is_err() {
                 return;
             }
         }
@@ -384,16 +404,16 @@ fn routes_of(made: Result<Routes, RoutesFault>) -> Result<Routes, ServingFault>
     }
 }
 
-/// Serves so many connections of a port by an open desk, as the terms say: they are read and answered side by side, and their requests
+/// Serves so many connections of a transport by an open desk, as the terms say: they are read and answered side by side, and their requests
 /// executed one after the other. What is answered to a request ends nothing,
 /// and neither does a fault of a connection; one without a byte counts too, and one whose request isn't whole within its twenty seconds.
 /// Each is noted in the log where there is one.
 ///
 /// `Store`: a fault of the store has shut the desk; no further connection is taken. `Net`: no connection could be taken.
 /// `Memory`: memory was refused for the routes or for the connections, before the first. No other fault comes.
-pub fn serve_port<R: Clock + AllocGlobal, P: Port, S: Alter + Drop>(
+pub fn serve_over<R: Clock + AllocGlobal, T: Transport, S: Alter + Drop>(
     rt: &R,
-    port: &mut P,
+    transport: &mut T,
     terms: Terms<'_>,
     count: u32,
     desk: &mut Desk<S>,
@@ -402,7 +422,7 @@ pub fn serve_port<R: Clock + AllocGlobal, P: Port, S: Alter + Drop>(
     requires { desk.old.is_shut ≡ false }
     ensures same { IsSameStore S.Store desk.old desk.new }
     ensures serves { ServesAtMost S.Store terms.entry count desk.old desk.new }
-    ensures exchanges { ServesPort S.Store terms.entry count (P.channels port.old) (P.channels port.new) desk.old desk.new }
+    ensures exchanges { ServesOver S.Store terms.entry count (T.traffic transport.old) (T.traffic transport.new) desk.old desk.new }
     ensures ends { EndsServing desk.new.is_shut result }
 {
     let routes = routes_of(Routes::new(rt.alloc()))?;
@@ -417,12 +437,12 @@ pub fn serve_port<R: Clock + AllocGlobal, P: Port, S: Alter + Drop>(
         terms,
         log,
     };
-    let end = server.serve_each(&mut connections, port, count, desk);
-    server.finish(&mut connections, port);
+    let end = server.serve_each(&mut connections, transport, count, desk);
+    server.finish(&mut connections, transport);
     end
 }
 
-/// Serves so many connections of a listener, as [`serve_port`] does those of any port: the system's sockets are one that shows nothing of what
+/// Serves so many connections of a listener, as [`serve_over`] does those of any transport: the system's sockets are one that shows nothing of what
 /// passes. `Net` comes also where the system doesn't report those that come in.
 pub fn serve_listener<R: Net + Clock + AllocGlobal, S: Alter + Drop>(
     rt: &R,
@@ -438,5 +458,5 @@ pub fn serve_listener<R: Net + Clock + AllocGlobal, S: Alter + Drop>(
     ensures ends { EndsServing desk.new.is_shut result }
 {
     let mut sockets = Sockets::new(rt.alloc(), rt, listener)?;
-    serve_port(rt, &mut sockets, terms, count, desk, log)
+    serve_over(rt, &mut sockets, terms, count, desk, log)
 }

@@ -8,8 +8,8 @@ ghost use Rattle.desk_server.specs.Receiving.{AnswersConnection, IsReceived};
 ghost use Rattle.desk_server.specs.Serving.{HasServed};
 
 use crate::connection::{Connection, Stage};
-use crate::port::{Piece, Port};
 use crate::server::Server;
+use crate::transport::{Piece, Transport};
 use plant_desk::Keeper;
 use plant_http_requests::{MOST_READS, RequestProgress, Terms, request_progress};
 use std::rt::Clock;
@@ -110,16 +110,20 @@ impl<R: Clock> Server<'_, R> {
     }
 
     /// Reads once of a request, without waiting. The machine's time is read before its first byte.
-    pub(crate) fn receive<P: Port>(&self, connection: &mut Connection, port: &mut P) -> Received
+    pub(crate) fn receive<T: Transport>(
+        &self,
+        connection: &mut Connection,
+        transport: &mut T,
+    ) -> Received
         ensures whole { IsReceived self.now.terms connection.new.now connection.new.request.items result }
-        ensures shown { ReadsOn self.now.terms (P.channels port.old) connection.old
-            (P.channels port.new) connection.new result }
+        ensures shown { ReadsOn self.now.terms (T.traffic transport.old) connection.old
+            (T.traffic transport.new) connection.new result }
     {
         if connection.has_made_its_reads() {
             return Received::Broken;
         }
         self.note_time(connection);
-        match connection.receive(port) {
+        match connection.receive(transport) {
             Piece::Bytes(_) => {
                 connection.count_read(self.milliseconds());
                 self.judge(connection)

@@ -1,9 +1,9 @@
-//! The system's sockets as a port.
+//! The system's sockets as a transport.
 ghost use Rattle.std.specs.Prelude.{◌≡◌, ◌≢◌, ◌≤◌, IfErr, IfSome, length, None};
 ghost use Rattle.desk_server.specs.Connection.{IsTakenOf};
 
 use crate::fault::ServingFault;
-use crate::port::{PIECE_BYTES, Piece, Port};
+use crate::transport::{PIECE_BYTES, Piece, Transport};
 use mio::unix::SourceFd;
 use mio::{Events, Interest, Poll, Token};
 use std::alloc::Global;
@@ -181,8 +181,8 @@ impl<'a> Sockets<'a> {
     }
 }
 
-impl Port for Sockets<'_> {
-    ghost channels = { λ sockets. None };
+impl Transport for Sockets<'_> {
+    ghost traffic = { λ sockets. None };
 
     fn may_take(&self) -> bool {
         self.may_take

@@ -3,4 +3,4 @@ use Rattle.desk_server.specs.Exchanges.{StaysHeld}
 use Rattle.desk_server.proofs.listening.Connections.ask.Given as goal
 
 abbrev pub invariant-loop : goal.invariant-loop
-invariant-loop g l = (g.P.Port.channels l.port ≡ g.P.Port.channels l.fn.port) × StaysHeld l.fn.self.queue.connections.items l.self.queue.connections.items
+invariant-loop g l = (g.T.Transport.traffic l.transport ≡ g.T.Transport.traffic l.fn.transport) × StaysHeld l.fn.self.queue.connections.items l.self.queue.connections.items

@@ -5,14 +5,14 @@ use Rattle.desk_server.proofs.server.Server.receive.Goals as goal
 
 pub returns-then-has_made_its_reads-clause-shown : goal.returns-then-has_made_its_reads-clause-shown
 returns-then-has_made_its_reads-clause-shown g c =
-    let before = g.P.Port.channels c.args.port.now in
+    let before = g.T.Transport.traffic c.args.transport.now in
     broken_left c.args.self.now.terms before before c.args.connection.now c.args.connection.now c.args.connection.now.number (inl refl) refl
 
 pub returns-in-Bytes-clause-shown : goal.returns-in-Bytes-clause-shown
 returns-in-Bytes-clause-shown g c =
     let terms = c.args.self.now.terms in
-    let a = g.P.Port.channels c.args.port.now in
-    let b = g.P.Port.channels c.receive.new.port in
+    let a = g.T.Transport.traffic c.args.transport.now in
+    let b = g.T.Transport.traffic c.receive.new.transport in
     let was = c.args.connection.now in
     let noted = c.note_time.ensures in
     let counted = c.count_read.ensures in
@@ -38,14 +38,14 @@ returns-in-End-clause-shown g c =
     let stage = c.receive.ensures.stage in
     let before = noted.stage in
     let same : c.receive.new.self.stage ≡ c.args.connection.now.stage = cc in
-    ended_left c.args.self.now.terms (g.P.Port.channels c.args.port.now) (g.P.Port.channels c.receive.new.port) c.args.connection.now c.receive.new.self c.note_time.new.connection.number
+    ended_left c.args.self.now.terms (g.T.Transport.traffic c.args.transport.now) (g.T.Transport.traffic c.receive.new.transport) c.args.connection.now c.receive.new.self c.note_time.new.connection.number
     c.note_time.new.connection.request.items c.receive.new.self.request.items c.in-End.ensures.shown noted.number (λ i. (noted.unchanged i).items) refl (λ u. subst IsUnserved (sym same) u) (cc)
 
 pub returns-in-Nothing-clause-shown : goal.returns-in-Nothing-clause-shown
 returns-in-Nothing-clause-shown g c =
     let terms = c.args.self.now.terms in
-    let a = g.P.Port.channels c.args.port.now in
-    let b = g.P.Port.channels c.receive.new.port in
+    let a = g.T.Transport.traffic c.args.transport.now in
+    let b = g.T.Transport.traffic c.receive.new.transport in
     let was = c.args.connection.now in
     let noted = c.note_time.ensures in
     let read = c.receive.ensures in
@@ -63,5 +63,5 @@ returns-in-Nothing-clause-shown g c =
     lacks_left terms a b was _ (λ u others. kept_alike terms a b was _ others got.1 (cc) (cc) (cc) (cc) (cc))
 
 pub returns-in-Broken-clause-shown : goal.returns-in-Broken-clause-shown
-returns-in-Broken-clause-shown g c = broken_left c.args.self.now.terms (g.P.Port.channels c.args.port.now) (g.P.Port.channels c.receive.new.port) c.args.connection.now c.receive.new.self
+returns-in-Broken-clause-shown g c = broken_left c.args.self.now.terms (g.T.Transport.traffic c.args.transport.now) (g.T.Transport.traffic c.receive.new.transport) c.args.connection.now c.receive.new.self
     c.note_time.new.connection.number c.in-Broken.ensures.shown c.note_time.ensures.number

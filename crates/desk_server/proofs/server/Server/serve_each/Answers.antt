@@ -14,16 +14,16 @@ connections-preserved g c =
     let terms = c.args.self.now.terms in
     let count = c.args.count in
     let some = c.if-left-eq0.false in
-    let there = g.P.Port.channels it.port in
+    let there = g.T.Transport.traffic it.transport in
     let held = c.next-step.new.self.queue.connections.items in
     let idle = λ (n : ℕ). serving_fewer g.S.Store terms count it.left n c.args.desk.now it.desk it.invariant.0 in
-    let step : GoesOn g.S.Store terms last.done there held it.desk (g.P.Port.channels last.port) last.connections.queue.connections.items last.desk = elim c.match-step.branch [
-      | in-Advance+in_ok-done-in-Advance w ↦ rw w.port-is (rw w.connections-is (rw w.desk-is (rw w.done-is w.in_ok-done-in-Advance.ensures.exchanges)))
-      | in-Drop w ↦ rw w.port-is (rw w.connections-is (rw w.desk-is (rw w.done-is (kept_on g.S.Store terms w.drop_at-done.result there (g.P.Port.channels w.drop_at-done.new.port) held
+    let step : GoesOn g.S.Store terms last.done there held it.desk (g.T.Transport.traffic last.transport) last.connections.queue.connections.items last.desk = elim c.match-step.branch [
+      | in-Advance+in_ok-done-in-Advance w ↦ rw w.transport-is (rw w.connections-is (rw w.desk-is (rw w.done-is w.in_ok-done-in-Advance.ensures.exchanges)))
+      | in-Drop w ↦ rw w.transport-is (rw w.connections-is (rw w.desk-is (rw w.done-is (kept_on g.S.Store terms w.drop_at-done.result there (g.T.Transport.traffic w.drop_at-done.new.transport) held
           w.drop_at-done.new.connections.queue.connections.items it.desk w.drop_at-done.ensures.held))))
-      | in-Take+in_ok-done-in-Take w ↦ rw w.port-is (rw w.connections-is (rw w.desk-is (rw w.done-is (kept_on g.S.Store terms w.in_ok-done-in-Take.done there (g.P.Port.channels w.take_next.new.port) held
+      | in-Take+in_ok-done-in-Take w ↦ rw w.transport-is (rw w.connections-is (rw w.desk-is (rw w.done-is (kept_on g.S.Store terms w.in_ok-done-in-Take.done there (g.T.Transport.traffic w.take_next.new.transport) held
           w.take_next.new.connections.queue.connections.items it.desk w.in_ok-done-in-Take.ensures.held))))
-      | in-Wait w ↦ rw w.port-is (rw w.connections-is (rw w.desk-is (rw w.done-is (kept_on g.S.Store terms 0 there there held held it.desk (keeps_itself terms there held)))))
+      | in-Wait w ↦ rw w.transport-is (rw w.connections-is (rw w.desk-is (rw w.done-is (kept_on g.S.Store terms 0 there there held held it.desk (keeps_itself terms there held)))))
     ] in
     let after : IsServing g.S.Store terms count (it.left - last.done) c.args.desk.now last.desk = elim c.match-step.branch [
       | in-Advance+in_ok-done-in-Advance w ↦ let one = w.in_ok-done-in-Advance.ensures in
@@ -46,7 +46,7 @@ connections-preserved g c =
       | in-Wait w ↦ rw w.desk-is (λ clean. clean)
     ] in (
       after,
-      goes_step g.S.Store terms count it.left last.done (g.P.Port.channels c.args.port.now) there (g.P.Port.channels last.port) (g.P.Port.channels c.ask.new.port) c.args.connections.now.queue.connections.items
+      goes_step g.S.Store terms count it.left last.done (g.T.Transport.traffic c.args.transport.now) there (g.T.Transport.traffic last.transport) (g.T.Transport.traffic c.ask.new.transport) c.args.connections.now.queue.connections.items
           it.connections.queue.connections.items held last.connections.queue.connections.items c.ask.new.self.queue.connections.items c.args.desk.now it.desk last.desk few it.invariant.0.2 was it.invariant.1
           (λ i. (c.next-step.ensures.unchanged i).connections.items) step c.ask.ensures.shown c.ask.ensures.held,
     )
@@ -61,10 +61,10 @@ returns-in_err-done-in-Advance g c =
     (omega (arith, c.if-left-eq0.false)) c.advance_at.ensures.same c.advance_at.ensures.serves in record {
       same = one.0;
       serves = desk_fewer g.S.Store c.args.self.now.terms (c.args.count - (it.left - 1)) c.args.count c.args.desk.now c.advance_at.new.desk (omega arith) one.1;
-      exchanges = goes_then g.S.Store c.args.self.now.terms (c.args.count - it.left) (made_by c.advance_at.result) c.args.count (g.P.Port.channels c.args.port.now) (g.P.Port.channels it.port)
-          (g.P.Port.channels c.advance_at.new.port) c.args.connections.now.queue.connections.items it.connections.queue.connections.items c.advance_at.new.connections.queue.connections.items
+      exchanges = goes_then g.S.Store c.args.self.now.terms (c.args.count - it.left) (made_by c.advance_at.result) c.args.count (g.T.Transport.traffic c.args.transport.now) (g.T.Transport.traffic it.transport)
+          (g.T.Transport.traffic c.advance_at.new.transport) c.args.connections.now.queue.connections.items it.connections.queue.connections.items c.advance_at.new.connections.queue.connections.items
           c.args.desk.now it.desk c.advance_at.new.desk (omega (arith, c.if-left-eq0.false, it.invariant.0.2, made_few c.advance_at.result c.advance_at.ensures.few)) c.advance_at.ensures.same.honest it.invariant.1
-          (subst (λ q. GoesOn g.S.Store c.args.self.now.terms (made_by c.advance_at.result) (g.P.Port.channels it.port) q it.desk (g.P.Port.channels c.advance_at.new.port)
+          (subst (λ q. GoesOn g.S.Store c.args.self.now.terms (made_by c.advance_at.result) (g.T.Transport.traffic it.transport) q it.desk (g.T.Transport.traffic c.advance_at.new.transport)
           c.advance_at.new.connections.queue.connections.items c.advance_at.new.desk) (λ i. (c.next-step.ensures.unchanged i).connections.items) c.advance_at.ensures.exchanges);
       ends = search rules;
       routed = search rules;
@@ -81,16 +81,16 @@ returns-in_err-ask g c =
     let terms = c.args.self.now.terms in
     let count = c.args.count in
     let some = c.if-left-eq0.false in
-    let there = g.P.Port.channels it.port in
+    let there = g.T.Transport.traffic it.transport in
     let held = c.next-step.new.self.queue.connections.items in
     let idle = λ (n : ℕ). serving_fewer g.S.Store terms count it.left n c.args.desk.now it.desk it.invariant.0 in
-    let step : GoesOn g.S.Store terms last.done there held it.desk (g.P.Port.channels last.port) last.connections.queue.connections.items last.desk = elim c.match-step.branch [
-      | in-Advance+in_ok-done-in-Advance w ↦ rw w.port-is (rw w.connections-is (rw w.desk-is (rw w.done-is w.in_ok-done-in-Advance.ensures.exchanges)))
-      | in-Drop w ↦ rw w.port-is (rw w.connections-is (rw w.desk-is (rw w.done-is (kept_on g.S.Store terms w.drop_at-done.result there (g.P.Port.channels w.drop_at-done.new.port) held
+    let step : GoesOn g.S.Store terms last.done there held it.desk (g.T.Transport.traffic last.transport) last.connections.queue.connections.items last.desk = elim c.match-step.branch [
+      | in-Advance+in_ok-done-in-Advance w ↦ rw w.transport-is (rw w.connections-is (rw w.desk-is (rw w.done-is w.in_ok-done-in-Advance.ensures.exchanges)))
+      | in-Drop w ↦ rw w.transport-is (rw w.connections-is (rw w.desk-is (rw w.done-is (kept_on g.S.Store terms w.drop_at-done.result there (g.T.Transport.traffic w.drop_at-done.new.transport) held
           w.drop_at-done.new.connections.queue.connections.items it.desk w.drop_at-done.ensures.held))))
-      | in-Take+in_ok-done-in-Take w ↦ rw w.port-is (rw w.connections-is (rw w.desk-is (rw w.done-is (kept_on g.S.Store terms w.in_ok-done-in-Take.done there (g.P.Port.channels w.take_next.new.port) held
+      | in-Take+in_ok-done-in-Take w ↦ rw w.transport-is (rw w.connections-is (rw w.desk-is (rw w.done-is (kept_on g.S.Store terms w.in_ok-done-in-Take.done there (g.T.Transport.traffic w.take_next.new.transport) held
           w.take_next.new.connections.queue.connections.items it.desk w.in_ok-done-in-Take.ensures.held))))
-      | in-Wait w ↦ rw w.port-is (rw w.connections-is (rw w.desk-is (rw w.done-is (kept_on g.S.Store terms 0 there there held held it.desk (keeps_itself terms there held)))))
+      | in-Wait w ↦ rw w.transport-is (rw w.connections-is (rw w.desk-is (rw w.done-is (kept_on g.S.Store terms 0 there there held held it.desk (keeps_itself terms there held)))))
     ] in
     let after : IsServing g.S.Store terms count (it.left - last.done) c.args.desk.now last.desk = elim c.match-step.branch [
       | in-Advance+in_ok-done-in-Advance w ↦ let one = w.in_ok-done-in-Advance.ensures in
@@ -115,8 +115,8 @@ returns-in_err-ask g c =
     record {
       same = after.0;
       serves = serving_at_most g.S.Store terms count (it.left - last.done) c.args.desk.now last.desk after;
-      exchanges = goes_fewer g.S.Store terms (count - (it.left - last.done)) count (g.P.Port.channels c.args.port.now) (g.P.Port.channels c.ask.new.port) c.args.connections.now.queue.connections.items
-          c.ask.new.self.queue.connections.items c.args.desk.now last.desk (omega arith) (goes_step g.S.Store terms count it.left last.done (g.P.Port.channels c.args.port.now) there (g.P.Port.channels last.port) (g.P.Port.channels c.ask.new.port) c.args.connections.now.queue.connections.items
+      exchanges = goes_fewer g.S.Store terms (count - (it.left - last.done)) count (g.T.Transport.traffic c.args.transport.now) (g.T.Transport.traffic c.ask.new.transport) c.args.connections.now.queue.connections.items
+          c.ask.new.self.queue.connections.items c.args.desk.now last.desk (omega arith) (goes_step g.S.Store terms count it.left last.done (g.T.Transport.traffic c.args.transport.now) there (g.T.Transport.traffic last.transport) (g.T.Transport.traffic c.ask.new.transport) c.args.connections.now.queue.connections.items
           it.connections.queue.connections.items held last.connections.queue.connections.items c.ask.new.self.queue.connections.items c.args.desk.now it.desk last.desk few it.invariant.0.2 was it.invariant.1
           (λ i. (c.next-step.ensures.unchanged i).connections.items) step c.ask.ensures.shown c.ask.ensures.held);
       ends = search (rules, after.1);

@@ -20,15 +20,15 @@ pub enum Piece {
 
 /// Where connections come in. Each has a number: how many came before it.
 ///
-/// A port may show what has passed over its connections, as one in memory does; what the system's sockets have received and
+/// A transport may show what has passed over its connections, as one in memory does; what the system's sockets have received and
 /// taken is shown to nobody. Who is generic over it can't know which it is, and serves both alike.
-pub trait Port {
+pub trait Transport {
     ghost use Rattle.std.specs.Prelude.{◌≡◌, ◌≤◌, ℕ, List, length, Option, IfErr, IfSome};
-    ghost use Rattle.desk_server.specs.Channels.{Channel, HasRead, HasWritten, TakesChannel};
+    ghost use Rattle.desk_server.specs.Traffic.{Traffic, HasRead, HasWritten, TakesConnection};
     ghost use Rattle.desk_server.specs.Connection.{IsTakenOf};
 
     /// What has passed over the connections that were taken, in their order, where it is shown.
-    ghost channels: { Self → Option (List Channel) };
+    ghost traffic: { Self → Option (List Traffic) };
 
     /// Whether a connection may be there to be taken.
     fn may_take(&self) -> bool;
@@ -36,45 +36,45 @@ pub trait Port {
     /// Takes a connection, where one is there that its client hasn't ended, and gives its number. `Net`: the system refuses it, and
     /// another may be there. No other fault comes.
     fn take(&mut self) -> Result<Option<u64>, ServingFault>
-        ensures taken { TakesChannel result (channels self.old) (channels self.new) }
+        ensures taken { TakesConnection result (traffic self.old) (traffic self.new) }
         ensures net { IfErr result (λ fault. fault ≡ ServingFault.Net) };
 
     /// Has the system report when there is something to be read on a connection, which never waits from now on. Returns whether it does.
     fn follow(&mut self, number: u64) -> bool
-        ensures same { channels self.new ≡ channels self.old };
+        ensures same { traffic self.new ≡ traffic self.old };
 
     /// Reads once from a connection, without waiting, so many bytes at most.
     fn read(&mut self, number: u64, room: usize, piece: &mut [u8; PIECE_BYTES]) -> Piece
         requires { room ≤ PIECE_BYTES }
-        ensures received { HasRead result number piece.new (channels self.old) (channels self.new) }
+        ensures received { HasRead result number piece.new (traffic self.old) (traffic self.new) }
         ensures within { IsTakenOf result room };
 
     /// Writes once to a connection, without waiting, and says how many bytes were taken. `Some(0)`: it takes nothing now. `None`: the
     /// write failed, was interrupted, or took no byte.
     fn write(&mut self, number: u64, rest: &[u8]) -> Option<usize>
-        ensures sent { HasWritten result number rest.now (channels self.old) (channels self.new) }
+        ensures sent { HasWritten result number rest.now (traffic self.old) (traffic self.new) }
         ensures within { IfSome result (λ n. n ≤ length rest.now) };
 
     /// Has the system report when a connection, which is followed, takes bytes again. Returns whether it does.
     fn await_room(&mut self, number: u64) -> bool
-        ensures same { channels self.new ≡ channels self.old };
+        ensures same { traffic self.new ≡ traffic self.old };
 
     /// Ends the server's side of a connection, which is followed, and has the system report what its client still sends. Returns whether it
     /// does.
     fn end(&mut self, number: u64) -> bool
-        ensures same { channels self.new ≡ channels self.old };
+        ensures same { traffic self.new ≡ traffic self.old };
 
     /// Closes a connection.
     fn close(&mut self, number: u64)
-        ensures same { channels self.new ≡ channels self.old };
+        ensures same { traffic self.new ≡ traffic self.old };
 
     /// Asks the system what is there: for so many milliseconds at most, or until something comes. `Net`: it doesn't say. No other fault
     /// comes.
     fn ask(&mut self, most: Option<u64>) -> Result<(), ServingFault>
-        ensures same { channels self.new ≡ channels self.old }
+        ensures same { traffic self.new ≡ traffic self.old }
         ensures net { IfErr result (λ fault. fault ≡ ServingFault.Net) };
 
     /// The next connection of which the system has reported that it may go on.
     fn next_ready(&mut self) -> Option<u64>
-        ensures same { channels self.new ≡ channels self.old };
+        ensures same { traffic self.new ≡ traffic self.old };
 }

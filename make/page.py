@@ -3,16 +3,18 @@
 
     make/page.py --check            says whether the sources are what page/ gives; status 1 where they aren't
     make/page.py --write            writes the sources
-    make/page.py --print PATH       prints the resource at a path: /, /desk.css, /desk.js or /views.js
+    make/page.py --print PATH       prints the resource at a path: /, /desk.css, /desk.js, /views.js or /german.json
 
 / is page/index.html, which names the other resources. A script is modules of page/ joined in the order of SCRIPTS: each imports from those before
-it alone, and all that they declare has names of its own. Each resource has an entity tag, which changes with its bytes.
+it alone, and all that they declare has names of its own. The texts of a language are those of the modules of its folder in page/texts/, as one JSON
+object, in which what isn't ASCII is escaped. Each resource has an entity tag, which changes with its bytes.
 """
 from __future__ import annotations
 
 import argparse
 import dataclasses
 import hashlib
+import json
 import pathlib
 import re
 import sys
@@ -23,8 +25,8 @@ PAGE, SOURCES = TOP / "page", TOP / "crates/desk_page/src"
 # The modules of each script. Those of the first line are pure: they touch neither the page nor the desk.
 SCRIPTS = {
     "desk.js": (
-        "amounts", "moments", "ids", "addresses", "csv", "cursors", "recipes", "records", "words", "scans", "barcode", "taking", "sorting", "figures", "groups", "balances",
-        "elements", "store", "typed", "who", "focus", "scanner", "parts", "questions", "frame", "saved", "lots", "forms", "paper", "label", "book",
+        "texts", "amounts", "moments", "ids", "addresses", "csv", "cursors", "recipes", "records", "words", "scans", "barcode", "taking", "sorting", "figures", "groups", "balances",
+        "elements", "store", "language", "typed", "who", "focus", "scanner", "parts", "questions", "frame", "saved", "lots", "forms", "paper", "label", "book",
     ),
     "views.js": ("plots", "alarm", "help", "today", "genealogy", "record", "sheet", "inputs", "balance", "stands", "release", "planner", "shift",
         "goods", "places", "warehouse", "quality", "finder", "start",
@@ -37,6 +39,12 @@ MODULE = '<script type="module" src="start.js"></script>\n'
 IMPORT = re.compile(r'^import \{([^}]*)\} from "\./(\w+)\.js";\n', re.M)
 COMMENT = re.compile(r"^ *//.*\n", re.M)
 DECLARED = re.compile(r"^(?:export )?(?:async )?(?:const|let|function|class) (\w+)", re.M)
+
+# The folders with the texts of other languages than English, which the modules have.
+LANGUAGES = sorted(it for it in (PAGE / "texts").glob("*") if it.is_dir())
+
+# A module of texts: lines of comments, and one object of texts by the English ones, each of which has quotes around it and a comma behind it.
+TEXTS = re.compile(r"(?://.*\n|\n)*export default (\{\n(?:.*\n)*\});\n")
 
 # The most bytes of a resource, and the most lines of a module.
 LARGEST_RESOURCE, LONGEST_MODULE = 120_000, 400
@@ -67,6 +75,8 @@ class Resource:
             text = page_text()
         elif self.path == "/desk.css":
             text = ascii_text("desk.css")
+        elif self.kind == "JSON":
+            text = json.dumps(texts_of(self.source), separators=(",", ":")) + "\n"
         else:
             text = joined_script(self.path[1:])
         if len(text) > LARGEST_RESOURCE:
@@ -86,6 +96,7 @@ RESOURCES = (
     Resource("/desk.css", "style", "The style of the page", "CSS"),
     Resource("/desk.js", "script", "What the views of the page share", "JavaScript"),
     Resource("/views.js", "views", "The views of the page", "JavaScript"),
+    *(Resource(f"/{it.name}.json", it.name, f"The {it.name.capitalize()} texts of the page", "JSON") for it in LANGUAGES),
 )
 
 
@@ -105,6 +116,32 @@ def ascii_text(name: str) -> str:
     if "\r" in text:
         raise WrongPage(f"page/{name} has a CR in it")
     return text
+
+
+def texts_in(path: pathlib.Path) -> list[tuple[str, str]]:
+    """Returns the texts of a module of texts, each behind the English one."""
+    name, text = path.relative_to(PAGE), path.read_text(encoding="utf-8")
+    if text.count("\n") > LONGEST_MODULE:
+        raise WrongPage(f"page/{name} has {text.count(chr(10))} lines, and may have {LONGEST_MODULE}")
+    found = TEXTS.fullmatch(text)
+    try:
+        read = json.loads(re.sub(r",\n\}$", "\n}", COMMENT.sub("", found[1])), object_pairs_hook=list) if found else None
+    except ValueError:
+        read = None
+    if not read or not all(isinstance(it, str) and '"##' not in it for pair in read for it in pair):
+        raise WrongPage(f"page/{name} isn't an object of texts")
+    return [(english, other) for english, other in read]
+
+
+def texts_of(language: str) -> dict[str, str]:
+    """Returns the texts of a language by the English ones, of which each stands once in its modules."""
+    texts = dict[str, str]()
+    for path in sorted((PAGE / "texts" / language).glob("*.js")):
+        for english, other in texts_in(path):
+            if english in texts:
+                raise WrongPage(f"page/texts/{language} has {english!r} twice")
+            texts[english] = other
+    return texts
 
 
 def check_modules() -> None:

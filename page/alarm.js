@@ -1,5 +1,6 @@
 // The alarm: a tone and a flash at a hold or a recall that is new, where this browser is to give them. At first it isn't.
 
+import { t } from "./texts.js";
 import { newIn } from "./figures.js";
 import { h } from "./elements.js";
 import { keep, kept } from "./store.js";
@@ -11,14 +12,14 @@ import { desk } from "./questions.js";
 export function alarmBox() {
   const change = (event) => { keep("alarm", event.target.checked); if (event.target.checked) tone(); };
   return h("label", { class: "tick" }, h("input", { type: "checkbox", id: "alarm", checked: kept("alarm", false), onchange: change }),
-    h("span", {}, "A tone and a flash at a new hold or recall"));
+    h("span", {}, t`A tone and a flash at a new hold or recall`));
 }
 
 // The holds and recalls that were there when they were last looked at, and the desk of which they are.
 let known = null, knownOf = null;
 export function watchFor(holds, recalls) {
-  const all = new Map([...recalls.map((it) => [`recall ${it.recall}`, `Recall ${it.recall} of lot ${it.lot}, by ${it.by}.`]),
-    ...holds.map((it) => [`hold ${it.lot}.${it.hold}`, `Hold ${it.hold} on lot ${it.lot}, by ${it.by}.`])]);
+  const all = new Map([...recalls.map((it) => [`recall ${it.recall}`, t`Recall ${it.recall} of lot ${it.lot}, by ${it.by}.`]),
+    ...holds.map((it) => [`hold ${it.lot}.${it.hold}`, t`Hold ${it.hold} on lot ${it.lot}, by ${it.by}.`])]);
   const news = known && knownOf === desk.name ? newIn(all.keys(), known) : [];
   known = new Set(all.keys());
   knownOf = desk.name;

@@ -1,5 +1,7 @@
 // Balances of lots, summed for each material: what came in, what left, and what is there. Sums are exact.
 
+import { t } from "./texts.js";
+
 const sum = (all, of) => all.reduce((total, it) => total + BigInt(of(it)), 0n);
 
 // The amounts of a material's lots by their places.
@@ -24,7 +26,7 @@ export function materialsOf(lots) {
 // The rows of its file: the materials, and then the lots.
 const flowsOf = ({ entered, left }) => ({ received: entered.received, produced: entered.produced, others: entered.split + entered.merged,
   consumed: left.consumed, scrapped: left.scrapped, passed: left.split + left.merged });
-const wherever = (places) => places.map((it) => `${it.place || "no place"}: ${it.stock}`).join("; ");
+const wherever = (places) => places.map((it) => `${it.place || t`no place`}: ${it.stock}`).join("; ");
 export const rowsOfBalance = (lots) => [
   ...materialsOf(lots).map((it) => ({ ...it, passed: 0, where: wherever(it.places) })),
   ...lots.map((it) => ({ def: it.def, lot: it.lot, unit: it.unit || "", stock: it.stock, held: it.held, recalled: it.recalled, ...flowsOf(it),

@@ -3,6 +3,7 @@
 // A booking is a command or an order file on its way to the desk, under a reference of its own. It is kept in the browser until the desk has
 // answered, and may be sent again for as long: the desk lets it act once.
 
+import { t } from "./texts.js";
 import { grouped } from "./amounts.js";
 import { clock } from "./moments.js";
 import { LOST, plainly } from "./words.js";
@@ -67,8 +68,8 @@ async function deliver(booking) {
 
 // Has something booked, told in plain words; gives null where all is well, else what is wrong. Of one of several the view isn't drawn anew.
 export async function book(what, content, isOneOfMany) {
-  if (sending) return "A booking is under way.";
-  if (unanswered().some((it) => it.tab === TAB && !isOfAnother(it))) return "An earlier booking has no answer yet. Send it again first: see the top of the page.";
+  if (sending) return t`A booking is under way.`;
+  if (unanswered().some((it) => it.tab === TAB && !isOfAnother(it))) return t`An earlier booking has no answer yet. Send it again first: see the top of the page.`;
   const booking = { what, at: desk.now(), by: operatorName(), ref: newReference(), tab: TAB, since: clock(), desk: desk.name, ...content };
   return settle(booking, await deliver(booking), isOneOfMany);
 }
@@ -77,33 +78,33 @@ async function settle({ what, by, fields }, answer, isOneOfMany) {
   if (answer.status !== 200) return plainly(answer);
   keepName(by);
   if (isOneOfMany) return null;
-  notice("good", `${what}. Number ${grouped(answer.body.ok)}. By ${by}.`, ...labelOffer(fields || {}));
+  notice("good", t`${what}. Number ${grouped(answer.body.ok)}. By ${by}.`, ...labelOffer(fields || {}));
   await show();
   return null;
 }
 
 async function sendAgain(booking) {
   if (sending) return;
-  notice("", "Sending again\u2026");
+  notice("", t`Sending again\u2026`);
   const wrong = await sentAgain(booking);
-  if (wrong) notice("bad", wrong === LOST ? "Still no answer." : `${booking.what}: ${wrong}`);
+  if (wrong) notice("bad", wrong === LOST ? t`Still no answer.` : `${booking.what}: ${wrong}`);
 }
 // What is wrong with a booking that is sent again, or null. Another desk than the one that it was sent to would take it a second time.
 async function sentAgain(booking) {
   sending = booking.ref;
   try { await desk.lookAtName(); } catch { return LOST; } finally { sending = null; drawWaiting(); }
-  if (isOfAnother(booking)) return "It was sent to another desk than the one that is served here now. It is kept until that one is back.";
+  if (isOfAnother(booking)) return t`It was sent to another desk than the one that is served here now. It is kept until that one is back.`;
   return settle(booking, await deliver(booking));
 }
 
 // Bookings without an answer stand at the top of the page until they have one.
 export function drawWaiting() {
-  const told = (it) => h("span", {}, `No answer came to \u201c${it.what}\u201d. It may have been taken or not. Sent again, it counts once.`);
-  const row = (it) => h("div", {}, told(it), button("Send again", () => sendAgain(it), "main"), button("Leave it", () => leaveBooking(it)));
+  const told = (it) => h("span", {}, t`No answer came to \u201c${it.what}\u201d. It may have been taken or not. Sent again, it counts once.`);
+  const row = (it) => h("div", {}, told(it), button(t`Send again`, () => sendAgain(it), "main"), button(t`Leave it`, () => leaveBooking(it)));
   at("waiting").replaceChildren(...unanswered().filter(isOffered).map(row));
 }
 function leaveBooking(booking) {
-  form(`Leave \u201c${booking.what}\u201d?`, [say("It isn't sent again. Whether the desk took it is seen in the views alone.")], "Leave it",
+  form(t`Leave \u201c${booking.what}\u201d?`, [say(t`It isn't sent again. Whether the desk took it is seen in the views alone.`)], t`Leave it`,
     () => { forgetBooking(booking.ref); return null; }, { isGrave: true, booksNothing: true });
 }
 
@@ -129,7 +130,7 @@ export async function bookAtOnce(what, content, label) {
   const wrong = await book(what, content);
   if (wrong && wrong !== LOST) notice("bad", wrong);
 }
-export const act = (what, fields) => bookAtOnce(what, { fields }, "Book it");
+export const act = (what, fields) => bookAtOnce(what, { fields }, t`Book it`);
 
 // A form that books: `take` has its command told, and gives what is wrong with the values, or null. The same is done without booking as the form is
 // filled, so that the desk is asked what would become of the command.

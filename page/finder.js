@@ -1,6 +1,7 @@
 // What begins as what is typed to find something: it is offered below the field, each id with what it is.
 
 import { isId } from "./ids.js";
+import { wordOf } from "./words.js";
 import { at, h } from "./elements.js";
 import { desk } from "./questions.js";
 
@@ -14,7 +15,7 @@ const REST = 250;
 function offersOf(found) {
   const all = new Map();
   for (const [kinds, kind] of Object.entries(KINDS)) for (const id of found[kinds]) all.set(id, [...(all.get(id) || []), kind]);
-  return [...all].map(([id, kinds]) => h("option", { value: id, label: `${id}: ${kinds.join(", ")}` }));
+  return [...all].map(([id, kinds]) => h("option", { value: id, label: `${id}: ${kinds.map(wordOf).join(", ")}` }));
 }
 
 // Offers what begins as what is typed by now.

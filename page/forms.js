@@ -1,8 +1,9 @@
 // Forms. To book is a press of the form's button, or Enter in its last field: Enter in another field leads to the next, and a scan only chooses.
 
+import { t } from "./texts.js";
 import { ID_RULE, isId, plainText } from "./ids.js";
 import { lotOf, lotOfSupplier, withCode } from "./scans.js";
-import { LOST, REFUSALS, keyOfPart } from "./words.js";
+import { LOST, keyOfPart, refusalOf } from "./words.js";
 import { dialog, h } from "./elements.js";
 import { forgetTyped, keepTyped, typedIn } from "./typed.js";
 import { hasOperator, isInDoubt, nameOperator, operatorName, whoQuestion } from "./who.js";
@@ -12,6 +13,7 @@ import { button } from "./parts.js";
 import { desk } from "./questions.js";
 import { LotChoice, lotNow } from "./lots.js";
 
+// The attributes of each kind of field; a title is said as the language has it.
 const FIELDS = {
   id: { "data-id": true, maxlength: 24, pattern: "[A-Za-z][A-Za-z0-9\\-]*", title: ID_RULE, autocapitalize: "characters",
     autocomplete: "off", spellcheck: "false", required: true },
@@ -28,16 +30,16 @@ export const ownField = (element) => ({ kind: "own", element });
 export const idField = (name, label, value) => ({ name, kind: "id", label, value });
 // A lot that comes to be, whose id may be scanned; and one that is there, which is scanned, typed or chosen.
 export const newLotField = (name, label, value) => ({ name, kind: "id", label, value, isNewLot: true });
-export const lotField = (more) => ({ name: "from", kind: "lot", label: "Scan or type the lot", ...more });
+export const lotField = (more) => ({ name: "from", kind: "lot", label: t`Scan or type the lot`, ...more });
 export const textField = (name, label, more) => ({ name, kind: "text", label, more });
-export const amountField = (unit, value) => ({ name: "amount", kind: "amount", label: unit ? `Amount, ${unit}` : "Amount", value });
-export const placeField = (label) => textField("place", label || "Place");
-export const noteField = (label) => textField("note", label || "Note, if any");
+export const amountField = (unit, value) => ({ name: "amount", kind: "amount", label: unit ? t`Amount, ${unit}` : t`Amount`, value });
+export const placeField = (label) => textField("place", label || t`Place`);
+export const noteField = (label) => textField("note", label || t`Note, if any`);
 // Why something is done, which has to be said.
-export const whyField = () => textField("note", "Why", { required: true, pattern: "[ -~]*[!-~][ -~]*" });
+export const whyField = () => textField("note", t`Why`, { required: true, pattern: "[ -~]*[!-~][ -~]*" });
 export const selectField = (name, label, options, value, change) => ({ name, kind: "select", label, options, value, change });
 export const halfField = (name, kind, label, more) => ({ name, kind, label, isHalf: true, ...more });
-const operatorField = textField("operator", "Operator: your name, which this browser keeps", { required: true });
+const operatorField = () => textField("operator", t`Operator: your name, which this browser keeps`, { required: true });
 
 export const noted = (fields, note) => (note ? { ...fields, note } : fields);
 
@@ -47,7 +49,8 @@ function input(field) {
     const options = field.options.map((it) => h("option", { value: it.value, disabled: it.isOff, selected: String(it.value) === value }, it.label));
     return h("select", { name: field.name, required: true }, options);
   }
-  const it = h(field.kind === "lines" ? "textarea" : "input", { name: field.name, ...FIELDS[field.kind], ...field.more });
+  const { title, ...rest } = FIELDS[field.kind];
+  const it = h(field.kind === "lines" ? "textarea" : "input", { name: field.name, ...rest, title: title && t(title), ...field.more });
   it.value = value;
   return it;
 }
@@ -60,8 +63,8 @@ async function foreseen(content, by, signal) {
   const { accepted, name, item, reason } = reply.status === 200 ? await reply.json() : { accepted: true };
   if (accepted || name === "MomentBack") return "";
   const list = content.parts || content.lines || content.orders || [];
-  return `As it stands, this would be refused${item && list.length > 1 ? `, for number ${item} of the list` : ""}. ${reason ? `It can't be read: ${reason}.`
-    : REFUSALS[name] || ""} (${name})`;
+  const which = item && list.length > 1 ? t`As it stands, this would be refused, for number ${item} of the list.` : t`As it stands, this would be refused.`;
+  return `${which} ${reason ? t`It can't be read: ${reason}.` : refusalOf(name)} (${name})`;
 }
 const PAUSE = 400;
 
@@ -76,7 +79,7 @@ class Form {
   constructor(title, fields, label, take, { isGrave, contentOf, doubt, booksNothing } = {}) {
     Object.assign(this, { label, take, contentOf, doubt, style: isGrave ? "main bad" : "main", again: null, confirmed: null, asking: new AbortController() });
     this.needsName = !booksNothing;
-    this.fields = hasOperator() || booksNothing ? fields : [...fields, operatorField];
+    this.fields = hasOperator() || booksNothing ? fields : [...fields, operatorField()];
     this.inputs = {};
     this.wrong = h("p", { class: "wrong", role: "alert" });
     this.told = h("p", { class: "foreseen", role: "status" });
@@ -86,7 +89,7 @@ class Form {
     this.drawAs();
     const part = fields.find((it) => it.part)?.part;
     this.name = booksNothing ? null : [desk.name || "", title, part ? keyOfPart(part) : ""].join("|");
-    const rows = this.fields.map((it) => this.row(it)), away = button("Cancel", () => this.ok.disabled || dialog.close());
+    const rows = this.fields.map((it) => this.row(it)), away = button(t`Cancel`, () => this.ok.disabled || dialog.close());
     const events = { onsubmit: (event) => this.submit(event), oninput: () => this.changed(), onkeydown: (event) => this.pressed(event) };
     this.element = h("form", { method: "dialog", ...events }, h("h2", { id: "title" }, title), this.who, this.putBack(), rows, this.told, this.wrong,
       h("div", { class: "end" }, away, this.as, this.ok));
@@ -106,20 +109,21 @@ class Form {
     const kept = Object.entries((this.name !== null && typedIn(this.name)) || {}).filter(([name]) => this.inputs[name]);
     for (const [name, value] of kept) this.inputs[name].value = value;
     if (this.lot && kept.some(([name]) => this.inputs[name] === this.lot.input)) this.lot.look();
-    return kept.length > 0 && h("p", { class: "soft", role: "status" }, "What was typed before the page was loaded anew is put back.");
+    return kept.length > 0 && h("p", { class: "soft", role: "status" }, t`What was typed before the page was loaded anew is put back.`);
   }
 
   // Who books is asked for in the form, so that what is typed isn't lost; `then` is called once a name is pressed. Another name is a field of the form.
   isInDoubt() { return this.needsName && !this.inputs.operator && isInDoubt(); }
-  drawAs() { this.as.textContent = this.needsName && !this.inputs.operator && hasOperator() ? `as ${operatorName()}` : ""; }
+  drawAs() { this.as.textContent = this.needsName && !this.inputs.operator && hasOperator() ? t`as ${operatorName()}` : ""; }
   askWho(then) {
     const named = (name) => { nameOperator(name); this.who.hidden = true; this.drawAs(); then(); };
     this.who.replaceChildren(whoQuestion(named, () => this.askName()));
     this.who.hidden = false;
   }
   askName() {
-    this.fields = [...this.fields, operatorField];
-    this.who.replaceWith(this.row(operatorField));
+    const field = operatorField();
+    this.fields = [...this.fields, field];
+    this.who.replaceWith(this.row(field));
     this.drawAs();
     this.inputs.operator.focus();
   }
@@ -143,7 +147,7 @@ class Form {
   offerPlain(it, hint) {
     const plain = it.checkValidity() ? null : plainText(it.value);
     const take = () => { it.value = plain; hint.replaceChildren(); this.changed(); };
-    hint.replaceChildren(...(plain === null || plain === it.value ? [] : ["The desk has plain letters alone. ", button(`Take \u201c${plain}\u201d`, take)]));
+    hint.replaceChildren(...(plain === null || plain === it.value ? [] : [t`The desk has plain letters alone.`, " ", button(t`Take \u201c${plain}\u201d`, take)]));
   }
   isOpen() { return dialog.open && dialog.firstChild === this.element; }
   values() {
@@ -201,7 +205,7 @@ class Form {
     this.confirmed = text;
     this.wrong.textContent = text || "";
     this.ok.className = text ? "main bad" : this.style;
-    this.ok.textContent = text ? `${this.label} all the same` : this.label;
+    this.ok.textContent = text ? t`${this.label} all the same` : this.label;
     this.notBefore = performance.now() + CONSIDER;
   }
   // Whether there is a doubt that isn't confirmed, which is then shown.
@@ -237,7 +241,7 @@ class Form {
   async scanned(code, isAgain, place) {
     if (this.ok.disabled) return tone();
     this.doubted(null);
-    this.again = isAgain ? `${code} was scanned twice within two seconds.` : null;
+    this.again = isAgain ? t`${code} was scanned twice within two seconds.` : null;
     const field = this.fields.find((it) => it.isNewLot), isForNew = field && place === this.inputs[field.name];
     if (this.lot && !(isForNew && !(await lotNow(lotOf(code).lot)))) {
       if (await this.lot.look(code)) this.goOn(this.lot.input);
@@ -245,8 +249,8 @@ class Form {
       this.inputs[field.name].value = code.toUpperCase();
       this.putNewLot(field, code);
       this.goOn(this.inputs[field.name]);
-    } else return this.refuse("This form takes no scan. Nothing was booked.");
-    if (this.again && !this.wrong.textContent) this.wrong.textContent = `${this.again} It is booked once you say so.`;
+    } else return this.refuse(t`This form takes no scan. Nothing was booked.`);
+    if (this.again && !this.wrong.textContent) this.wrong.textContent = `${this.again} ${t`It is booked once you say so.`}`;
   }
   refuse(why) { this.wrong.textContent = why; tone(); }
 
@@ -255,7 +259,7 @@ class Form {
     const text = code.trim(), lot = isId(text.toUpperCase()) || !text ? null : lotOfSupplier(text), { note } = this.inputs;
     if (text === this.made) return;
     this.made = lot;
-    this.hint.textContent = lot ? `${text} is no id of the desk: the lot is ${lot}, and the code goes into the note.` : "";
+    this.hint.textContent = lot ? t`${text} is no id of the desk: the lot is ${lot}, and the code goes into the note.` : "";
     if (!lot) return;
     this.inputs[field.name].value = lot;
     if (note) note.value = withCode(note.value, text);

@@ -1,6 +1,7 @@
 // The frame: the view that the address names, drawn anew as the desk changes. A place names a view and then, where words or ids follow, a thing in it;
 // a narrow screen has room for the view's list or for the thing.
 
+import { t } from "./texts.js";
 import { counted, grouped } from "./amounts.js";
 import { lengthOfTime, moment } from "./moments.js";
 import { isId } from "./ids.js";
@@ -13,8 +14,8 @@ import { Refusal, desk, want, wantedItems, whyNot } from "./questions.js";
 
 export function more(items, name, what) {
   if (!items.more) return null;
-  const ask = (count) => button(`${grouped(count)} more`, () => { wantedItems.set(name, want(name) + count); show(); });
-  return h("div", { class: "more" }, `The first ${grouped(items.length)}${what || ""} are shown, and there are more.`, ask(PAGE),
+  const ask = (count) => button(t`${grouped(count)} more`, () => { wantedItems.set(name, want(name) + count); show(); });
+  return h("div", { class: "more" }, what ? what(grouped(items.length)) : t`The first ${grouped(items.length)} are shown, and there are more.`, ask(PAGE),
     ask(10 * PAGE));
 }
 
@@ -66,7 +67,7 @@ let showing = 0;
 export async function show() {
   const mine = ++showing, [name, rest] = place();
   markRole(name);
-  const slow = setTimeout(() => tellStatus("", "reading\u2026"), SLOW);
+  const slow = setTimeout(() => tellStatus("", t`reading\u2026`), SLOW);
   try {
     await desk.look();
     const [layout, ...parts] = await VIEWS[name](rest);
@@ -84,7 +85,7 @@ export async function show() {
 // was there of this name before.
 const unread = new Map(), lastRead = new Map();
 export function later(name, read) {
-  const it = h("div", { class: "later" }, none("reading\u2026"));
+  const it = h("div", { class: "later" }, none(t`reading\u2026`));
   unread.set(it, { name, read });
   return it;
 }
@@ -138,34 +139,37 @@ function doDrawn() {
 }
 
 // The way back from a thing to the list that it is in.
-const LISTS_OF = { planner: "the orders", shift: "the batches", warehouse: "the materials", quality: "recalls and holds" };
+const LISTS_OF = { planner: "Back to the orders", shift: "Back to the batches", warehouse: "Back to the materials", quality: "Back to recalls and holds" };
 function drawBack() {
   const [name, rest] = place(), isInside = name === "warehouse" && rest.length > 1, isList = !rest.length || (rest.length === 1 && rest[0] === "place");
   view.classList.toggle("thing", !isList);
   at("back").hidden = isList;
   at("back").href = `#${placeFrom(location.hash, isInside ? `warehouse/${rest[0]}` : name)}`;
-  at("back").textContent = `\u2039 Back to ${!isInside ? LISTS_OF[name] : rest[0] === "place" ? "the places" : `the lots of ${rest[0]}`}`;
+  const text = !isInside ? t(LISTS_OF[name] || "") : rest[0] === "place" ? t`Back to the places` : t`Back to the lots of ${rest[0]}`;
+  at("back").textContent = `\u2039 ${text}`;
 }
 function drawFailure(name, error) {
-  if (error instanceof Refusal) return draw("", [card("Not here", null, none(error.message, " ", link(name, "Back")))]);
-  const why = "The desk doesn't answer. It may be stopped, or the way to it is broken.", again = button("Try again", () => { notice(); show(); });
-  if (drawn !== location.hash) draw("", [card("No answer", null, none(why), h("div", { class: "body" }, again))]);
+  if (error instanceof Refusal) return draw("", [card(t`Not here`, null, none(error.message, " ", link(name, t`Back`)))]);
+  const why = t`The desk doesn't answer. It may be stopped, or the way to it is broken.`, again = button(t`Try again`, () => { notice(); show(); });
+  if (drawn !== location.hash) draw("", [card(t`No answer`, null, none(why), h("div", { class: "body" }, again))]);
   else notice("bad", why, again);
-  tellStatus("bad", "no answer");
+  tellStatus("bad", t`no answer`);
 }
+const clockIsOff = (length) => (desk.offset < 0 ? t`This device's clock is ${length} ahead of that of the desk's machine.`
+  : t`This device's clock is ${length} behind that of the desk's machine.`);
 function drawStatus() {
   const isAhead = desk.moment > desk.time() + 60, isOff = Math.abs(desk.offset) > 60;
   at("clock").hidden = !isOff;
-  at("clock").textContent = isOff ? `This device's clock is ${lengthOfTime(Math.abs(desk.offset))} ${desk.offset < 0 ? "ahead of" : "behind"} that of the desk's `
-    + "machine. Bookings take the machine's time." : "";
-  tellStatus(isAhead ? "warn" : "", desk.seq === 0 ? "no booking yet"
-    : `${counted(desk.seq, "booking", "bookings")}, ${isAhead ? "ahead:" : "last"} ${moment(desk.moment)}`);
-  at("stand").title = isAhead ? "The desk's last booking is later than its machine's clock. Bookings take the desk's moment." : "";
+  at("clock").textContent = isOff ? `${clockIsOff(lengthOfTime(Math.abs(desk.offset)))} ${t`Bookings take the machine's time.`}` : "";
+  const count = counted(desk.seq, "booking", "bookings"), last = moment(desk.moment);
+  tellStatus(isAhead ? "warn" : "", desk.seq === 0 ? t`no booking yet` : isAhead ? t`${count}, ahead: ${last}` : t`${count}, last ${last}`);
+  at("stand").title = isAhead ? t`The desk's last booking is later than its machine's clock. Bookings take the desk's moment.` : "";
 }
+const TITLES = { today: "today^view", planner: "planner^view", shift: "shift^view", warehouse: "warehouse^view", quality: "quality^view", board: "board^view" };
 function markRole(name) {
   for (const it of document.querySelectorAll("header nav a")) {
     if (it.hash === "#" + name) it.setAttribute("aria-current", "page");
     else it.removeAttribute("aria-current");
   }
-  document.title = "Desk: " + name;
+  document.title = t`Desk: ${t(TITLES[name])}`;
 }

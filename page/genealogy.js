@@ -1,7 +1,8 @@
 // The picture of a genealogy: each lot and batch stands to the right of all that it came of.
 
+import { t } from "./texts.js";
 import { counted, grouped } from "./amounts.js";
-import { depthsOf, groupsOf, nameOfNode, productsOf } from "./groups.js";
+import { depthsOf, groupsOf, nameOfNode, nodeInWords, productsOf } from "./groups.js";
 import { h, svg, view } from "./elements.js";
 import { card, cell, link, none, numberCell, row, table } from "./parts.js";
 import { filterChoice, filterOf, onceDrawn } from "./frame.js";
@@ -13,49 +14,49 @@ export function genealogyCard({ back, forward }, here) {
   const nodes = new Map([...back.nodes, ...forward.nodes].map((it) => [nameOfNode(it), it]));
   const named = [...back.edges, ...forward.edges].map((it) => ({ from: nameOfNode(it.from), to: nameOfNode(it.to), amount: it.amount }));
   const edges = [...new Map(named.map((it) => [`${it.from}>${it.to}`, it])).values()];
-  if (nodes.size === 1) return card("Genealogy", null, none("It came of nothing that is booked, and nothing came of it."));
+  if (nodes.size === 1) return card(t`Genealogy`, null, none(t`It came of nothing that is booked, and nothing came of it.`));
   const before = new Set(back.nodes.map(nameOfNode)), isLarge = nodes.size > LARGEST_PICTURE;
   const tools = [h("span", { class: "soft small" }, `${counted(nodes.size - 1, "other", "others")}`),
-    !isLarge && filterChoice("How the genealogy is drawn", "picture", PICTURES)];
+    !isLarge && filterChoice(t`How the genealogy is drawn`, "picture", PICTURES)];
   if (isLarge || filterOf("picture", PICTURES) === "by material") {
-    return card("Genealogy", tools, isLarge && none(`${grouped(nodes.size)} lots and batches are drawn by their materials.`),
+    return card(t`Genealogy`, tools, isLarge && none(t`${grouped(nodes.size)} lots and batches are drawn by their materials.`),
       picturesOfGroups(groupsOf(nodes, edges, here, (it) => before.has(it)), here), edgesList(nodes, edges));
   }
   const made = productsOf(nodes, edges), boxes = new Map([...nodes].map(([name, it]) => [name, boxOf(it, made.get(name), name === here)]));
-  return card("Genealogy", tools, picture(boxes, edges, here), edgesList(nodes, edges));
+  return card(t`Genealogy`, tools, picture(boxes, edges, here), edgesList(nodes, edges));
 }
 const unitOf = (nodes, edge) => nodes.get(edge.from).unit || nodes.get(edge.to).unit || "";
 
 // What is drawn of a lot or a batch, and of a group of them.
 const boxOf = (node, product, isHere) => ({ unit: node.unit, isHere, isOfLots: Boolean(node.lot), tone: node.recalled ? "recalled" : node.held ? "held" : "",
-  texts: [node.lot || node.batch, node.lot ? node.def : product ? `batch of ${product}` : "batch", node.lot ? `${grouped(node.stock)} ${node.unit}` : ""],
-  marks: [node.held && "HELD", node.recalled && "RECALLED"].filter(Boolean).join(" "),
+  texts: [node.lot || node.batch, node.lot ? node.def : product ? t`batch of ${product}` : t`batch`, node.lot ? `${grouped(node.stock)} ${node.unit}` : ""],
+  marks: [node.held && t`HELD`, node.recalled && t`RECALLED`].filter(Boolean).join(" "),
     place: node.lot ? `quality/lot/${node.lot}` : `quality/batch/${node.batch}` });
 function boxOfGroup(it) {
-  const isOne = it.count === 1, [kind, id] = it.first.split(" "), words = it.isOfLots ? ["lot", "lots"] : ["batch", "batches"];
-  const name = isOne ? id : counted(it.count, ...words);
+  const isOne = it.count === 1, [kind, id] = it.first.split(" "), count = it.isOfLots ? counted(it.count, "lot", "lots") : counted(it.count, "batch", "batches");
+  const name = isOne ? id : count;
   return { unit: it.unit, isHere: it.side === "here", isOfLots: it.isOfLots, tone: it.recalled ? "recalled" : it.held ? "held" : "",
-    texts: [name, it.isOfLots ? it.def : it.def ? `of ${it.def}` : "batch", it.isOfLots ? `${grouped(it.stock)} ${it.unit}` : ""],
-    marks: [it.held && [!isOne && grouped(it.held), "HELD"], it.recalled && [!isOne && grouped(it.recalled), "RECALLED"]].flat().filter(Boolean).join(" "),
+    texts: [name, it.isOfLots ? it.def : it.def ? t`of ${it.def}` : t`batch`, it.isOfLots ? `${grouped(it.stock)} ${it.unit}` : ""],
+    marks: [it.held && [!isOne && grouped(it.held), t`HELD`], it.recalled && [!isOne && grouped(it.recalled), t`RECALLED`]].flat().filter(Boolean).join(" "),
     place: isOne ? `quality/${kind}/${id}` : it.def ? `warehouse/${it.def}` : null };
 }
 function picturesOfGroups({ groups, edges, left }, here) {
   const boxes = new Map([...groups].map(([key, it]) => [key, boxOfGroup(it)]));
-  const sides = { back: "before it", here: "itself", forward: "of it" };
+  const sides = { back: t`before it`, here: t`itself`, forward: t`of it` };
   const sorted = [...groups.values()].sort((a, b) => a.depth - b.depth || (a.def < b.def ? -1 : 1));
-  const rows = sorted.map((it) => row(it.key, [cell(sides[it.side]), cell(it.isOfLots ? "lots" : "batches"), cell(it.def), numberCell(it.count),
+  const rows = sorted.map((it) => row(it.key, [cell(sides[it.side]), cell(it.isOfLots ? t`lots` : t`batches`), cell(it.def), numberCell(it.count),
     it.isOfLots ? numberCell(it.stock, it.unit) : cell(), numberCell(it.held), numberCell(it.recalled)]));
-  const backwards = left > 0 && none(`${counted(left, "step", "steps")} back to an earlier material, not drawn.`);
-  const heads = ["Came", "What", "Material", "#Count", "#In stock", "#On hold", "#Recalled"];
-  return [picture(boxes, edges, here), backwards, h("details", {}, h("summary", {}, "The materials as a table"), table(heads, rows, ""))];
+  const backwards = left > 0 && none(t`${counted(left, "step", "steps")} back to an earlier material, not drawn.`);
+  const heads = ["Came^side", "What", "Material", "#Count", "#In stock", "#On hold", "#Recalled"];
+  return [picture(boxes, edges, here), backwards, h("details", {}, h("summary", {}, t`The materials as a table`), table(heads, rows, ""))];
 }
 
 // The edges in words, for those who can't see the picture.
 function edgesList(nodes, edges) {
-  const place = (name) => link("quality/" + name.replace(" ", "/"), name);
+  const place = (name) => link("quality/" + name.replace(" ", "/"), nodeInWords(name));
   const cells = (it) => [cell(place(it.from)), numberCell(it.amount, unitOf(nodes, it)), cell(place(it.to))];
   const rows = edges.slice(0, MOST_STEPS).map((it) => row(`${it.from}>${it.to}`, cells(it)));
-  const title = edges.length > MOST_STEPS ? `The first ${grouped(MOST_STEPS)} steps in words` : "The steps in words";
+  const title = edges.length > MOST_STEPS ? t`The first ${grouped(MOST_STEPS)} steps in words` : t`The steps in words`;
   return h("details", { class: "noprint" }, h("summary", {}, title), table(["From", "#Amount", "To"], rows, ""));
 }
 const MOST_STEPS = 1000;
@@ -80,7 +81,7 @@ function picture(boxes, edges, here) {
   const tall = Math.max(...columns.map((it) => it.length));
   const x = (name) => 8 + depth.get(name) * (width + BOX.across), y = (name) => 8 + (rows.get(name) + tall / 2 - 0.5) * (BOX.high + BOX.down);
   const wide = 16 + columns.length * (width + BOX.across) - BOX.across, high = 16 + tall * (BOX.high + BOX.down) - BOX.down;
-  const it = svg("svg", { width: wide, height: high, viewBox: `0 0 ${wide} ${high}`, role: "img", "aria-label": `Genealogy of ${here}` },
+  const it = svg("svg", { width: wide, height: high, viewBox: `0 0 ${wide} ${high}`, role: "img", "aria-label": t`Genealogy of ${nodeInWords(here)}` },
     svg("defs", {}, svg("marker", { id: "tip", viewBox: "0 0 8 8", refX: 8, refY: 4, markerWidth: 8, markerHeight: 8, orient: "auto" },
       svg("path", { class: "tip", d: "M0 0L8 4L0 8z" }))),
     edges.map((edge) => edgeLine(x(edge.from) + width, y(edge.from) + BOX.high / 2, x(edge.to), y(edge.to) + BOX.high / 2)),
@@ -89,7 +90,7 @@ function picture(boxes, edges, here) {
     [...boxes].map(([name, box]) => nodeBox(box, x(name), y(name), width)));
   // A picture that is a little too wide is made smaller; a wider one is scrolled.
   Object.assign(it.style, { maxWidth: "100%", minWidth: `${Math.round(wide * 0.75)}px`, height: "auto" });
-  return scrolledToHere(h("div", { class: "picture", tabindex: 0, role: "group", "aria-label": "Picture, can be scrolled",
+  return scrolledToHere(h("div", { class: "picture", tabindex: 0, role: "group", "aria-label": t`Picture, can be scrolled`,
     "data-of": `${here} ${boxes.size}` }, it));
 }
 // A picture begins at what is looked at, and is left where it was scrolled to as long as it is of that.

@@ -1,6 +1,13 @@
 // Genealogies: how far each node is from the beginning, and large ones by their materials.
 
+import { t } from "./texts.js";
+
+// A node by its name, which has what it is; and as it is read.
 export const nameOfNode = (node) => (node.lot ? "lot " + node.lot : "batch " + node.batch);
+export function nodeInWords(name) {
+  const [kind, id] = name.split(" ");
+  return kind === "lot" ? t`lot ${id}` : t`batch ${id}`;
+}
 
 // The column of each node: behind those of all that lead to it. What is on a cycle, as in no desk, has none.
 export function depthsOf(names, edges) {

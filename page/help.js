@@ -1,11 +1,14 @@
 // Help: the keys, and the words of the desk. It asks the desk nothing, so that it is there while the desk is down.
 
+import { t } from "./texts.js";
 import { h } from "./elements.js";
+import { chooseLanguage, languages, spokenName } from "./language.js";
+import { choice } from "./parts.js";
 import { openDialog } from "./forms.js";
 
-const KEYS_OF_VIEWS = [["0", "today"], ["1", "planner"], ["2", "shift"], ["3", "warehouse"], ["4", "quality"]];
-const OTHER_KEYS = [["/", "find a lot, a batch, an order or a recall"], ["n", "to the button of a batch's next phase"], ["r", "look again"], ["?", "this help"],
-  ["Esc", "close a form, leave the board"], ["Enter", "to the next field of a form; books in the last one"]];
+const KEYS = { 0: "today^view", 1: "planner^view", 2: "shift^view", 3: "warehouse^view", 4: "quality^view",
+  "/": "find a lot, a batch, an order or a recall", n: "to the button of a batch's next phase", r: "look again", "?": "this help",
+  Esc: "close a form, leave the board", Enter: "to the next field of a form; books in the last one" };
 
 const SCANS = "A scanner works wherever the cursor is, and books nothing: at a batch it opens the form with the scanned lot, in a form it chooses the lot, "
   + "elsewhere it finds.";
@@ -52,12 +55,12 @@ const WORDS = {
 };
 
 export function help() {
-  const key = ([name, what]) => h("p", {}, h("kbd", {}, name), " ", what);
-  const words = Object.entries(WORDS).map(([about, all]) => [h("h3", {}, about),
-    h("dl", {}, Object.entries(all).map(([name, what]) => [h("dt", {}, name), h("dd", {}, what)]))]);
-  const end = h("div", { class: "end" }, h("button", { class: "main" }, "Close"));
-  const it = h("form", { method: "dialog", class: "help" }, h("h2", { id: "title" }, "Keys and help"), h("div", { class: "keys" },
-    [...KEYS_OF_VIEWS, ...OTHER_KEYS].map(key)),
-    h("p", { class: "soft" }, SCANS), h("p", { class: "soft" }, BOOKINGS), h("h2", {}, "Words"), words, end);
-  openDialog(it, it.querySelector("button"));
+  const key = ([name, what]) => h("p", {}, h("kbd", {}, name), " ", t(what));
+  const words = Object.entries(WORDS).map(([about, all]) => [h("h3", {}, t(about)),
+    h("dl", {}, Object.entries(all).map(([name, what]) => [h("dt", {}, t(name)), h("dd", {}, t(what))]))]);
+  const end = h("div", { class: "end" }, h("button", { class: "main" }, t`Close`));
+  const it = h("form", { method: "dialog", class: "help" }, h("h2", { id: "title" }, t`Keys and help`),
+    h("p", { class: "row" }, choice(t`Language`, languages, spokenName(), chooseLanguage)), h("div", { class: "keys" }, Object.entries(KEYS).map(key)),
+    h("p", { class: "soft" }, t(SCANS)), h("p", { class: "soft" }, t(BOOKINGS)), h("h2", {}, t`Words`), words, end);
+  openDialog(it, end.firstChild);
 }

@@ -1,5 +1,6 @@
 // All inputs of a batch as asked: one form has what is left of each, and the lots that it would be taken of. One press books them, one after the other.
 
+import { t } from "./texts.js";
 import { counted, grouped } from "./amounts.js";
 import { PAGE } from "./cursors.js";
 import { LOST, cameInWords, keyOfPart, placeOfPart } from "./words.js";
@@ -44,14 +45,14 @@ class Plan {
   // The bookings that it comes to, and all of it as a text, by which two plans are compared.
   bookings(note) {
     return this.inputs.flatMap((input) => this.taken(input).taken.map(({ lot, sub, amount }) => ({ input, amount,
-      what: `${grouped(amount)} ${input.unit} of ${lot} consumed`, fields: noted({ do: "consume", batch: this.id, lot, sub, amount }, note) })));
+      what: t`${grouped(amount)} ${input.unit} of ${lot} consumed`, fields: noted({ do: "consume", batch: this.id, lot, sub, amount }, note) })));
   }
   text() { return JSON.stringify(this.inputs.map((it) => [it.def, it.booked, this.taken(it).short, this.bookings().map((one) => one.fields)])); }
 
   // Shows it. Of the parts those are shown that are taken or ticked off.
   draw() {
     const name = document.activeElement.getAttribute("aria-label");
-    this.element.replaceChildren(...(this.inputs.length ? this.inputs.map((it) => this.inputBox(it)) : [h("p", { class: "soft" }, "Nothing is left to book.")]));
+    this.element.replaceChildren(...(this.inputs.length ? this.inputs.map((it) => this.inputBox(it)) : [h("p", { class: "soft" }, t`Nothing is left to book.`)]));
     const again = name && [...this.element.querySelectorAll("input")].find((it) => it.getAttribute("aria-label") === name);
     if (again) again.focus();
   }
@@ -59,8 +60,8 @@ class Plan {
     const { taken, short } = this.taken(input), amounts = new Map(taken.map((it) => [keyOfPart(it), it.amount])), { def, name, unit, left, asked } = input;
     const shown = input.parts.filter((it) => amounts.has(keyOfPart(it)) || !this.isOn(it));
     return h("section", { class: "input" }, h("h3", {}, def, name && [" ", h("span", { class: "soft small" }, name)]),
-      h("p", { class: "soft small" }, `${grouped(left)} ${unit} left${left === asked ? "" : ` of ${grouped(asked)} ${unit}`}`,
-        short > 0 && [" ", pill(`${grouped(short)} ${unit} short`, "bad")]),
+      h("p", { class: "soft small" }, left === asked ? t`${grouped(left)} ${unit} left` : t`${grouped(left)} ${unit} left of ${grouped(asked)} ${unit}`,
+        short > 0 && [" ", pill(t`${grouped(short)} ${unit} short`, "bad")]),
       shown.map((it) => this.partBox(it, amounts.get(keyOfPart(it)) || 0, unit)));
   }
   partBox(part, amount, unit) {
@@ -68,9 +69,8 @@ class Plan {
       if (event.target.checked) this.off.delete(key); else this.off.add(key);
       this.draw();
     };
-    const all = amount < part.stock ? ` of ${grouped(part.stock)}` : "";
-    return h("label", { class: "part" }, h("input", { type: "checkbox", checked: this.isOn(part), "aria-label": `Take ${key}`, onchange: tick }),
-      h("span", {}, `${placeOfPart(part)}${cameInWords(part)}`), h("b", {}, amount ? `${grouped(amount)}${all} ${unit}` : "none"));
+    return h("label", { class: "part" }, h("input", { type: "checkbox", checked: this.isOn(part), "aria-label": t`Take ${key}`, onchange: tick }),
+      h("span", {}, `${placeOfPart(part)}${cameInWords(part)}`), h("b", {}, !amount ? t`none` : amount < part.stock ? t`${grouped(amount)} of ${grouped(part.stock)} ${unit}` : `${grouped(amount)} ${unit}`));
   }
 }
 
@@ -78,22 +78,23 @@ class Plan {
 // again, and before each booking that nobody else booked of the input.
 async function bookPlan(plan, note, isWanted) {
   const before = plan.text();
-  try { await plan.read(); } catch (error) { return `${whyNot(error)} Nothing was booked.`; }
-  if (plan.text() !== before) return "What is booked or in stock has changed meanwhile. Look at the amounts, and press once more.";
+  try { await plan.read(); } catch (error) { return `${whyNot(error)} ${t`Nothing was booked.`}`; }
+  if (plan.text() !== before) return t`What is booked or in stock has changed meanwhile. Look at the amounts, and press once more.`;
   const bookings = plan.bookings(note), booked = new Map(plan.inputs.map((it) => [it.def, it.booked]));
-  if (!bookings.length) return "There is nothing that could be booked.";
+  if (!bookings.length) return t`There is nothing that could be booked.`;
   const why = async (k) => {
     const { input, amount } = bookings[k], line = (await desk.linesNow(plan.id)).find((it) => it.kind === "in" && it.def === input.def);
-    if (!isWanted()) return "The form was closed.";
-    if (line.booked !== booked.get(input.def)) return `Somebody else booked ${input.def} on the batch meanwhile.`;
+    if (!isWanted()) return t`The form was closed.`;
+    if (line.booked !== booked.get(input.def)) return t`Somebody else booked ${input.def} on the batch meanwhile.`;
     booked.set(input.def, line.booked + amount);
     return null;
   };
   const { count, wrong } = await bookEach(bookings, why);
-  const far = `${grouped(count)} of ${counted(bookings.length, "booking", "bookings")} on ${plan.id} ${count === 1 ? "is" : "are"} booked`;
-  if (!wrong) { notice("good", `${far}. The last is number ${grouped(desk.seq)}.`); return null; }
+  const number = grouped(count), all = counted(bookings.length, "booking", "bookings");
+  const far = count === 1 ? t`${number} of ${all} on ${plan.id} is booked` : t`${number} of ${all} on ${plan.id} are booked`;
+  if (!wrong) { notice("good", `${far}. ${t`The last is number ${grouped(desk.seq)}.`}`); return null; }
   if (wrong === LOST) {
-    notice("bad", `${far}. No answer came to the next one: send it again, and then book the rest.`);
+    notice("bad", `${far}. ${t`No answer came to the next one: send it again, and then book the rest.`}`);
     return LOST;
   }
   if (isWanted()) await plan.read().catch(() => {}); else notice("bad", `${far}. ${wrong}`);
@@ -103,8 +104,8 @@ async function bookPlan(plan, note, isWanted) {
 export async function bookInputs(id) {
   const plan = new Plan(id);
   try { await plan.read(); } catch (error) { return notice("bad", whyNot(error)); }
-  const fields = [say("The oldest lots first. A tick that is taken away leaves a lot out."), ownField(plan.element), noteField("Note on each booking, if any")];
+  const fields = [say(t`The oldest lots first. A tick that is taken away leaves a lot out.`), ownField(plan.element), noteField(t`Note on each booking, if any`)];
   let mine = null;
-  form(`Book all inputs of ${id} as asked`, fields, "Book all", ({ note }) => bookPlan(plan, note, () => openForm() === mine));
+  form(t`Book all inputs of ${id} as asked`, fields, t`Book all`, ({ note }) => bookPlan(plan, note, () => openForm() === mine));
   mine = openForm();
 }

@@ -1,5 +1,6 @@
 // A field for a lot: it is scanned, typed, or chosen of a list. That only chooses it; to book is another press.
 
+import { t } from "./texts.js";
 import { PAGE } from "./cursors.js";
 import { keyOfPart, partInWords } from "./words.js";
 import { lotOf } from "./scans.js";
@@ -9,7 +10,7 @@ import { desk, whyNot } from "./questions.js";
 
 // The parts of a lot that have stock, each with when the lot came, and with what bars it from being consumed, split and merged.
 export const partsOfLot = (lot) => lot.sublots.filter((it) => it.stock > 0).map((it) => ({ lot: lot.lot, sub: it.no, stock: it.stock, place: it.place,
-  at: lot.at, barred: lot.held ? "on hold" : lot.recalled ? "recalled" : "" }));
+  at: lot.at, barred: lot.held ? t`on hold` : lot.recalled ? t`recalled` : "" }));
 
 // The parts of a material that are in stock, the oldest first and what is barred last: those of a page of lots, and where nothing of these is free, of
 // further ones until something is. `more` says whether there are others.
@@ -34,33 +35,36 @@ export async function lotNow(id) {
   return wholeLot(id);
 }
 
+// What is said where a lot, or its part of a number, has no stock.
+export const nothingIn = (id, sub) => (sub === null ? t`There is nothing in lot ${id}.` : t`There is nothing in part ${sub} of lot ${id}.`);
+
 // The part that a code names, followed by the others of its lot; or in words why it can't be taken.
 async function partsNamed(code, { def, mayBeBarred }) {
   const { lot: id, sub } = lotOf(code), lot = await lotNow(id);
-  if (!lot) return `There is no lot ${id || code}.`;
-  if (lot.def !== def) return `Lot ${id} is ${lot.def}, and not ${def}.`;
+  if (!lot) return t`There is no lot ${id || code}.`;
+  if (lot.def !== def) return t`Lot ${id} is ${lot.def}, and not ${def}.`;
   const parts = partsOfLot(lot), meant = sub === null ? parts[0] : parts.find((it) => it.sub === sub);
-  if (!meant) return `There is nothing in ${sub === null ? "lot" : `part ${sub} of lot`} ${id}.`;
-  if (meant.barred && !mayBeBarred) return `Lot ${id} is ${meant.barred}.`;
+  if (!meant) return nothingIn(id, sub);
+  if (meant.barred && !mayBeBarred) return t`Lot ${id} is ${meant.barred}.`;
   return [meant, ...parts.filter((it) => it !== meant)];
 }
 
-const ATTRIBUTES = { "data-id": true, maxlength: 28, autocapitalize: "characters", autocomplete: "off", spellcheck: "false",
-  placeholder: "such as F-1, or F-1/2 for its part 2" };
+const ATTRIBUTES = { "data-id": true, maxlength: 28, autocapitalize: "characters", autocomplete: "off", spellcheck: "false" };
 
 export class LotChoice {
   // `field` has the material and its unit, the parts to choose from, and the part that is chosen at first. `told` is called once another one is, and may
   // give the field that is next.
   constructor(field, told) {
     Object.assign(this, { field, told, part: field.part || null, seen: "", looking: null, known: new Map() });
-    this.input = h("input", { name: field.name, ...ATTRIBUTES, required: !field.part && !field.isOptional, oninput: () => this.typed(), onchange: () => this.look() });
+    this.input = h("input", { name: field.name, ...ATTRIBUTES, placeholder: t`such as F-1, or F-1/2 for its part 2`, required: !field.part && !field.isOptional, oninput: () => this.typed(), onchange: () => this.look() });
     this.list = h("select", { name: `${field.name}-list`, onchange: () => this.choose(this.known.get(this.list.value) || null, true) },
-      h("option", { value: "" }, "none of these"));
+      h("option", { value: "" }, t`none of these`));
     this.said = h("p", { class: "said", role: "status" });
     this.wrong = h("p", { class: "wrong", role: "alert" });
     this.offer(field.parts || []);
     this.element = h("div", { class: "lot" }, h("label", {}, field.label, this.input),
-      h("label", {}, `Or one of those in stock, the oldest first${field.parts?.more ? "; younger ones are scanned or typed" : ""}`, this.list), this.said, this.wrong);
+      h("label", {}, field.parts?.more ? t`Or one of those in stock, the oldest first; younger ones are scanned or typed` : t`Or one of those in stock, the oldest first`,
+        this.list), this.said, this.wrong);
     this.draw();
   }
 

@@ -1,5 +1,6 @@
 // Paper: what is printed of a dialog that shows it, such as labels, without the rest of the page.
 
+import { t } from "./texts.js";
 import { bars, moduleFor } from "./barcode.js";
 import { at, dialog, h, svg } from "./elements.js";
 import { button } from "./parts.js";
@@ -9,14 +10,14 @@ import { openDialog } from "./forms.js";
 export function barcode(text, room, high) {
   const { path, width } = bars(text), module = moduleFor(width, room);
   return svg("svg", { class: "bars", width: `${width * module}mm`, height: `${high}mm`, viewBox: `0 0 ${width} 1`, preserveAspectRatio: "none", role: "img",
-    "aria-label": `Bar code of ${text}`, "shape-rendering": "crispEdges" }, svg("path", { d: path }));
+    "aria-label": t`Bar code of ${text}`, "shape-rendering": "crispEdges" }, svg("path", { d: path }));
 }
 
 // Opens a dialog that shows what can be printed; `top` is what each page has at its top, if anything, and `tools` are further buttons.
 let topOfPages = null;
 export function openPaper(title, content, top = null, tools = []) {
   topOfPages = top;
-  const print = button("Print", () => globalThis.print(), "main"), away = button("Close", () => dialog.close());
+  const print = button(t`Print`, () => globalThis.print(), "main"), away = button(t`Close`, () => dialog.close());
   openDialog(h("form", { method: "dialog", class: "preview" }, h("h2", { id: "title" }, title), h("div", { class: "sheets" }, content),
     h("div", { class: "end" }, tools, away, print)), print);
 }

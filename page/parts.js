@@ -1,5 +1,6 @@
 // Parts of views.
 
+import { t } from "./texts.js";
 import { excess, grouped } from "./amounts.js";
 import { moment } from "./moments.js";
 import { placeFrom } from "./addresses.js";
@@ -21,8 +22,9 @@ export const pill = (text, tone) => h("span", { class: "pill " + (tone || "") },
 export const button = (label, press, style, more) => h("button", { type: "button", class: style, onclick: press, ...more }, label);
 export const fact = (name, ...value) => h("div", {}, name, h("b", {}, ...value));
 export const facts = (...all) => h("div", { class: "body" }, h("div", { class: "facts" }, all));
+// A choice among words, which are said as the language has them.
 export const choice = (name, options, on, pick) => h("div", { class: "choice", role: "group", "aria-label": name },
-  options.map((it) => button(it, () => pick(it), null, { "aria-pressed": String(it === on) })));
+  options.map((it) => button(t(it), () => pick(it), null, { "aria-pressed": String(it === on) })));
 
 // Places of the view that is shown keep its filters.
 const hashOf = (place) => `#${placeFrom(location.hash, place)}`;
@@ -31,12 +33,13 @@ export const lotLink = (id, sub) => [link("quality/lot/" + id, id), sub ? "/" + 
 export const batchLink = (id) => link("shift/" + id, id);
 export function go(...parts) { location.hash = hashOf(parts.filter(Boolean).join("/")); }
 
-// A table. A head that begins with # is of numbers; a row is made by `row`. On a narrow screen a row stands as a block of named values. `sorts` has the
+// A table, whose heads are said as the language has them. A head that begins with # is of numbers; a row is made by `row`. On a narrow screen a row stands as a block of named values. `sorts` has the
 // heads by which it can be sorted: whether it is, by this one, `up`, `down` or not, and what a press does.
 export function table(heads, rows, without, isShort, sorts = {}) {
   if (!rows.length) return none(without);
-  for (const it of rows) [...it.children].forEach((cell, k) => { cell.dataset.label = heads[k].replace("#", ""); });
-  const head = heads.map((text) => headCell(text.replace("#", ""), text.startsWith("#"), sorts[text]));
+  const names = heads.map((text) => t(text.replace("#", "")));
+  for (const it of rows) [...it.children].forEach((cell, k) => { cell.dataset.label = names[k]; });
+  const head = heads.map((text, k) => headCell(names[k], text.startsWith("#"), sorts[text]));
   return h("div", { class: "wide" }, h("table", { class: isShort ? null : "block" }, h("thead", {}, h("tr", {}, head)),
     h("tbody", {}, rows)));
 }
@@ -45,7 +48,7 @@ function headCell(text, isOfNumbers, sort) {
   if (!sort) return h("th", kind, text);
   const sign = { up: " \u25b4", down: " \u25be" }[sort.way] || "";
   return h("th", { ...kind, "aria-sort": { up: "ascending", down: "descending" }[sort.way] || "none" },
-    button(text + sign, sort.press, "sort", { "aria-label": `Sort by ${text}` }));
+    button(text + sign, sort.press, "sort", { "aria-label": t`Sort by ${text}` }));
 }
 // What stands in a cell is one element, which stays together on a narrow screen; of an empty cell it is none.
 const whole = (content) => (content.flat(9).some((it) => it || it === 0) ? h("span", {}, content) : null);
@@ -61,17 +64,17 @@ export const cell = (...content) => h("td", {}, whole(content));
 export const idCell = (...content) => h("td", { class: "id" }, whole(content));
 export const numberCell = (n, unit) => h("td", { class: "num" }, h("span", {}, grouped(n), unit ? " " + unit : ""));
 // How much more than was asked is booked of a line, in red; before it what is booked, where that is wanted.
-export const overCell = (line, booked) => h("td", { class: "num" }, h("span", { class: "over" }, booked, `over ${grouped(excess(line))} ${line.unit}`));
+export const overCell = (line, booked) => h("td", { class: "num" }, h("span", { class: "over" }, booked, t`over ${grouped(excess(line))} ${line.unit}`));
 export const momentCell = (seconds) => h("td", { class: "when" }, moment(seconds));
 export const buttonsCell = (...buttons) => h("td", { class: "do" }, h("div", {}, buttons));
 
 export function firstSteps() {
   const step = (place, name, ...text) => h("li", {}, link(place, name), ": ", ...text);
-  return card("This desk is new", null, h("div", { class: "body" }, h("ol", {},
-    step("warehouse", "Warehouse", "make a class, such as RAW, and in it the materials, each with the unit in which it is counted."),
-    step("planner", "Planner", "write a recipe and approve it. Then take orders in."),
-    step("warehouse", "Warehouse", "receive lots of what goes in."),
-    step("planner", "Planner", "release an order, which makes its batch."),
-    step("shift", "Shift", "start the batch, book what goes in and comes out, do its phases, and close it."),
-    step("quality", "Quality", "see where goods came from and went; hold and recall them."))));
+  return card(t`This desk is new`, null, h("div", { class: "body" }, h("ol", {},
+    step("warehouse", t`Warehouse`, t`make a class, such as RAW, and in it the materials, each with the unit in which it is counted.`),
+    step("planner", t`Planner`, t`write a recipe and approve it. Then take orders in.`),
+    step("warehouse", t`Warehouse`, t`receive lots of what goes in.`),
+    step("planner", t`Planner`, t`release an order, which makes its batch.`),
+    step("shift", t`Shift`, t`start the batch, book what goes in and comes out, do its phases, and close it.`),
+    step("quality", t`Quality`, t`see where goods came from and went; hold and recall them.`))));
 }

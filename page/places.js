@@ -1,7 +1,8 @@
 // What is at a place: the parts of lots in stock, by where they are.
 
+import { t } from "./texts.js";
 import { counted, grouped } from "./amounts.js";
-import { ageInDays, dayOf } from "./moments.js";
+import { ageInDays, dated, dayOf } from "./moments.js";
 import { partsByPlace } from "./taking.js";
 import { h } from "./elements.js";
 import { button, buttonsCell, card, cell, choice, go, idCell, link, listed, lotLink, none, numberCell, pill, row, table } from "./parts.js";
@@ -13,13 +14,13 @@ import { moveGoods, scrap } from "./goods.js";
 
 // By what the warehouse lists its goods.
 const GOODS_BY = ["by material", "by place"];
-export const byChoice = (by) => h("div", { class: "body row filter" }, choice("By what goods are listed", GOODS_BY, by,
+export const byChoice = (by) => h("div", { class: "body row filter" }, choice(t`By what goods are listed`, GOODS_BY, by,
   (it) => go("warehouse", it === "by place" && "place")));
 
 // The day on which a lot came, and how old it is.
 export function cameCell(at) {
   const age = at !== null && h("div", { class: "soft small" }, ageInDays(at, desk.time()));
-  return h("td", { class: "when" }, h("span", {}, dayOf(at), age));
+  return h("td", { class: "when" }, h("span", {}, dated(dayOf(at)), age));
 }
 
 // The parts of all lots in stock, of so many materials and lots at most, each with its material and unit; `left` has the materials that aren't read.
@@ -31,29 +32,29 @@ async function allParts() {
     if (count + lots > MOST_READ_LOTS) { left.push(def); continue; }
     count += lots;
     for (const lot of await desk.stock(def, Infinity)) {
-      const barred = lot.held ? "on hold" : lot.recalled ? "recalled" : "";
+      const barred = lot.held ? t`on hold` : lot.recalled ? t`recalled` : "";
       parts.push(...lot.sublots.filter((it) => it.stock > 0).map((it) => ({ ...it, ...lot, stock: it.stock, sub: it.no, def, name, unit, barred })));
     }
   }
   return { parts, left };
 }
 
-export const placeLink = (place, text) => link(`warehouse/place/${encodeURIComponent(place)}`, text || place || "no place");
+export const placeLink = (place, text) => link(`warehouse/place/${encodeURIComponent(place)}`, text || place || t`no place`);
 
 export async function places(shown) {
   const { parts, left } = await allParts(), all = partsByPlace(parts), at = shown ?? (isNarrow() ? undefined : all[0]?.place);
   const rows = all.map((it) => row(encodeURIComponent(it.place), [cell(placeLink(it.place)), numberCell(it.parts.length), numberCell(it.materials)],
     `warehouse/place/${encodeURIComponent(it.place)}`, it.place === at));
-  const list = card("Places", null, byChoice("by place"), table(["Place", "#Parts", "#Materials"], rows, "Nothing is in stock.", true),
-    left.length > 0 && none(`These materials have too many lots to be read here: ${left.join(", ")}.`));
+  const list = card(t`Places`, null, byChoice("by place"), table(["Place", "#Parts", "#Materials"], rows, t`Nothing is in stock.`, true),
+    left.length > 0 && none(t`These materials have too many lots to be read here: ${left.join(", ")}.`));
   return ["list", listed(list), at !== undefined && h("div", { class: "stack" }, placeCard(at, all.find((it) => it.place === at)?.parts || []))];
 }
 
 // What is at one place, the oldest first, and what it comes to.
 function placeCard(place, parts) {
   const name = place || "no place", marks = (it) => it.barred && [" ", pill(it.barred, it.held ? "warn" : "bad")];
-  const buttons = (it) => [button("Label", () => showLabels(it.lot, it.sub)), button("Move", () => moveGoods(it, it)),
-    button("Scrap", () => scrap(it, it), "bad")];
+  const buttons = (it) => [button(t`Label`, () => showLabels(it.lot, it.sub)), button(t`Move`, () => moveGoods(it, it)),
+    button(t`Scrap`, () => scrap(it, it), "bad")];
   const rows = parts.map((it) => row(`${it.lot}/${it.sub}`, [idCell(lotLink(it.lot, it.sub), marks(it)),
     cell(link("warehouse/" + it.def, it.def), it.name && h("div", { class: "soft small" }, it.name)), cameCell(it.at), numberCell(it.stock, it.unit),
     buttonsCell(buttons(it))]));
@@ -61,7 +62,7 @@ function placeCard(place, parts) {
   for (const it of parts) totals.set(it.def, { ...it, sum: (totals.get(it.def)?.sum || 0) + it.stock });
   const sums = [...totals.values()].map((it) => row(`total ${it.def}`, [idCell(it.def), numberCell(it.sum, it.unit)]));
   const csv = csvButton("stands", `place-${name}`, () => parts.map((it) => ({ ...it, place, seen: "" })));
-  return card(place ? `At ${place}` : "At no place", parts.length > 0 && [h("span", { class: "soft small" }, counted(parts.length, "part", "parts")), csv],
-    table(["Lot and part", "Material", "Came", "#Stock", ""], rows, "Nothing in stock is there."),
-    parts.length > 0 && [h("h3", {}, "In all"), table(["Material", "#Stock"], sums, "", true)]);
+  return card(place ? t`At ${place}` : t`At no place`, parts.length > 0 && [h("span", { class: "soft small" }, counted(parts.length, "part", "parts")), csv],
+    table(["Lot and part", "Material", "Came", "#Stock", ""], rows, t`Nothing in stock is there.`),
+    parts.length > 0 && [h("h3", {}, t`In all`), table(["Material", "#Stock"], sums, "", true)]);
 }

@@ -1,6 +1,7 @@
 // Plots: bars and a line over days, in SVG, each with its values as a table.
 
-import { grouped } from "./amounts.js";
+import { t } from "./texts.js";
+import { grouped, marked } from "./amounts.js";
 import { roundUp } from "./figures.js";
 import { h, svg } from "./elements.js";
 import { cell, numberCell, row, table } from "./parts.js";
@@ -31,7 +32,7 @@ function plot(said, values, top, lines, unit, inner) {
 const SIZES = [[1e12, "T"], [1e9, "G"], [1e6, "M"], [1e4, "k"]];
 function shortly(n) {
   const [size, word] = SIZES.find(([it]) => n >= it) || [1, ""], of = word === "k" ? 1e3 : size;
-  return grouped(Number((n / of).toPrecision(3))) + word;
+  return marked(grouped(Number((n / of).toPrecision(3)))) + word;
 }
 
 const thick = (across) => Math.max(1, Math.min(32, across * 0.76));
@@ -56,7 +57,7 @@ export function stepPlot(said, values, unit = "") {
 
 // The values in words, for those who can't see the plot.
 export function valuesOf(what, heads, rows) {
-  return h("details", { class: "noprint" }, h("summary", { "aria-label": `${what}: the values as a table` }, "The values as a table"), table(heads, rows,
+  return h("details", { class: "noprint" }, h("summary", { "aria-label": t`${what}: the values as a table` }, t`The values as a table`), table(heads, rows,
     "", true));
 }
 export const valueRow = (name, ...values) => row(`value ${name}`, [cell(name), ...values.map(([n, unit]) => numberCell(n, unit))]);

@@ -1,5 +1,6 @@
 // What the desk is asked, one request after the other: the desk serves one at a time.
 
+import { t } from "./texts.js";
 import { clock, clockOffset, day } from "./moments.js";
 import { idBefore } from "./ids.js";
 import { PAGE, readPage } from "./cursors.js";
@@ -10,7 +11,7 @@ import { plainly } from "./words.js";
 export class Refusal extends Error {
   constructor(answer) { super(plainly(answer)); this.answer = answer; }
 }
-export const whyNot = (error) => (error instanceof Refusal ? error.message : "The desk doesn't answer.");
+export const whyNot = (error) => (error instanceof Refusal ? error.message : t`The desk doesn't answer.`);
 
 const SECONDS = 40;
 let tail = Promise.resolve();

@@ -1,5 +1,6 @@
 // Recipes: their lines, as they are written in the form and as the desk tells them.
 
+import { t } from "./texts.js";
 import { isId } from "./ids.js";
 
 export const LINES_HINT = "One to a line: in MATERIAL AMOUNT, out MATERIAL AMOUNT, par NAME VALUE, phase UNIT OPERATION PHASE.";
@@ -11,7 +12,7 @@ export function recipeLines(text) {
   for (const [k, line] of text.split("\n").entries()) {
     if (!line.trim()) continue;
     const read = recipeLine(line.trim().split(/\s+/));
-    if (!read) return [null, `Line ${k + 1} can't be read. ${LINES_HINT}`];
+    if (!read) return [null, `${t`Line ${k + 1} can't be read.`} ${t(LINES_HINT)}`];
     lines.push(read);
   }
   return [lines, null];

@@ -1,8 +1,10 @@
 // Lists that are saved as files.
 
+import { t } from "./texts.js";
 import { counted } from "./amounts.js";
 import { COLUMNS, csvOf, rowsOf, separatorOf } from "./csv.js";
 import { h } from "./elements.js";
+import { numbersOf } from "./language.js";
 import { button, notice } from "./parts.js";
 import { Refusal, desk } from "./questions.js";
 import { show } from "./frame.js";
@@ -17,15 +19,15 @@ function save(name, text) {
 
 async function saveList(list, name, read) {
   const isNew = await desk.look(), rows = rowsOf(await read(), COLUMNS[list]), file = `${name}-${desk.today()}.csv`;
-  save(file, csvOf(rows, separatorOf(navigator.language)));
+  save(file, csvOf(rows, separatorOf(numbersOf())));
   if (isNew) await show();
-  notice("good", `${counted(rows.length - 1, "row", "rows")} saved as ${file}.`);
+  notice("good", t`${counted(rows.length - 1, "row", "rows")} saved as ${file}.`);
 }
 
 // The button of a card that saves its list. `read` gives all items, also those that aren't shown.
-export const csvButton = (list, name, read) => button("CSV", async () => {
-  notice("", "Reading the list\u2026");
+export const csvButton = (list, name, read) => button(t`CSV`, async () => {
+  notice("", t`Reading the list\u2026`);
   try { await saveList(list, name, read); } catch (error) {
-    notice("bad", error instanceof Refusal ? error.message : "The desk doesn't answer. Nothing was saved.");
+    notice("bad", error instanceof Refusal ? error.message : t`The desk doesn't answer. Nothing was saved.`);
   }
-}, null, { "aria-label": `CSV of ${name}`, title: "Save the list for a spreadsheet" });
+}, null, { "aria-label": t`CSV of ${name}`, title: t`Save the list for a spreadsheet` });

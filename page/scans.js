@@ -1,5 +1,6 @@
 // Codes of scanners, which come as keys: what a scanner typed and what a person, and which lot a code names.
 
+import { t } from "./texts.js";
 import { idOf, isId } from "./ids.js";
 
 // The keys of a scan follow one another within so many milliseconds; the same code within so many may not be meant a second time.
@@ -40,6 +41,6 @@ export function lotOf(code) {
 
 // A note with a supplier's code in it, in plain ASCII and at most 60 letters.
 export function withCode(note, code) {
-  const word = `supplier's code ${code.replace(/[^ -~]/g, "?")}`;
+  const word = t`supplier's code ${code.replace(/[^ -~]/g, "?")}`;
   return (note.includes(word) ? note : note ? `${word}; ${note}` : word).slice(0, 60);
 }

@@ -1,11 +1,12 @@
 // The shift's view: the open batches, and one of them.
 
-import { capital, doubtOf, excess, grouped } from "./amounts.js";
+import { t } from "./texts.js";
+import { doubtOf, excess, grouped } from "./amounts.js";
 import { idOf } from "./ids.js";
-import { moment } from "./moments.js";
+import { dated, moment } from "./moments.js";
 import { isMaterial, procedureOf } from "./recipes.js";
 import { lotOf } from "./scans.js";
-import { MAY_CLOSE, STATES, TONES } from "./words.js";
+import { MAY_CLOSE, MOVES, STATES, TONES, wordOf } from "./words.js";
 import { openInputs } from "./taking.js";
 import { at, h } from "./elements.js";
 import {
@@ -33,14 +34,14 @@ export async function shift([id]) {
   const shown = id || (!isNarrow() && batches[0] && batches[0].batch);
   if (!shown || batchShown?.batch !== shown) batchShown = null;
   const rows = batches.map((it) => batchRow(it, it.batch === shown, areClosedShown));
-  const noneOpen = unit ? `No batch has its next phase on ${unit}.` : "No batch is open. The planner releases an order, which makes its batch.";
-  const all = h("div", { class: "batches" }, table(["Batch", "State", "#Due"], rows, areClosedShown ? "No batch is closed." : noneOpen, true));
-  const which = filterChoice("Which batches", "batches", WHICH);
+  const noneOpen = unit ? t`No batch has its next phase on ${unit}.` : t`No batch is open. The planner releases an order, which makes its batch.`;
+  const all = h("div", { class: "batches" }, table(["Batch", "State", "#Due"], rows, areClosedShown ? t`No batch is closed.` : noneOpen, true));
+  const which = filterChoice(t`Which batches`, "batches", WHICH);
   const csv = csvButton("batches", `batches-${areClosedShown ? "closed" : "open"}`, async () => (await (areClosedShown ? desk.closedBatches(Infinity)
     : desk.batches(Infinity))).map((it) => ({ ...it, ...it.planned, closed: areClosedShown })));
-  const without = card("No batch", null, none("Once an order is released, its batch is started, booked and closed here."));
+  const without = card(t`No batch`, null, none(t`Once an order is released, its batch is started, booked and closed here.`));
   const one = shown ? await batchCards(shown) : desk.seq === 0 ? firstSteps() : !isNarrow() && without;
-  return ["list", listed(card("Batches", [csv, which], !areClosedShown && unitRow(read, unit), all, more(batches, areClosedShown ? "closed" : "batches"))),
+  return ["list", listed(card(t`Batches`, [csv, which], !areClosedShown && unitRow(read, unit), all, more(batches, areClosedShown ? "closed" : "batches"))),
     h("div", { class: "stack" }, one)];
 }
 // The units of the next phases, of which one can be chosen: what is left is the unit's worklist. So many batches are read then.
@@ -49,8 +50,8 @@ function unitRow(batches, unit) {
   const units = [...new Set([...batches.map((it) => it.phase_unit), unit].filter(Boolean))].sort(), option = (value, label) => h("option", { value,
     selected: value === unit }, label);
   if (!units.length) return null;
-  return h("div", { class: "body row filter" }, h("select", { id: "batchunit", "aria-label": "Filter the batches by the unit of their next phase",
-    onchange: (event) => setText("unit", event.target.value) }, option("", "all units"), units.map((it) => option(it, `next on ${it}`))));
+  return h("div", { class: "body row filter" }, h("select", { id: "batchunit", "aria-label": t`Filter the batches by the unit of their next phase`,
+    onchange: (event) => setText("unit", event.target.value) }, option("", t`all units`), units.map((it) => option(it, t`next on ${it}`))));
 }
 // Batches by the due dates of their orders, and of one day those of a higher priority first.
 function byDueDate({ planned: one }, { planned: other }) {
@@ -59,16 +60,16 @@ function byDueDate({ planned: one }, { planned: other }) {
 }
 function batchRow(batch, isShown, isClosed) {
   const { planned } = batch, small = (...text) => h("div", { class: "soft small" }, ...text);
-  const next = batch.phase ? `next ${batch.phase} on ${batch.phase_unit}, ${batch.next} of ${batch.phases}` : "all phases done";
+  const next = batch.phase ? t`next ${batch.phase} on ${batch.phase_unit}, ${batch.next} of ${batch.phases}` : t`all phases done`;
   const cells = [idCell(batchLink(batch.batch), planned && h("div", { class: "under" }, planned.title || planned.product), small(batch.order)),
-    cell(pill(batch.state, TONES[batch.state]), small(next), small("since ", h("span", { class: "when" }, moment(batch.at)))),
-    h("td", { class: "num" }, planned && h("span", {}, isClosed ? planned.due : dueMark(planned.due),
+    cell(pill(wordOf(batch.state), TONES[batch.state]), small(next), small(t`since `, h("span", { class: "when" }, moment(batch.at)))),
+    h("td", { class: "num" }, planned && h("span", {}, isClosed ? dated(planned.due) : dueMark(planned.due),
       small(`${grouped(planned.size)} ${planned.unit || ""}`)))];
   return row(batch.batch, cells, "shift/" + batch.batch, isShown);
 }
 function dueMark(due) {
   const today = desk.today();
-  return [due, due <= today && h("div", {}, pill(due < today ? "late" : "today", due < today ? "bad" : "warn"))];
+  return [dated(due), due <= today && h("div", {}, pill(due < today ? t`late` : t`today`, due < today ? "bad" : "warn"))];
 }
 async function batchCards(id) {
   const batch = await desk.batch(id);
@@ -79,19 +80,19 @@ async function batchCards(id) {
 function progressCard(batch) {
   const done = batch.next - 1, { phases, last } = procedureOf(batch.lines), next = phases[done];
   const path = phases.map((it, k) => [k ? " \u203a " : "", k === done ? h("b", {}, it.path) : it.path, k < done ? " \u2713" : ""]);
-  const known = [fact("Order", link("planner/" + batch.order, batch.order)), fact("Recipe", `${batch.recipe} ${batch.version}`),
-    fact("Size", grouped(batch.size)), fact("Attempt", batch.attempt), fact("Phases done", `${done} of ${batch.phases}`)];
-  const tools = [pill(batch.closed ? "closed" : batch.state, batch.closed ? "" : TONES[batch.state]),
-    link("quality/batch/" + batch.batch, "Record and genealogy"), button("Sheet", () => showSheet(batch.batch), null,
-      { "aria-label": `Sheet of ${batch.batch}` })];
-  return card(`Batch ${batch.batch}`, tools, h("div", { class: "body" }, h("div", { class: "facts" }, known), progressBar(done, batch.phases),
-    h("p", { class: "soft small" }, path), parametersOf(next ? `For ${next.path}` : "After the phases", next ? next.parameters : last),
+  const known = [fact(t`Order`, link("planner/" + batch.order, batch.order)), fact(t`Recipe`, `${batch.recipe} ${batch.version}`),
+    fact(t`Size`, grouped(batch.size)), fact(t`Attempt`, batch.attempt), fact(t`Phases done`, t`${done} of ${batch.phases}`)];
+  const tools = [pill(batch.closed ? t`closed` : wordOf(batch.state), batch.closed ? "" : TONES[batch.state]),
+    link("quality/batch/" + batch.batch, t`Record and genealogy`), button(t`Sheet`, () => showSheet(batch.batch), null,
+      { "aria-label": t`Sheet of ${batch.batch}` })];
+  return card(t`Batch ${batch.batch}`, tools, h("div", { class: "body" }, h("div", { class: "facts" }, known), progressBar(done, batch.phases),
+    h("p", { class: "soft small" }, path), parametersOf(next ? t`For ${next.path}` : t`After the phases`, next ? next.parameters : last),
     h("p", { class: "row" }, moves(batch, next))), procedureTable(phases, last, done));
 }
 // The parameters of the next phase, as its unit wants them.
 function parametersOf(name, parameters) {
   if (!parameters.length) return null;
-  return h("div", { class: "parameters", role: "group", "aria-label": `Parameters: ${name}` }, h("span", { class: "soft small" }, name),
+  return h("div", { class: "parameters", role: "group", "aria-label": t`Parameters: ${name}` }, h("span", { class: "soft small" }, name),
     h("div", { class: "facts" }, parameters.map((it) => fact(it.name, it.value))));
 }
 // All phases with their parameters, where there are some.
@@ -99,43 +100,45 @@ function procedureTable(phases, last, done) {
   if (!last.length && phases.every((it) => !it.parameters.length)) return null;
   const values = (parameters) => parameters.map((it) => h("div", {}, it.name, " ", h("b", {}, it.value)));
   const rows = phases.map((it, k) => row(`phase ${k + 1}`, [numberCell(k + 1), cell(values(it.parameters)), cell(it.path),
-    cell(k < done ? "done" : k === done ? "next" : "")]));
-  if (last.length) rows.push(row("after the phases", [cell(), cell(values(last)), cell("after the phases"), cell()]));
-  return h("details", {}, h("summary", {}, "All phases with their parameters"), table(["#No", "Parameters", "Phase", ""], rows, "", true));
+    cell(k < done ? t`done` : k === done ? t`next` : "")]));
+  if (last.length) rows.push(row("after the phases", [cell(), cell(values(last)), cell(t`after the phases`), cell()]));
+  return h("details", {}, h("summary", {}, t`All phases with their parameters`), table(["#No", "Parameters", "Phase", ""], rows, "", true));
 }
 function progressBar(done, phases) {
   const values = { "aria-valuemin": 0, "aria-valuemax": phases, "aria-valuenow": done };
-  const bar = h("div", { class: "bar", role: "progressbar", "aria-label": "Phases done", ...values }, h("i"));
+  const bar = h("div", { class: "bar", role: "progressbar", "aria-label": t`Phases done`, ...values }, h("i"));
   bar.firstChild.style.width = `${(100 * done) / phases}%`;
   return bar;
 }
 // The buttons of what a batch can do in its state, and the id of that of its next phase.
 const NEXT_PHASE = "nextphase";
 function moves(batch, phase) {
-  if (batch.closed) return "This batch is closed. Nothing more is booked on it.";
+  if (batch.closed) return t`This batch is closed. Nothing more is booked on it.`;
   const { done, ...words } = STATES[batch.state], id = batch.batch;
   const mayEnd = done && !(batch.state === "running" && phase);
   const steps = [
-    batch.state === "running" && phase && { label: `Phase ${phase.phase} done`, what: `Phase ${phase.phase} of ${id} done`,
+    batch.state === "running" && phase && { label: t`Phase ${phase.phase} done`, what: t`Phase ${phase.phase} of ${id} done`,
       fields: { do: "phase_done", batch: id, phase: batch.next }, look: "main", id: NEXT_PHASE },
-    mayEnd && { label: `Finish: ${done}`, what: `Batch ${id} is ${done}`, fields: { do: "settle", batch: id }, look: "main" },
-    ...Object.keys(words).filter((it) => !GRAVE[it] && it !== "hold").map((word) => ({ label: capital(word), what: `Batch ${id}: ${word}`,
+    mayEnd && { label: t`Finish: ${wordOf(done)}`, what: t`Batch ${id} is ${wordOf(done)}`, fields: { do: "settle", batch: id }, look: "main" },
+    ...Object.keys(words).filter((it) => !GRAVE[it] && it !== "hold").map((word) => ({ label: t(MOVES[word]), what: toldTo(id, word),
       fields: { do: "batch", batch: id, word }, look: QUICK.includes(word) ? "main" : null })),
   ].filter(Boolean);
   return [
-    MAY_CLOSE.includes(batch.state) && button("Close", () => closeBatch(id), "main"),
+    MAY_CLOSE.includes(batch.state) && button(t`Close^batch`, () => closeBatch(id), "main"),
     steps.map((it) => button(it.label, () => act(it.what, it.fields), it.look, it.id && { id: it.id })),
-    Object.keys(words).filter((it) => GRAVE[it] || it === "hold").map((word) => button(capital(word), () => move(id, word), GRAVE[word] && "bad")),
-    steps.length > 0 && button("With a note\u2026", () => withNote(id, steps))];
+    Object.keys(words).filter((it) => GRAVE[it] || it === "hold").map((word) => button(t(MOVES[word]), () => move(id, word), GRAVE[word] && "bad")),
+    steps.length > 0 && button(t`With a note\u2026`, () => withNote(id, steps))];
 }
 // Books one of the steps that need no form, with a note.
 function withNote(id, steps) {
   const options = steps.map((it, k) => ({ value: k, label: it.label }));
-  bookingForm(`Batch ${id}, with a note`, [selectField("step", "What", options), textField("note", "Note", { required: true })], "Book it", (v, tell) => {
+  bookingForm(t`Batch ${id}, with a note`, [selectField("step", t`What`, options), textField("note", t`Note`, { required: true })], t`Book it`, (v, tell) => {
     const { what, fields } = steps[v.step];
     return tell(what, noted(fields, v.note));
   });
 }
+// A batch that is told a word.
+const toldTo = (id, word) => t`Batch ${id}: ${t(MOVES[word]).toLowerCase()}`;
 const QUICK = ["start", "resume", "restart"];
 const GRAVE = {
   stop: "The batch ends before its time. It can be reset, and begins anew as another attempt.",
@@ -143,22 +146,22 @@ const GRAVE = {
   reset: "The batch begins anew, from its first phase, as another attempt. What was booked on it stays booked.",
 };
 function move(id, word) {
-  const fields = { do: "batch", batch: id, word }, what = `Batch ${id}: ${word}`;
-  bookingForm(`${capital(word)} batch ${id}?`, [GRAVE[word] && say(GRAVE[word]), noteField("Why")].filter(Boolean), capital(word),
+  const fields = { do: "batch", batch: id, word }, what = toldTo(id, word), label = t(MOVES[word]);
+  bookingForm(t`${label} batch ${id}?`, [GRAVE[word] && say(t(GRAVE[word])), noteField(t`Why`)].filter(Boolean), label,
     (v, tell) => tell(what, noted(fields, v.note)), { isGrave: Boolean(GRAVE[word]) });
 }
 function closeBatch(id) {
-  bookingForm(`Close batch ${id}?`, [say("A closed batch takes no more bookings, and its order is finished."), noteField()], "Close it",
-    (v, tell) => tell(`Batch ${id} closed`, noted({ do: "close_batch", batch: id }, v.note)));
+  bookingForm(t`Close batch ${id}?`, [say(t`A closed batch takes no more bookings, and its order is finished.`), noteField()], t`Close it`,
+    (v, tell) => tell(t`Batch ${id} closed`, noted({ do: "close_batch", batch: id }, v.note)));
 }
 
 const takesBookings = (batch) => batch.state !== "idle" && !batch.closed;
 async function materialsCard(batch) {
   const isOpen = takesBookings(batch), lines = batch.lines.filter(isMaterial), free = batch.closed ? null : await freeOf(lines);
   const rows = lines.map((it) => materialRow(batch, it, isOpen, free));
-  const all = isOpen && openInputs(lines).length > 0 && button("Book all inputs as asked", () => bookInputs(batch.batch), "main",
-    { "aria-label": `Book all inputs as asked, ${batch.batch}` });
-  return card("Materials", batch.state === "idle" ? h("span", { class: "soft small" }, "booked once the batch is started") : all,
+  const all = isOpen && openInputs(lines).length > 0 && button(t`Book all inputs as asked`, () => bookInputs(batch.batch), "main",
+    { "aria-label": t`Book all inputs as asked, ${batch.batch}` });
+  return card(t`Materials`, batch.state === "idle" ? h("span", { class: "soft small" }, t`booked once the batch is started`) : all,
     table(["In or out", "Material", "#Asked", "#Booked", "#Left", ...(free ? ["#Free in stock"] : []), ""], rows, ""));
 }
 // How much of each input is in stock, and neither on hold nor recalled.
@@ -179,8 +182,8 @@ function freeCell(line, free) {
 
 function materialRow(batch, line, isOpen, free) {
   const isInput = line.kind === "in";
-  const book = isInput ? button("Consume", () => consume(batch, line)) : button("Produce", () => produce(batch, line));
-  return row(`${line.kind} ${line.def}`, [cell(pill(line.kind, isInput ? "" : "good")), idCell(line.def), numberCell(line.asked, line.unit),
+  const book = isInput ? button(t`Consume`, () => consume(batch, line)) : button(t`Produce`, () => produce(batch, line));
+  return row(`${line.kind} ${line.def}`, [cell(pill(wordOf(line.kind), isInput ? "" : "good")), idCell(line.def), numberCell(line.asked, line.unit),
     numberCell(line.booked, line.unit), excess(line) ? overCell(line) : numberCell(line.asked - line.booked, line.unit),
     free && freeCell(line, free), buttonsCell(isOpen && book)].filter(Boolean));
 }
@@ -188,9 +191,9 @@ function bookingsCard(batch) {
   const unit = (def) => (batch.lines.find((it) => it.def === def) || {}).unit;
   const booked = [...batch.consumed.map((it) => ({ ...it, kind: "consumed" })),
     ...batch.produced.map((it) => ({ ...it, kind: "produced" }))].sort((a, b) => b.seq - a.seq);
-  const rows = booked.map((it) => row(it.seq, [cell(it.kind), idCell(lotLink(it.lot, it.sub)), cell(it.def),
+  const rows = booked.map((it) => row(it.seq, [cell(wordOf(it.kind)), idCell(lotLink(it.lot, it.sub)), cell(it.def),
     numberCell(it.amount, unit(it.def)), numberCell(it.seq)]));
-  return card("Bookings, the last first", null, table(["What", "Lot", "Material", "#Amount", "#Number"], rows, "Nothing is booked yet."));
+  return card(t`Bookings, the last first`, null, table(["What", "Lot", "Material", "#Amount", "#Number"], rows, t`Nothing is booked yet.`));
 }
 
 async function consume(batch, line, ...scan) {
@@ -198,15 +201,15 @@ async function consume(batch, line, ...scan) {
   let parts;
   try { await desk.look(); parts = await partsToOffer(def); } catch (error) { return notice("bad", error.message); }
   if (parts.every((it) => it.barred) && !scan.length) return notice("bad",
-    parts.length ? `All ${def} in stock is on hold or recalled.` : `There is no ${def} in stock.`);
+    parts.length ? t`All ${def} in stock is on hold or recalled.` : t`There is no ${def} in stock.`);
   const left = Math.max(1, line.asked - line.booked);
   let offered = left;
   const change = (inputs, part) => {
     if (Number(inputs.amount.value) === offered) inputs.amount.value = offered = Math.min(part.stock, left);
   };
   const fields = [sayBooked(line), lotField({ def, unit, parts, change }), amountField(unit, left), noteField()];
-  bookingForm(`Consume ${def} in ${batch.batch}`, fields, "Consume", ({ from: { lot, sub }, amount, note }, tell) => tell(
-    `${grouped(amount)} ${unit} of ${lot} consumed`, noted({ do: "consume", batch: batch.batch, lot, sub, amount }, note)), overbooked(batch, line));
+  bookingForm(t`Consume ${def} in ${batch.batch}`, fields, t`Consume`, ({ from: { lot, sub }, amount, note }, tell) => tell(
+    t`${grouped(amount)} ${unit} of ${lot} consumed`, noted({ do: "consume", batch: batch.batch, lot, sub, amount }, note)), overbooked(batch, line));
   if (scan.length) await openForm().scanned(...scan);
 }
 // The doubt whether so much is meant: what is booked is read anew, since others book on the batch too. Without an answer what was read first counts.
@@ -214,14 +217,14 @@ const overbooked = (batch, line) => ({ doubt: async ({ amount }) => {
   const lines = await desk.linesNow(batch.batch).catch(() => batch.lines);
   return doubtOf(lines.find((it) => it.kind === line.kind && it.def === line.def) || line, amount, line.booked);
 } });
-const sayBooked = (line) => say(`Asked ${grouped(line.asked)} ${line.unit}, booked ${grouped(line.booked)} ${line.unit}.`);
+const sayBooked = (line) => say(t`Asked ${grouped(line.asked)} ${line.unit}, booked ${grouped(line.booked)} ${line.unit}.`);
 
 async function produce(batch, line, ...scan) {
   const before = batch.produced.filter((it) => it.def === line.def).length;
-  const fields = [sayBooked(line), newLotField("lot", "New lot", idOf(line.def, batch.batch, ...(before ? [before + 1] : []))),
+  const fields = [sayBooked(line), newLotField("lot", t`New lot`, idOf(line.def, batch.batch, ...(before ? [before + 1] : []))),
     amountField(line.unit, Math.max(1, line.asked - line.booked)), placeField(), noteField()];
-  bookingForm(`Produce ${line.def} of ${batch.batch}`, fields, "Produce", (v, tell) => tell(
-    `${grouped(v.amount)} ${line.unit} as ${v.lot} produced`,
+  bookingForm(t`Produce ${line.def} of ${batch.batch}`, fields, t`Produce`, (v, tell) => tell(
+    t`${grouped(v.amount)} ${line.unit} as ${v.lot} produced`,
     noted({ do: "produce", batch: batch.batch, lot: v.lot, def: line.def, amount: v.amount, place: v.place }, v.note)), overbooked(batch, line));
   if (scan.length) await openForm().scanned(...scan);
 }
@@ -238,7 +241,7 @@ export async function scanAtBatch(code, isAgain) {
   if (!takesBookings(batch)) return false;
   if (lot) {
     const line = lines.find((it) => it.kind === "in" && it.def === lot.def);
-    return line ? consume(batch, line, code, isAgain) : `Lot ${id} is ${lot.def}, which batch ${batch.batch} doesn't consume.`;
+    return line ? consume(batch, line, code, isAgain) : t`Lot ${id} is ${lot.def}, which batch ${batch.batch} doesn't consume.`;
   }
   const outputs = lines.filter((it) => it.kind === "out"), line = outputs.find((it) => it.booked < it.asked) || outputs[0];
   const isOther = !id || await desk.foundBatch(id) || await desk.foundOrder(id) || await desk.recall(id);
@@ -250,12 +253,12 @@ export const focusNextPhase = () => at(NEXT_PHASE)?.focus();
 
 // What is scanned of a phase on the batch's sheet leads the keyboard to the button of that phase, and says why where it can't.
 async function pointToPhase({ batch, next, phases, state }, number) {
-  if (number < 1 || number > phases) return `Batch ${batch} has no phase ${number}.`;
-  if (number < next) return `Phase ${number} of ${batch} is done already.`;
-  if (number > next) return `Phase ${next} of ${batch} is next, and not phase ${number}.`;
-  if (state !== "running") return `Batch ${batch} doesn't run.`;
+  if (number < 1 || number > phases) return t`Batch ${batch} has no phase ${number}.`;
+  if (number < next) return t`Phase ${number} of ${batch} is done already.`;
+  if (number > next) return t`Phase ${next} of ${batch} is next, and not phase ${number}.`;
+  if (state !== "running") return t`Batch ${batch} doesn't run.`;
   if (!at(NEXT_PHASE)) await show();
   at(NEXT_PHASE)?.focus();
-  notice("", `Phase ${number} of ${batch} is next. Nothing is booked yet: press its button, or Enter.`);
+  notice("", t`Phase ${number} of ${batch} is next. Nothing is booked yet: press its button, or Enter.`);
   return true;
 }

@@ -1,5 +1,7 @@
 // Orders, as a list of them is sorted and filtered.
 
+import { dated } from "./moments.js";
+
 // What orders are sorted by; at first by their due date, and of one day those of a higher priority first.
 export const ORDER_SORTS = ["due", "order", "priority", "recipe", "size"];
 const compared = (a, b) => (a < b ? -1 : a > b ? 1 : 0);
@@ -13,7 +15,7 @@ export const sortedOrders = (orders, by, isBack) => [...orders].sort((a, b) => (
 // The orders of a recipe, if one is given, with each word of a text in their id, their recipe or its title. `titleOf` gives the title.
 export function filteredOrders(orders, recipe, text, titleOf) {
   const words = text.toUpperCase().split(/\s+/).filter(Boolean);
-  const isMeant = (it) => words.every((word) => `${it.order} ${it.recipe} ${it.version} ${titleOf(it)} ${it.due}`.toUpperCase().includes(word));
+  const isMeant = (it) => words.every((word) => `${it.order} ${it.recipe} ${it.version} ${titleOf(it)} ${it.due} ${dated(it.due)}`.toUpperCase().includes(word));
   return orders.filter((it) => (!recipe || it.recipe === recipe) && isMeant(it));
 }
 

@@ -1,7 +1,8 @@
 // Where goods are now, as a table to walk along: a box for each row says that somebody was there, and this browser keeps it.
 
+import { t } from "./texts.js";
 import { counted, grouped } from "./amounts.js";
-import { TONES } from "./words.js";
+import { TONES, wordOf } from "./words.js";
 import { h } from "./elements.js";
 import { keep, kept } from "./store.js";
 import { batchLink, card, cell, idCell, link, lotLink, numberCell, pill, row, table } from "./parts.js";
@@ -34,29 +35,29 @@ function totals(parts, units) {
 export function standsCard(of, lots, nodes) {
   const units = new Map(nodes.filter((it) => it.lot).map((it) => [it.lot, it.unit])), parts = partsToSee(lots);
   const seen = new Set(kept(nameOfTicks(of), [])), told = h("span", { class: "soft small" });
-  const count = () => { told.textContent = `${grouped(parts.filter((it) => seen.has(it.key)).length)} of ${counted(parts.length, "row", "rows")} ticked`; };
+  const count = () => { told.textContent = t`${grouped(parts.filter((it) => seen.has(it.key)).length)} of ${counted(parts.length, "row", "rows")} ticked`; };
   const ticked = (it, isOn) => {
     if (isOn) seen.add(it.key); else seen.delete(it.key);
     tick(of, it.key, isOn);
     count();
   };
-  const box = (it) => h("input", { type: "checkbox", "aria-label": `${it.key} at ${it.place || "no place"} is seen`, checked: seen.has(it.key),
+  const box = (it) => h("input", { type: "checkbox", "aria-label": t`${it.key} at ${it.place || t`no place`} is seen`, checked: seen.has(it.key),
     onchange: (event) => ticked(it, event.target.checked) });
-  const cells = (it) => [cell(box(it)), cell(it.place || h("span", { class: "soft" }, "no place")), idCell(lotLink(it.lot, it.no)), cell(it.def),
-    numberCell(it.stock, units.get(it.lot)), cell(it.held && pill("on hold", "warn")), cell(it.recalled && pill("recalled", "bad"))];
+  const cells = (it) => [cell(box(it)), cell(it.place || h("span", { class: "soft" }, t`no place`)), idCell(lotLink(it.lot, it.no)), cell(it.def),
+    numberCell(it.stock, units.get(it.lot)), cell(it.held && pill(t`on hold`, "warn")), cell(it.recalled && pill(t`recalled`, "bad"))];
   count();
   const rows = parts.map((it) => row(it.key, cells(it)));
   const csv = csvButton("stands", `goods-of-${of.split(" ")[1]}`, () => parts.map((it) => ({ ...it, unit: units.get(it.lot), seen: seen.has(it.key) })));
-  return card("Where its goods are", parts.length > 0 && [told, csv],
-    table(["Seen", "Place", "Lot", "Material", "#Amount", "On hold", "Recalled"], rows, "Nothing of it is in stock."),
-    parts.length > 0 && [h("h3", {}, "In all"), table(["Material", "#Amount", "#Parts"], totals(parts, units), "", true)]);
+  return card(t`Where its goods are`, parts.length > 0 && [told, csv],
+    table(["Seen", "Place", "Lot", "Material", "#Amount", "On hold", "Recalled"], rows, t`Nothing of it is in stock.`),
+    parts.length > 0 && [h("h3", {}, t`In all`), table(["Material", "#Amount", "#Parts"], totals(parts, units), "", true)]);
 }
 
 // The batches among these that still run: what they made isn't all booked.
 export async function runningCard(batches) {
   const open = new Map((await desk.batches(Infinity)).map((it) => [it.batch, it]));
   const running = batches.filter((it) => open.has(it.batch)).map((it) => open.get(it.batch));
-  const rows = running.map((it) => row(it.batch, [idCell(batchLink(it.batch)), cell(pill(it.state, TONES[it.state])), cell(it.order),
-    cell(it.phase ? `${it.phase}, ${it.next} of ${it.phases}` : "all done")]));
-  return card("Batches that still run", null, table(["Batch", "State", "Order", "Next phase"], rows, "None."));
+  const rows = running.map((it) => row(it.batch, [idCell(batchLink(it.batch)), cell(pill(wordOf(it.state), TONES[it.state])), cell(it.order),
+    cell(it.phase ? t`${it.phase}, ${it.next} of ${it.phases}` : t`all done`)]));
+  return card(t`Batches that still run`, null, table(["Batch", "State", "Order", "Next phase"], rows, t`None.`));
 }

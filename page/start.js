@@ -1,9 +1,11 @@
 // The start: finding, the keyboard, and looking again.
 
+import { t } from "./texts.js";
 import { ID_RULE } from "./ids.js";
 import { lotOf } from "./scans.js";
 import { at, dialog, operator, view } from "./elements.js";
 import { keep, kept } from "./store.js";
+import { loadTexts } from "./language.js";
 import { nameByLogin, nameOperator } from "./who.js";
 import { focusAgain, isWriting } from "./focus.js";
 import { listenToScans, onceAlone, tone } from "./scanner.js";
@@ -24,9 +26,9 @@ import { quality } from "./quality.js";
 // things. Says whether it did.
 async function find(code) {
   const { lot: id } = lotOf(code);
-  if (!id) return miss(`An id has ${ID_RULE}.`);
+  if (!id) return miss(t`An id has ${t(ID_RULE)}.`);
   if (await showFound(id)) return true;
-  return miss(`There is no lot, no batch, no order, no recall and no material ${id}.`);
+  return miss(t`There is no lot, no batch, no order, no recall and no material ${id}.`);
 }
 function miss(why) { notice("bad", why); return false; }
 async function showFound(id) {
@@ -100,14 +102,20 @@ async function lookAgain() {
     const isNew = await desk.look(), areChosen = { planner: chosenOrders, warehouse: chosen }[place()[0]]?.size > 0;
     const isAtWork = areChosen || (isWriting() && view.contains(document.activeElement));
     if (isNew && isAtWork) drawNew();
-    else if (isNew || (isOld() && !isAtWork) || at("stand").textContent === "no answer") show();
-  } catch { tellStatus("bad", "no answer"); }
+    else if (isNew || (isOld() && !isAtWork) || at("stand").textContent === t`no answer`) show();
+  } catch { tellStatus("bad", t`no answer`); }
 }
-const drawNew = () => tellStatus("warn", "there are new bookings: ", button("Look again", () => show()));
+const drawNew = () => tellStatus("warn", t`there are new bookings: `, button(t`Look again`, () => show()));
 setInterval(lookAgain, TURN * 1000);
 addEventListener("visibilitychange", lookAgain);
 addEventListener("storage", drawWaiting);
 addEventListener("desk-named", drawWaiting);
 addEventListener("hashchange", () => { if (dialog.open && !sending) dialog.close(); show(); });
-drawWaiting();
-desk.loggedIn().then(nameByLogin).catch((error) => notice("bad", whyNot(error))).then(show);
+
+async function begin() {
+  await loadTexts();
+  drawWaiting();
+  try { nameByLogin(await desk.loggedIn()); } catch (error) { notice("bad", whyNot(error)); }
+  show();
+}
+begin();

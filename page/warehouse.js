@@ -1,5 +1,6 @@
 // The warehouse's view: materials by their classes, and the lots of one.
 
+import { t } from "./texts.js";
 import { counted, grouped } from "./amounts.js";
 import { cameInWords, keyOfPart, placeOfPart } from "./words.js";
 import { h } from "./elements.js";
@@ -28,77 +29,77 @@ export async function warehouse([id, lotId]) {
   if (def !== chosenOf) chosen.clear();
   chosenOf = def;
   const side = listed(materialsSide(classes, def));
-  const without = card("Lots", null, none("There is no material yet."));
+  const without = card(t`Lots`, null, none(t`There is no material yet.`));
   if (!def) return ["list", side, desk.seq === 0 ? firstSteps() : !all.length && without];
   const known = all.find((it) => it.def === def) || (await desk.stockOf(def));
-  if (!known) return ["list", side, card("Lots", null, none("There is no such material."))];
+  if (!known) return ["list", side, card(t`Lots`, null, none(t`There is no such material.`))];
   const lotsOf = lotsCard(known, await desk.stock(def, want("lots " + def))), one = await wholeLot(lotId);
   return ["list", side, h("div", { class: "stack" }, lotId && oneLotCard(lotId, one, known), lotId ? listed(lotsOf) : lotsOf)];
 }
 
 function materialsSide(classes, def) {
-  const tools = [csvButton("materials", "materials", () => desk.materials()), button("New class", newClass),
-    classes.length > 0 && button("New material", () => newMaterial(classes))];
-  const without = none("There is no class yet.");
-  return card("Materials", tools, byChoice("by material"), classes.length ? classes.map((it) => classTable(it, def)) : without, more(classes, "classes"));
+  const tools = [csvButton("materials", "materials", () => desk.materials()), button(t`New class`, newClass),
+    classes.length > 0 && button(t`New material`, () => newMaterial(classes))];
+  const without = none(t`There is no class yet.`);
+  return card(t`Materials`, tools, byChoice("by material"), classes.length ? classes.map((it) => classTable(it, def)) : without, more(classes, "classes"));
 }
 function classTable({ id, name, stocks }, def) {
   const named = (it) => idCell(link("warehouse/" + it.def, it.def), it.name && h("div", { class: "under" }, it.name));
   const rows = stocks.map((it) => row(it.def, [named(it), numberCell(it.lots), freeCellOf(it)], "warehouse/" + it.def, it.def === def));
   return [h("h3", {}, name || id, name && [" ", h("span", { class: "soft small" }, id)]),
-    h("div", { class: "stocks" }, table(["Material", "#Lots", "#Free in stock"], rows, "No material is in this class.", true)), more(stocks, "stocks " + id)];
+    h("div", { class: "stocks" }, table(["Material", "#Lots", "#Free in stock"], rows, t`No material is in this class.`, true)), more(stocks, "stocks " + id)];
 }
 // How much of a material is free, and below it what is on hold and what is recalled.
 function freeCellOf({ usable, held, recalled, unit }) {
   const barred = (amount, what, tone) => amount > 0 && h("div", {}, pill(`${grouped(amount)} ${unit} ${what}`, tone));
-  return h("td", { class: "num" }, h("span", {}, `${grouped(usable)} ${unit}`, barred(held, "on hold", "warn"), barred(recalled, "recalled", "bad")));
+  return h("td", { class: "num" }, h("span", {}, `${grouped(usable)} ${unit}`, barred(held, t`on hold`, "warn"), barred(recalled, t`recalled`, "bad")));
 }
 
 function newClass() {
-  bookingForm("New class", [say("A class is a group of materials, such as RAW or GOODS. It can't be changed once it is made."), idField("group", "New class"),
-    textField("name", "Name")], "Make it",
-  (v, tell) => tell(`Class ${v.group} made`, { do: "add_class", class: v.group, name: v.name }));
+  bookingForm(t`New class`, [say(t`A class is a group of materials, such as RAW or GOODS. It can't be changed once it is made.`), idField("group", t`New class`),
+    textField("name", t`Name`)], t`Make it`,
+  (v, tell) => tell(t`Class ${v.group} made`, { do: "add_class", class: v.group, name: v.name }));
 }
 function newMaterial(classes) {
-  bookingForm("New material", [say("It can't be changed once it is made."), idField("def", "New material"), textField("name", "Name"),
-    selectField("group", "Class", classes.map((it) => ({ value: it.id, label: it.name ? `${it.id} (${it.name})` : it.id }))),
-    textField("unit", "Unit in which it is counted, such as kg or pcs",
-      { pattern: "[A-Za-z0-9]{1,8}", title: "1 to 8 letters and digits", required: true })], "Make it",
-  (v, tell) => tell(`Material ${v.def} made`, { do: "add_definition", def: v.def, class: v.group, name: v.name, unit: v.unit }));
+  bookingForm(t`New material`, [say(t`It can't be changed once it is made.`), idField("def", t`New material`), textField("name", t`Name`),
+    selectField("group", t`Class`, classes.map((it) => ({ value: it.id, label: it.name ? `${it.id} (${it.name})` : it.id }))),
+    textField("unit", t`Unit in which it is counted, such as kg or pcs`,
+      { pattern: "[A-Za-z0-9]{1,8}", title: t`1 to 8 letters and digits`, required: true })], t`Make it`,
+  (v, tell) => tell(t`Material ${v.def} made`, { do: "add_definition", def: v.def, class: v.group, name: v.name, unit: v.unit }));
 }
 
 function lotsCard(known, lots) {
   const amount = (name, n) => fact(name, grouped(n), " ", known.unit);
-  const bar = h("div", { class: "chosen", hidden: true }, h("span", {}), button("Merge\u2026", () => merge(known), "main"),
-    button("Choose none", () => { chosen.clear(); show(); }));
+  const bar = h("div", { class: "chosen", hidden: true }, h("span", {}), button(t`Merge\u2026`, () => merge(known), "main"),
+    button(t`Choose none`, () => { chosen.clear(); show(); }));
   const told = () => drawChosen(bar);
   const rows = lots.flatMap((lot) => partRows(lot, known, told));
   told();
   const title = h("span", {}, known.name || known.def, known.name && [" ", h("span", { class: "soft small" }, known.def)]);
-  const without = `There is no ${known.def} in stock. Receive a lot, or have one produced. A lot that is used up is found by its id.`;
+  const without = t`There is no ${known.def} in stock. Receive a lot, or have one produced. A lot that is used up is found by its id.`;
   const csv = csvButton("lots", `lots-${known.def}`, async () => partsOfLots(await desk.stock(known.def, Infinity))
     .map((it) => ({ ...it, def: known.def, unit: known.unit })));
-  return card(title, [csv, button("Receive a lot", () => receive(known), "main")],
-    facts(amount("Free", known.usable), amount("On hold", known.held), amount("Recalled", known.recalled), fact("Lots with stock", grouped(known.lots))),
-    table(PART_HEADS, rows, without), more(lots, "lots " + known.def, " lots, the oldest first,"), bar);
+  return card(title, [csv, button(t`Receive a lot`, () => receive(known), "main")],
+    facts(amount(t`Free`, known.usable), amount(t`On hold`, known.held), amount(t`Recalled`, known.recalled), fact(t`Lots with stock`, grouped(known.lots))),
+    table(PART_HEADS, rows, without), more(lots, "lots " + known.def, (count) => t`The first ${count} lots, the oldest first, are shown, and there are more.`), bar);
 }
 function drawChosen(bar) {
   bar.hidden = !chosen.size;
   const isTooMany = chosen.size > MOST_PARTS;
-  bar.firstChild.textContent = isTooMany ? `A merge takes ${MOST_PARTS} parts at most.` : `${counted(chosen.size, "part is", "parts are")} chosen for a merge.`;
+  bar.firstChild.textContent = isTooMany ? t`A merge takes ${MOST_PARTS} parts at most.` : chosen.size === 1 ? t`1 part is chosen for a merge.` : t`${grouped(chosen.size)} parts are chosen for a merge.`;
   bar.children[1].disabled = isTooMany;
 }
 const PART_HEADS = ["Choose", "Lot", "#Part", "Came", "Place", "#Stock", ""];
 // A row for each part of a lot, with what can be done with it; `told` is called once a part is chosen for a merge.
 function partRows(lot, known, told) {
-  const barred = lot.held ? "on hold" : lot.recalled ? "recalled" : "", isBarred = barred !== "";
-  const marks = [lot.held && [" ", pill("on hold", "warn")], lot.recalled && [" ", pill("recalled", "bad")]];
+  const barred = lot.held ? t`on hold` : lot.recalled ? t`recalled` : "", isBarred = barred !== "";
+  const marks = [lot.held && [" ", pill(t`on hold`, "warn")], lot.recalled && [" ", pill(t`recalled`, "bad")]];
   return lot.sublots.filter((it) => it.stock > 0).map((it) => {
     const key = `${lot.lot}/${it.no}`, part = { lot: lot.lot, sub: it.no, stock: it.stock, place: it.place, at: lot.at, barred };
-    const buttons = [button("Label", () => showLabels(part.lot, part.sub)), button("Move", () => moveGoods(part, known)),
-      button("Split", () => split(part, known), null, { disabled: isBarred }), button("Scrap", () => scrap(part, known), "bad")];
+    const buttons = [button(t`Label`, () => showLabels(part.lot, part.sub)), button(t`Move`, () => moveGoods(part, known)),
+      button(t`Split`, () => split(part, known), null, { disabled: isBarred }), button(t`Scrap`, () => scrap(part, known), "bad")];
     return row(key, [cell(chooseBox(key, part, isBarred, told)), idCell(lotLink(lot.lot), marks), h("td", { class: "num" }, it.no),
-      cameCell(lot.at), cell(it.place || h("span", { class: "soft" }, "no place")), numberCell(it.stock, known.unit), buttonsCell(buttons)]);
+      cameCell(lot.at), cell(it.place || h("span", { class: "soft" }, t`no place`)), numberCell(it.stock, known.unit), buttonsCell(buttons)]);
   });
 }
 function chooseBox(key, part, isBarred, told) {
@@ -108,19 +109,19 @@ function chooseBox(key, part, isBarred, told) {
     else chosen.delete(key);
     told();
   };
-  const name = `Choose ${key} for a merge`;
+  const name = t`Choose ${key} for a merge`;
   return h("input", { type: "checkbox", "aria-label": name, checked: chosen.has(key), disabled: isBarred, onchange: choose });
 }
 // One lot, which somebody looked for.
 function oneLotCard(id, lot, known) {
-  const away = button("Close this", () => go("warehouse", known.def));
-  if (!lot) return card(`Lot ${id}`, away, none("There is no such lot."));
-  return card(`Lot ${id}`, away, table(PART_HEADS, partRows(lot, known, show), "Nothing is left of it."));
+  const away = button(t`Close this`, () => go("warehouse", known.def));
+  if (!lot) return card(t`Lot ${id}`, away, none(t`There is no such lot.`));
+  return card(t`Lot ${id}`, away, table(PART_HEADS, partRows(lot, known, show), t`Nothing is left of it.`));
 }
 
 function receive({ def, unit }) {
-  bookingForm(`Receive ${def}`, [newLotField("lot", "Scan or type the new lot"), amountField(unit), placeField(), noteField()], "Receive",
-    (v, tell) => tell(`${grouped(v.amount)} ${unit} as ${v.lot} received`,
+  bookingForm(t`Receive ${def}`, [newLotField("lot", t`Scan or type the new lot`), amountField(unit), placeField(), noteField()], t`Receive`,
+    (v, tell) => tell(t`${grouped(v.amount)} ${unit} as ${v.lot} received`,
       noted({ do: "receive", lot: v.lot, def, amount: v.amount, place: v.place }, v.note)));
 }
 
@@ -128,23 +129,23 @@ function receive({ def, unit }) {
 const MOST_PARTS = 16;
 function merge(known, values = {}) {
   const parts = [...chosen.values()], { def, unit } = known;
-  const label = (it) => `Of ${placeOfPart(it)}${cameInWords(it)}, ${unit}`;
+  const label = (it) => t`Of ${placeOfPart(it)}${cameInWords(it)}, ${unit}`;
   const amounts = parts.map((it) => ({ ...amountField(unit, it.stock), name: keyOfPart(it), label: label(it) }));
   const take = async (v, tell) => {
     const taken = parts.map((it) => ({ lot: it.lot, sub: it.sub, amount: v[keyOfPart(it)] }));
-    const wrong = await tell(`Merged as ${v.new}`, noted({ do: "merge", new: v.new, place: v.place, parts: taken }, v.note));
+    const wrong = await tell(t`Merged as ${v.new}`, noted({ do: "merge", new: v.new, place: v.place, parts: taken }, v.note));
     if (!wrong) { chosen.clear(); show(); }
     return wrong;
   };
   const change = (inputs, part) => {
     const key = keyOfPart(part);
     if (inputs[key]) return inputs[key];
-    if (chosen.size >= MOST_PARTS) return openForm().refuse(`A merge takes ${MOST_PARTS} parts at most.`);
+    if (chosen.size >= MOST_PARTS) return openForm().refuse(t`A merge takes ${MOST_PARTS} parts at most.`);
     chosen.set(key, part);
     show();
     return merge(known, Object.fromEntries(Object.entries(inputs).map(([name, it]) => [name, it.value])));
   };
-  const fields = [lotField({ def, unit, change, isOptional: true }), ...amounts, newLotField("new", "New lot"), placeField(), noteField()];
+  const fields = [lotField({ def, unit, change, isOptional: true }), ...amounts, newLotField("new", t`New lot`), placeField(), noteField()];
   for (const it of fields) if (it.kind !== "lot" && values[it.name] !== undefined) it.value = values[it.name];
-  bookingForm(`Merge ${counted(parts.length, "part", "parts")}`, fields, "Merge", take);
+  bookingForm(t`Merge ${counted(parts.length, "part", "parts")}`, fields, t`Merge`, take);
 }

@@ -1,5 +1,6 @@
 // Who is at the page: the operator, the names that were used last, and whether it may be somebody else by now. It is no right, only what is written down.
 
+import { t } from "./texts.js";
 import { clock } from "./moments.js";
 import { h, operator } from "./elements.js";
 import { keep, kept } from "./store.js";
@@ -13,7 +14,7 @@ let ofLogin = null;
 export function nameByLogin(name) {
   ofLogin = name;
   operator.readOnly = name !== null;
-  operator.title = name === null ? "" : "The operator is who is logged in.";
+  operator.title = name === null ? "" : t`The operator is who is logged in.`;
   if (name !== null) operator.value = name;
 }
 
@@ -49,6 +50,6 @@ export function whoQuestion(named, other) {
   const notBefore = performance.now() + CONSIDERED, self = operatorName();
   const big = (label, press) => h("button", { type: "button", onclick: () => performance.now() > notBefore && press() }, label);
   const others = lastNames().filter((it) => it !== self).slice(0, MOST_NAMES - 1);
-  return h("div", { class: "still", role: "group", "aria-label": "Who is there" }, h("b", {}, `Still ${self}?`), " Nobody was at this page for half an hour.",
-    h("div", {}, big(`Yes, ${self}`, () => named(self)), others.map((it) => big(it, () => named(it))), big("Another name", other)));
+  return h("div", { class: "still", role: "group", "aria-label": t`Who is there` }, h("b", {}, t`Still ${self}?`), " ", t`Nobody was at this page for half an hour.`,
+    h("div", {}, big(t`Yes, ${self}`, () => named(self)), others.map((it) => big(it, () => named(it))), big(t`Another name`, other)));
 }

@@ -1,12 +1,13 @@
 // The desk's words, in plain ones.
 
+import { t } from "./texts.js";
 import { grouped } from "./amounts.js";
-import { dayOf } from "./moments.js";
+import { dated, dayOf } from "./moments.js";
 
 // A part of a lot: its name, where it is, the day on which its lot came, and all that is to be known where it is chosen, with what bars it.
 export const keyOfPart = (it) => `${it.lot}/${it.sub}`;
-export const placeOfPart = (it) => `${keyOfPart(it)} at ${it.place || "no place"}`;
-export const cameInWords = (it) => (it.at === null ? "" : `, came ${dayOf(it.at)}`);
+export const placeOfPart = (it) => t`${keyOfPart(it)} at ${it.place || t`no place`}`;
+export const cameInWords = (it) => (it.at === null ? "" : t`, came ${dated(dayOf(it.at))}`);
 export const partInWords = (it, unit) => `${placeOfPart(it)}: ${grouped(it.stock)} ${unit}${cameInWords(it)}${it.barred ? `, ${it.barred}` : ""}`;
 
 // Why a booking or a question is refused.
@@ -81,17 +82,41 @@ export const MAY_CLOSE = ["complete", "stopped", "aborted"];
 export const TONES = { running: "good", restarting: "good", complete: "good", pausing: "warn", paused: "warn", holding: "warn", held: "warn",
   stopping: "bad", stopped: "bad", aborting: "bad", aborted: "bad" };
 
+// What a batch is told in each of its states, as its button has it.
+export const MOVES = { start: "Start", pause: "Pause", hold: "Hold^batch", stop: "Stop", abort: "Abort", resume: "Resume", restart: "Restart", reset: "Reset" };
+
+// Words of the desk that are shown as the language has them: states of orders, recipes and batches; kinds of lines, bookings and things; and commands.
+const SAID = [
+  ...Object.keys(STATES), "open", "released", "finished", "cancelled", "draft", "approved", "withdrawn", "in", "out", "par", "phase",
+  "received", "consumed", "produced", "scrapped", "divided", "split", "merged", "lot", "batch", "order", "recall", "material",
+];
+const COMMANDS = [
+  "add_class", "add_definition", "add_recipe", "approve", "withdraw", "import_orders", "cancel_order", "release", "batch", "phase_done", "settle",
+  "close_batch", "receive", "consume", "produce", "scrap", "divide", "split", "merge", "hold", "unhold", "recall", "lift",
+];
+export const wordOf = (word) => (SAID.includes(word) ? t(word) : word);
+export const commandWord = (word) => (COMMANDS.includes(word) ? t(`${word}^command`) : word);
+
+// An event of a batch record: a word that the batch was told, or a phase with its number and its name.
+const EVENTS = ["start", "done", "pause", "hold", "stop", "abort", "resume", "restart", "reset", "close", "phase"];
+export function eventInWords(event) {
+  const [word, ...rest] = event.split(" ");
+  return EVENTS.includes(word) ? [t(`${word}^event`), ...rest].join(" ") : event;
+}
+
+// Why something is refused, nothing where it isn't known.
+export const refusalOf = (name) => (Object.hasOwn(REFUSALS, name) ? t(REFUSALS[name]) : "");
+
 // An answer that isn't what was wished for, in plain words.
 export function plainly({ status, body }) {
-  if (body.csv) return `${body.row ? `Row ${body.row} of the file, the header being row 0: `
-    : ""}${FILE_FAULTS[body.csv] || ""} (${body.csv}) Nothing was taken in.`;
-  if (body.ahead) return `The moment is more than ${body.ahead} seconds ahead of the clock of the desk's machine. Look at that clock. Nothing was booked.`;
-  if (body.name) return `${REFUSALS[body.name] || "The desk refuses that."} (${body.name})`;
-  if (body.fault === 2) return "The desk is out of memory for now. Nothing has changed: try again.";
-  if (body.fault) return "The desk's store failed. Somebody has to look at the machine of the desk.";
-  if (status === 403) return "The desk doesn't serve this page under this name, or to who is logged in. (403)";
-  if (status === 413) return "That is longer than 262,144 bytes. (413)";
-  return `The desk doesn't know that. (${status})`;
+  if (body.csv) return `${body.row ? t`Row ${body.row} of the file, the header being row 0: ` : ""}${t`${t(FILE_FAULTS[body.csv] || "")} (${body.csv}) Nothing was taken in.`}`;
+  if (body.ahead) return t`The moment is more than ${body.ahead} seconds ahead of the clock of the desk's machine. Look at that clock. Nothing was booked.`;
+  if (body.name) return `${refusalOf(body.name) || t`The desk refuses that.`} (${body.name})`;
+  if (body.fault === 2) return t`The desk is out of memory for now. Nothing has changed: try again.`;
+  if (body.fault) return t`The desk's store failed. Somebody has to look at the machine of the desk.`;
+  if (status === 403) return t`The desk doesn't serve this page under this name, or to who is logged in. (403)`;
+  if (status === 413) return t`That is longer than 262,144 bytes. (413)`;
+  return t`The desk doesn't know that. (${status})`;
 }
 
 export const LOST = "No answer came. The booking may have been taken or not: send it again, and it counts once.";

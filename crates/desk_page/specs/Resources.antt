@@ -1,11 +1,12 @@
 -- What a browser loads for the page.
 use Rattle.std.specs.Prelude.{ℕ, List, codes, bytes_eq, Option, Some, None, if◌then◌else◌}
 use Rattle.desk_page.specs.declared.resource.Resource.{Resource}
-use Rattle.desk_page.specs.declared.resource.Resource.TheVariants.{Page, Style, Script, Views}
+use Rattle.desk_page.specs.declared.resource.Resource.TheVariants.{Page, Style, Script, Views, German}
 use Rattle.desk_page.specs.declared.page.TheConstants.{PAGE, PAGE_TAG}
 use Rattle.desk_page.specs.declared.style.TheConstants.{STYLE, STYLE_TAG}
 use Rattle.desk_page.specs.declared.script.TheConstants.{SCRIPT, SCRIPT_TAG}
 use Rattle.desk_page.specs.declared.views.TheConstants.{VIEWS, VIEWS_TAG}
+use Rattle.desk_page.specs.declared.german.TheConstants.{GERMAN, GERMAN_TAG}
 
 -- the resource at a path
 abbrev pub resource_at : List ℕ → Option Resource
@@ -14,6 +15,7 @@ resource_at path =
     else if bytes_eq path (codes "/desk.css") then Some Style
     else if bytes_eq path (codes "/desk.js") then Some Script
     else if bytes_eq path (codes "/views.js") then Some Views
+    else if bytes_eq path (codes "/german.json") then Some German
     else None
 
 -- its bytes
@@ -22,6 +24,7 @@ bytes_of Page = PAGE.now
 bytes_of Style = STYLE.now
 bytes_of Script = SCRIPT.now
 bytes_of Views = VIEWS.now
+bytes_of German = GERMAN.now
 
 -- its entity tag
 unfoldable pub tag_of : Resource → List ℕ
@@ -29,6 +32,7 @@ tag_of Page = PAGE_TAG.now
 tag_of Style = STYLE_TAG.now
 tag_of Script = SCRIPT_TAG.now
 tag_of Views = VIEWS_TAG.now
+tag_of German = GERMAN_TAG.now
 
 -- its media type
 abbrev pub media_type_of : Resource → List ℕ
@@ -36,3 +40,4 @@ media_type_of Page = codes "text/html; charset=utf-8"
 media_type_of Style = codes "text/css"
 media_type_of Script = codes "text/javascript"
 media_type_of Views = codes "text/javascript"
+media_type_of German = codes "application/json"

@@ -37,7 +37,7 @@ pub const PAGE: &[u8] = br##"<!doctype html>
 </footer>
 <dialog id="dialog" aria-labelledby="title"></dialog>
 <div id="paper"></div>
-<noscript><p>This page needs JavaScript.</p></noscript>
+<noscript><p>This page needs JavaScript.</p><p lang="de">Diese Seite braucht JavaScript.</p></noscript>
 <script defer src="/desk.js"></script>
 <script defer src="/views.js"></script>
 </body>
@@ -45,4 +45,4 @@ pub const PAGE: &[u8] = br##"<!doctype html>
 "##;
 
 /// Its entity tag.
-pub const PAGE_TAG: &str = "\"47e0ffab9c3178f7ff6c006c1eb3e6d9\"";
+pub const PAGE_TAG: &str = "\"8d511ea17cd820885020827fdad4c353\"";

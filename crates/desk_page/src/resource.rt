@@ -2,6 +2,7 @@
 ghost use Rattle.std.specs.Prelude.{◌≡◌, ◌≤◌, length};
 ghost use Rattle.desk_page.specs.Resources.{bytes_of, media_type_of, resource_at, tag_of};
 
+use crate::german::{GERMAN, GERMAN_TAG};
 use crate::page::{PAGE, PAGE_TAG};
 use crate::script::{SCRIPT, SCRIPT_TAG};
 use crate::style::{STYLE, STYLE_TAG};
@@ -18,6 +19,8 @@ pub enum Resource {
     Script,
     /// Its views, `/views.js`.
     Views,
+    /// What its texts are in German, `/german.json`.
+    German,
 }
 
 /// The resource at a path; `None` at any other.
@@ -32,6 +35,8 @@ pub fn resource_at(path: &[u8]) -> Option<Resource>
         Some(Resource::Script)
     } else if path == b"/views.js".as_slice() {
         Some(Resource::Views)
+    } else if path == b"/german.json".as_slice() {
+        Some(Resource::German)
     } else {
         None
     }
@@ -47,6 +52,7 @@ pub fn bytes_of(resource: Resource) -> &'static [u8]
         Resource::Style => STYLE,
         Resource::Script => SCRIPT,
         Resource::Views => VIEWS,
+        Resource::German => GERMAN,
     }
 }
 
@@ -62,10 +68,11 @@ pub fn tag_of(resource: Resource) -> &'static str
         Resource::Style => STYLE_TAG,
         Resource::Script => SCRIPT_TAG,
         Resource::Views => VIEWS_TAG,
+        Resource::German => GERMAN_TAG,
     }
 }
 
-/// The media type of a resource, at most 24 bytes (RFC 9110, section 8.3.1; of a script RFC 9239).
+/// The media type of a resource, at most 24 bytes (RFC 9110, section 8.3.1; of a script RFC 9239, of JSON RFC 8259).
 pub fn media_type_of(resource: Resource) -> &'static str
     ensures value { result.now ≡ media_type_of resource }
     ensures short { length result.now ≤ 24 }
@@ -74,5 +81,6 @@ pub fn media_type_of(resource: Resource) -> &'static str
         Resource::Page => "text/html; charset=utf-8",
         Resource::Style => "text/css",
         Resource::Script | Resource::Views => "text/javascript",
+        Resource::German => "application/json",
     }
 }

@@ -2,33 +2,54 @@
 
 /// Its bytes: JavaScript in ASCII.
 pub const SCRIPT: &[u8] = br##""use strict";
+let texts = new Map();
+function sayAs(table) { texts = new Map(Object.entries(table)); }
+function t(pieces, ...values) {
+  const text = typeof pieces === "string" ? pieces : pieces.reduce((all, it, k) => `${all}{${k - 1}}${it}`);
+  const said = texts.has(text) ? texts.get(text) : text.replace(/\^\w+$/, "");
+  return said.replace(/\{(\d)\}/g, (place, k) => (Number(k) < values.length ? String(values[k]) : place));
+}
 const grouped = (n) => String(n).replace(/\B(?=(\d{3})+$)/g, "\u202f");
-const counted = (n, one, many) => `${grouped(n)} ${n === 1 ? one : many}`;
+const counted = (n, one, many) => `${grouped(n)} ${t(n === 1 ? one : many)}`;
+const marked = (text) => text.replace(".", t(".^decimal"));
+const decimal = (n, places) => marked(n.toFixed(places));
 const capital = (word) => word[0].toUpperCase() + word.slice(1);
 const excess = ({ asked, booked }, amount = 0) => Math.max(0, booked + amount - asked);
 function doubtOf(line, amount, before) {
   if (!excess(line, amount)) return null;
   const { asked, booked, unit } = line, told = (n) => `${grouped(n)} ${unit}`, all = booked + amount, times = Math.floor(all / asked);
-  const meanwhile = booked > before ? `Since the form was opened, ${told(booked - before)} was booked. ` : "";
-  return `${meanwhile}Asked ${told(asked)}, booked ${told(booked)}: this makes ${told(all)}${times > 1 ? `, ${grouped(times)} times what was asked` : ""}.`;
+  const meanwhile = booked > before ? t`Since the form was opened, ${told(booked - before)} was booked. ` : "";
+  return `${meanwhile}${t`Asked ${told(asked)}, booked ${told(booked)}: this makes ${told(all)}`}${times > 1 ? t`, ${grouped(times)} times what was asked` : ""}.`;
 }
 const two = (n) => String(n).padStart(2, "0");
 const clock = () => Math.floor(Date.now() / 1000);
 const day = (date) => `${date.getFullYear()}-${two(date.getMonth() + 1)}-${two(date.getDate())}`;
 const dayOf = (seconds) => (seconds === null ? "" : day(new Date(seconds * 1000)));
-function moment(seconds, isExact) {
+function timeOf(seconds, isExact) {
   const date = new Date(seconds * 1000);
-  return `${day(date)} ${two(date.getHours())}:${two(date.getMinutes())}${isExact ? ":" + two(date.getSeconds()) : ""}`;
+  return `${two(date.getHours())}:${two(date.getMinutes())}${isExact ? ":" + two(date.getSeconds()) : ""}`;
 }
+const parts = (text) => text.split("-");
+function dated(text) {
+  const [year, month, date] = parts(text);
+  return date ? t`${year}-${month}-${date}` : text;
+}
+function shortDay(text) {
+  const [, month, date] = parts(text);
+  return t`${month}-${date}`;
+}
+const moment = (seconds, isExact) => `${dated(dayOf(seconds))} ${timeOf(seconds, isExact)}`;
+const stamp = (seconds) => `${dayOf(seconds)} ${timeOf(seconds, true)}`;
 const clockOffset = (told, first, last) => (told < first ? told - first : told > last ? told - last : 0);
+const HOUR = 3600, DAY = 86400;
 function lengthOfTime(seconds) {
-  const [unit, size] = [["day", 86400], ["hour", 3600]].find(([, it]) => seconds >= 2 * it) || ["minute", 60];
-  const count = Math.max(1, Math.round(seconds / size));
-  return `${count} ${unit}${count === 1 ? "" : "s"}`;
+  const countOf = (size) => Math.max(1, Math.round(seconds / size));
+  return seconds >= 2 * DAY ? counted(countOf(DAY), "day", "days") : seconds >= 2 * HOUR ? counted(countOf(HOUR), "hour", "hours")
+    : counted(countOf(60), "minute", "minutes");
 }
 function ageInDays(seconds, now) {
   const noon = (at) => new Date(at * 1000).setHours(12, 0, 0, 0), count = Math.max(0, Math.round((noon(now) - noon(seconds)) / 86400e3));
-  return count === 0 ? "today" : `${count} day${count === 1 ? "" : "s"}`;
+  return count === 0 ? t`today` : counted(count, "day", "days");
 }
 const stampWord = () => clock().toString(36).toUpperCase();
 const isId = (text) => /^[A-Z][A-Z0-9-]{0,23}$/.test(text);
@@ -76,7 +97,7 @@ function isAbove(one, other) {
 const separatorOf = (locale) => (new Intl.NumberFormat(locale).formatToParts(1.5).some((it) => it.type === "decimal" && it.value === ",") ? ";" : ",");
 function written(value, separator) {
   if (typeof value === "number" || typeof value === "bigint") return String(value);
-  const text = value == null ? "" : value === true ? "yes" : value === false ? "no" : String(value);
+  const text = value == null ? "" : value === true ? t`yes` : value === false ? t`no` : String(value);
   const harmless = /^[=+\-@\t\r]/.test(text) ? `'${text}` : text;
   return /["\r\n]/.test(harmless) || harmless.includes(separator) ? `"${harmless.replaceAll("\"", "\"\"")}"` : harmless;
 }
@@ -84,13 +105,13 @@ const csvOf = (rows, separator) => rows.map((row) => `${row.map((it) => written(
 const column = (it) => (typeof it === "string" ? [capital(it), (item) => item[it]] : it);
 function rowsOf(items, columns) {
   const all = columns.map(column);
-  return [all.map(([name]) => name), ...items.map((item) => all.map(([, value]) => value(item)))];
+  return [all.map(([name]) => t(name)), ...items.map((item) => all.map(([, value]) => value(item)))];
 }
-const MATERIAL = ["Material", (it) => it.def], WHEN = ["When", (it) => moment(it.at, true)], AMOUNT = ["Amount", (it) => it.amount];
+const MATERIAL = ["Material", (it) => it.def], WHEN = ["When", (it) => stamp(it.at)], AMOUNT = ["Amount", (it) => it.amount];
 const COLUMNS = {
   orders: ["order", "state", "due", "priority", "recipe", "version", "size"],
   batches: ["batch", "order", "state", "attempt", ["Phases done", (it) => it.next - 1], "phases", ["Next phase", (it) => it.phase], "closed",
-    ["On unit", (it) => it.phase_unit], ["Last event", (it) => moment(it.at, true)], "due", "priority", "recipe", "version", "title", "product", "size", "unit"],
+    ["On unit", (it) => it.phase_unit], ["Last event", (it) => stamp(it.at)], "due", "priority", "recipe", "version", "title", "product", "size", "unit"],
   materials: ["class", MATERIAL, "name", "unit", "lots", ["Free", (it) => it.usable], ["On hold", (it) => it.held], "recalled"],
   stands: ["place", "lot", ["Part", (it) => it.no], MATERIAL, ["Amount", (it) => it.stock], "unit", ["On hold", (it) => it.held], "recalled", "seen"],
   balance: [MATERIAL, "lot", "unit", "received", "produced", ["Of other lots", (it) => it.others], "consumed", "scrapped", ["To other lots", (it) => it.passed],
@@ -100,22 +121,21 @@ const COLUMNS = {
   ledger: [["Number", (it) => it.seq], "line", WHEN, "by", ["What", (it) => it.kind], AMOUNT, "unit", "lot", ["Part", (it) => it.sub], ["To lot", (it) => it.to],
     ["To part", (it) => it.to_sub], "batch", "note"],
   holds: ["lot", "hold", WHEN, "by", "note"],
-  recalls: ["recall", "lot", WHEN, "by", "note", ["Lifted", (it) => it.lift && moment(it.lift.at, true)], ["Lifted by", (it) => it.lift?.by],
+  recalls: ["recall", "lot", WHEN, "by", "note", ["Lifted", (it) => it.lift && stamp(it.lift.at)], ["Lifted by", (it) => it.lift?.by],
     ["Lifted for", (it) => it.lift?.note]],
   recipes: ["recipe", "version", "state", "title", "product", ["Base size", (it) => it.base], ["Least size", (it) => it.min], ["Greatest size", (it) => it.max]],
-  record: ["table", "number", "what", "lot", MATERIAL, AMOUNT, "unit", "asked", "scrapped", "value", ["When", (it) => it.at && moment(it.at, true)], "by", "note"],
+  record: ["table", "number", "what", "lot", MATERIAL, AMOUNT, "unit", "asked", "scrapped", "value", ["When", (it) => it.at && stamp(it.at)], "by", "note"],
 };
 const partsOfLots = (lots) => lots.flatMap((lot) => lot.sublots.filter((it) => it.stock).map((it) => ({ ...lot, ...it })));
 function rowsOfRecord(record, lines) {
-  const booked = (table) => ({ seq, words: [lot, def, amount, unit, , scrapped], ...it }) => ({ ...it, table, number: seq, lot, def, amount: Number(amount), unit,
-    scrapped: table === "Produced" ? Number(scrapped) : null });
+  const booked = (table, what) => ({ seq, words: [lot, def, amount, unit, , scrapped], ...it }) => ({ ...it, table, number: seq, what, lot, def,
+    amount: Number(amount), unit, scrapped: what === "produced" ? Number(scrapped) : null });
   return [
-    ...record.lines.map((it, k) => ({ table: "Control recipe", number: k + 1, what: it.kind, def: it.def || it.name || it.path, amount: it.amount, unit: it.unit,
+    ...record.lines.map((it, k) => ({ table: t`Control recipe`, number: k + 1, what: it.kind, def: it.def || it.name || it.path, amount: it.amount, unit: it.unit,
       value: it.value })),
-    ...record.events.map(({ seq, words, ...it }) => ({ ...it, table: "Events", number: seq })),
-    ...record.consumed.map(booked("Consumed")).map((it) => ({ ...it, what: "consumed" })),
-    ...record.produced.map(booked("Produced")).map((it) => ({ ...it, what: "produced" })),
-    ...lines.map((it) => ({ table: "Totals", what: it.kind, def: it.def, amount: it.booked, asked: it.asked, unit: it.unit })),
+    ...record.events.map(({ seq, words, ...it }) => ({ ...it, table: t`Events`, number: seq })),
+    ...record.consumed.map(booked(t`Consumed`, "consumed")), ...record.produced.map(booked(t`Produced`, "produced")),
+    ...lines.map((it) => ({ table: t`Totals`, what: it.kind, def: it.def, amount: it.booked, asked: it.asked, unit: it.unit })),
   ];
 }
 const LISTS = {
@@ -144,7 +164,7 @@ function recipeLines(text) {
   for (const [k, line] of text.split("\n").entries()) {
     if (!line.trim()) continue;
     const read = recipeLine(line.trim().split(/\s+/));
-    if (!read) return [null, `Line ${k + 1} can't be read. ${LINES_HINT}`];
+    if (!read) return [null, `${t`Line ${k + 1} can't be read.`} ${t(LINES_HINT)}`];
     lines.push(read);
   }
   return [lines, null];
@@ -212,8 +232,8 @@ function readTotal(line) {
   return { kind, def, booked: Number(booked) };
 }
 const keyOfPart = (it) => `${it.lot}/${it.sub}`;
-const placeOfPart = (it) => `${keyOfPart(it)} at ${it.place || "no place"}`;
-const cameInWords = (it) => (it.at === null ? "" : `, came ${dayOf(it.at)}`);
+const placeOfPart = (it) => t`${keyOfPart(it)} at ${it.place || t`no place`}`;
+const cameInWords = (it) => (it.at === null ? "" : t`, came ${dated(dayOf(it.at))}`);
 const partInWords = (it, unit) => `${placeOfPart(it)}: ${grouped(it.stock)} ${unit}${cameInWords(it)}${it.barred ? `, ${it.barred}` : ""}`;
 const REFUSALS = {
   BadForm: "The desk can't read that. Look for a value that breaks its rule.",
@@ -281,16 +301,32 @@ const STATES = {
 const MAY_CLOSE = ["complete", "stopped", "aborted"];
 const TONES = { running: "good", restarting: "good", complete: "good", pausing: "warn", paused: "warn", holding: "warn", held: "warn",
   stopping: "bad", stopped: "bad", aborting: "bad", aborted: "bad" };
+const MOVES = { start: "Start", pause: "Pause", hold: "Hold^batch", stop: "Stop", abort: "Abort", resume: "Resume", restart: "Restart", reset: "Reset" };
+const SAID = [
+  ...Object.keys(STATES), "open", "released", "finished", "cancelled", "draft", "approved", "withdrawn", "in", "out", "par", "phase",
+  "received", "consumed", "produced", "scrapped", "divided", "split", "merged", "lot", "batch", "order", "recall", "material",
+];
+const COMMANDS = [
+  "add_class", "add_definition", "add_recipe", "approve", "withdraw", "import_orders", "cancel_order", "release", "batch", "phase_done", "settle",
+  "close_batch", "receive", "consume", "produce", "scrap", "divide", "split", "merge", "hold", "unhold", "recall", "lift",
+];
+const wordOf = (word) => (SAID.includes(word) ? t(word) : word);
+const commandWord = (word) => (COMMANDS.includes(word) ? t(`${word}^command`) : word);
+const EVENTS = ["start", "done", "pause", "hold", "stop", "abort", "resume", "restart", "reset", "close", "phase"];
+function eventInWords(event) {
+  const [word, ...rest] = event.split(" ");
+  return EVENTS.includes(word) ? [t(`${word}^event`), ...rest].join(" ") : event;
+}
+const refusalOf = (name) => (Object.hasOwn(REFUSALS, name) ? t(REFUSALS[name]) : "");
 function plainly({ status, body }) {
-  if (body.csv) return `${body.row ? `Row ${body.row} of the file, the header being row 0: `
-    : ""}${FILE_FAULTS[body.csv] || ""} (${body.csv}) Nothing was taken in.`;
-  if (body.ahead) return `The moment is more than ${body.ahead} seconds ahead of the clock of the desk's machine. Look at that clock. Nothing was booked.`;
-  if (body.name) return `${REFUSALS[body.name] || "The desk refuses that."} (${body.name})`;
-  if (body.fault === 2) return "The desk is out of memory for now. Nothing has changed: try again.";
-  if (body.fault) return "The desk's store failed. Somebody has to look at the machine of the desk.";
-  if (status === 403) return "The desk doesn't serve this page under this name, or to who is logged in. (403)";
-  if (status === 413) return "That is longer than 262,144 bytes. (413)";
-  return `The desk doesn't know that. (${status})`;
+  if (body.csv) return `${body.row ? t`Row ${body.row} of the file, the header being row 0: ` : ""}${t`${t(FILE_FAULTS[body.csv] || "")} (${body.csv}) Nothing was taken in.`}`;
+  if (body.ahead) return t`The moment is more than ${body.ahead} seconds ahead of the clock of the desk's machine. Look at that clock. Nothing was booked.`;
+  if (body.name) return `${refusalOf(body.name) || t`The desk refuses that.`} (${body.name})`;
+  if (body.fault === 2) return t`The desk is out of memory for now. Nothing has changed: try again.`;
+  if (body.fault) return t`The desk's store failed. Somebody has to look at the machine of the desk.`;
+  if (status === 403) return t`The desk doesn't serve this page under this name, or to who is logged in. (403)`;
+  if (status === 413) return t`That is longer than 262,144 bytes. (413)`;
+  return t`The desk doesn't know that. (${status})`;
 }
 const LOST = "No answer came. The booking may have been taken or not: send it again, and it counts once.";
 const GAP = 30;
@@ -314,7 +350,7 @@ function lotOf(code) {
   return { lot: isId(word) ? word : lotOfSupplier(word), sub: no === undefined ? null : Number(no) };
 }
 function withCode(note, code) {
-  const word = `supplier's code ${code.replace(/[^ -~]/g, "?")}`;
+  const word = t`supplier's code ${code.replace(/[^ -~]/g, "?")}`;
   return (note.includes(word) ? note : note ? `${word}; ${note}` : word).slice(0, 60);
 }
 const WORDS_OF_BARS = (
@@ -368,7 +404,7 @@ const BY = {
 const sortedOrders = (orders, by, isBack) => [...orders].sort((a, b) => (isBack ? -1 : 1) * BY[by](a, b) || bySooner(a, b));
 function filteredOrders(orders, recipe, text, titleOf) {
   const words = text.toUpperCase().split(/\s+/).filter(Boolean);
-  const isMeant = (it) => words.every((word) => `${it.order} ${it.recipe} ${it.version} ${titleOf(it)} ${it.due}`.toUpperCase().includes(word));
+  const isMeant = (it) => words.every((word) => `${it.order} ${it.recipe} ${it.version} ${titleOf(it)} ${it.due} ${dated(it.due)}`.toUpperCase().includes(word));
   return orders.filter((it) => (!recipe || it.recipe === recipe) && isMeant(it));
 }
 function inAll(demands) {
@@ -430,6 +466,10 @@ function roundUp(n) {
 }
 const newIn = (keys, before) => [...keys].filter((it) => !before.has(it));
 const nameOfNode = (node) => (node.lot ? "lot " + node.lot : "batch " + node.batch);
+function nodeInWords(name) {
+  const [kind, id] = name.split(" ");
+  return kind === "lot" ? t`lot ${id}` : t`batch ${id}`;
+}
 function depthsOf(names, edges) {
   const next = new Map(names.map((it) => [it, []])), waits = new Map(names.map((it) => [it, 0])), depth = new Map();
   for (const { from, to } of edges) {
@@ -495,7 +535,7 @@ function materialsOf(lots) {
 }
 const flowsOf = ({ entered, left }) => ({ received: entered.received, produced: entered.produced, others: entered.split + entered.merged,
   consumed: left.consumed, scrapped: left.scrapped, passed: left.split + left.merged });
-const wherever = (places) => places.map((it) => `${it.place || "no place"}: ${it.stock}`).join("; ");
+const wherever = (places) => places.map((it) => `${it.place || t`no place`}: ${it.stock}`).join("; ");
 const rowsOfBalance = (lots) => [
   ...materialsOf(lots).map((it) => ({ ...it, passed: 0, where: wherever(it.places) })),
   ...lots.map((it) => ({ def: it.def, lot: it.lot, unit: it.unit || "", stock: it.stock, held: it.held, recalled: it.recalled, ...flowsOf(it),
@@ -530,6 +570,37 @@ function keep(name, value) {
     memory.delete(name);
   } catch { memory.set(name, value); }
 }
+const NAMES = { en: "English", de: "Deutsch" }, TABLES = { de: "/german.json" };
+const wanted = () => [kept("language", null), ...navigator.languages.map((it) => it.split("-")[0])].find((it) => Object.hasOwn(NAMES, it)) || "en";
+let spoken = "en";
+const languages = Object.values(NAMES);
+const spokenName = () => NAMES[spoken];
+const numbersOf = () => (spoken === "en" ? navigator.language : spoken);
+async function loadTexts() {
+  const language = wanted(), table = TABLES[language];
+  if (!table) return;
+  try {
+    const reply = await fetch(table, { redirect: "error" });
+    if (!reply.ok) return;
+    sayAs(await reply.json());
+  } catch { return; }
+  spoken = language;
+  document.documentElement.lang = language;
+  for (const it of document.body.querySelectorAll("*")) sayElement(it);
+  const [style] = document.styleSheets, number = t`page ${"\" counter(page) \""} of ${"\" counter(pages) \""}`;
+  style?.insertRule(`@page { @bottom-right { content: "${number}"; } }`, style.cssRules.length);
+}
+function sayElement(element) {
+  for (const name of ["aria-label", "placeholder"]) if (element.hasAttribute(name)) element.setAttribute(name, t(element.getAttribute(name)));
+  for (const node of element.childNodes) {
+    const text = node.nodeType === Node.TEXT_NODE ? node.data.trim() : "";
+    if (text) node.data = node.data.replace(text, () => t(text));
+  }
+}
+function chooseLanguage(name) {
+  keep("language", Object.keys(NAMES).find((it) => NAMES[it] === name));
+  location.reload();
+}
 const PLACE = "desk.typed", MOST_FORMS = 20;
 function allTyped() {
   try { return new Map(JSON.parse(sessionStorage.getItem(PLACE))); } catch { return new Map(); }
@@ -553,7 +624,7 @@ let ofLogin = null;
 function nameByLogin(name) {
   ofLogin = name;
   operator.readOnly = name !== null;
-  operator.title = name === null ? "" : "The operator is who is logged in.";
+  operator.title = name === null ? "" : t`The operator is who is logged in.`;
   if (name !== null) operator.value = name;
 }
 const IDLE = 30 * 60;
@@ -579,8 +650,8 @@ function whoQuestion(named, other) {
   const notBefore = performance.now() + CONSIDERED, self = operatorName();
   const big = (label, press) => h("button", { type: "button", onclick: () => performance.now() > notBefore && press() }, label);
   const others = lastNames().filter((it) => it !== self).slice(0, MOST_NAMES - 1);
-  return h("div", { class: "still", role: "group", "aria-label": "Who is there" }, h("b", {}, `Still ${self}?`), " Nobody was at this page for half an hour.",
-    h("div", {}, big(`Yes, ${self}`, () => named(self)), others.map((it) => big(it, () => named(it))), big("Another name", other)));
+  return h("div", { class: "still", role: "group", "aria-label": t`Who is there` }, h("b", {}, t`Still ${self}?`), " ", t`Nobody was at this page for half an hour.`,
+    h("div", {}, big(t`Yes, ${self}`, () => named(self)), others.map((it) => big(it, () => named(it))), big(t`Another name`, other)));
 }
 const keyOf = (it) => (it
   ? `${it.id}|${(it.closest("[data-row]") || { dataset: {} }).dataset.row || ""}|${it.getAttribute("aria-label") || it.textContent}` : "");
@@ -681,7 +752,7 @@ const button = (label, press, style, more) => h("button", { type: "button", clas
 const fact = (name, ...value) => h("div", {}, name, h("b", {}, ...value));
 const facts = (...all) => h("div", { class: "body" }, h("div", { class: "facts" }, all));
 const choice = (name, options, on, pick) => h("div", { class: "choice", role: "group", "aria-label": name },
-  options.map((it) => button(it, () => pick(it), null, { "aria-pressed": String(it === on) })));
+  options.map((it) => button(t(it), () => pick(it), null, { "aria-pressed": String(it === on) })));
 const hashOf = (place) => `#${placeFrom(location.hash, place)}`;
 const link = (place, text) => h("a", { href: hashOf(place) }, text);
 const lotLink = (id, sub) => [link("quality/lot/" + id, id), sub ? "/" + sub : ""];
@@ -689,8 +760,9 @@ const batchLink = (id) => link("shift/" + id, id);
 function go(...parts) { location.hash = hashOf(parts.filter(Boolean).join("/")); }
 function table(heads, rows, without, isShort, sorts = {}) {
   if (!rows.length) return none(without);
-  for (const it of rows) [...it.children].forEach((cell, k) => { cell.dataset.label = heads[k].replace("#", ""); });
-  const head = heads.map((text) => headCell(text.replace("#", ""), text.startsWith("#"), sorts[text]));
+  const names = heads.map((text) => t(text.replace("#", "")));
+  for (const it of rows) [...it.children].forEach((cell, k) => { cell.dataset.label = names[k]; });
+  const head = heads.map((text, k) => headCell(names[k], text.startsWith("#"), sorts[text]));
   return h("div", { class: "wide" }, h("table", { class: isShort ? null : "block" }, h("thead", {}, h("tr", {}, head)),
     h("tbody", {}, rows)));
 }
@@ -699,7 +771,7 @@ function headCell(text, isOfNumbers, sort) {
   if (!sort) return h("th", kind, text);
   const sign = { up: " \u25b4", down: " \u25be" }[sort.way] || "";
   return h("th", { ...kind, "aria-sort": { up: "ascending", down: "descending" }[sort.way] || "none" },
-    button(text + sign, sort.press, "sort", { "aria-label": `Sort by ${text}` }));
+    button(text + sign, sort.press, "sort", { "aria-label": t`Sort by ${text}` }));
 }
 const whole = (content) => (content.flat(9).some((it) => it || it === 0) ? h("span", {}, content) : null);
 function row(name, cells, place, isOn) {
@@ -712,23 +784,23 @@ function row(name, cells, place, isOn) {
 const cell = (...content) => h("td", {}, whole(content));
 const idCell = (...content) => h("td", { class: "id" }, whole(content));
 const numberCell = (n, unit) => h("td", { class: "num" }, h("span", {}, grouped(n), unit ? " " + unit : ""));
-const overCell = (line, booked) => h("td", { class: "num" }, h("span", { class: "over" }, booked, `over ${grouped(excess(line))} ${line.unit}`));
+const overCell = (line, booked) => h("td", { class: "num" }, h("span", { class: "over" }, booked, t`over ${grouped(excess(line))} ${line.unit}`));
 const momentCell = (seconds) => h("td", { class: "when" }, moment(seconds));
 const buttonsCell = (...buttons) => h("td", { class: "do" }, h("div", {}, buttons));
 function firstSteps() {
   const step = (place, name, ...text) => h("li", {}, link(place, name), ": ", ...text);
-  return card("This desk is new", null, h("div", { class: "body" }, h("ol", {},
-    step("warehouse", "Warehouse", "make a class, such as RAW, and in it the materials, each with the unit in which it is counted."),
-    step("planner", "Planner", "write a recipe and approve it. Then take orders in."),
-    step("warehouse", "Warehouse", "receive lots of what goes in."),
-    step("planner", "Planner", "release an order, which makes its batch."),
-    step("shift", "Shift", "start the batch, book what goes in and comes out, do its phases, and close it."),
-    step("quality", "Quality", "see where goods came from and went; hold and recall them."))));
+  return card(t`This desk is new`, null, h("div", { class: "body" }, h("ol", {},
+    step("warehouse", t`Warehouse`, t`make a class, such as RAW, and in it the materials, each with the unit in which it is counted.`),
+    step("planner", t`Planner`, t`write a recipe and approve it. Then take orders in.`),
+    step("warehouse", t`Warehouse`, t`receive lots of what goes in.`),
+    step("planner", t`Planner`, t`release an order, which makes its batch.`),
+    step("shift", t`Shift`, t`start the batch, book what goes in and comes out, do its phases, and close it.`),
+    step("quality", t`Quality`, t`see where goods came from and went; hold and recall them.`))));
 }
 class Refusal extends Error {
   constructor(answer) { super(plainly(answer)); this.answer = answer; }
 }
-const whyNot = (error) => (error instanceof Refusal ? error.message : "The desk doesn't answer.");
+const whyNot = (error) => (error instanceof Refusal ? error.message : t`The desk doesn't answer.`);
 const SECONDS = 40;
 let tail = Promise.resolve();
 function request(path, options) {
@@ -873,8 +945,8 @@ const desk = {
 };
 function more(items, name, what) {
   if (!items.more) return null;
-  const ask = (count) => button(`${grouped(count)} more`, () => { wantedItems.set(name, want(name) + count); show(); });
-  return h("div", { class: "more" }, `The first ${grouped(items.length)}${what || ""} are shown, and there are more.`, ask(PAGE),
+  const ask = (count) => button(t`${grouped(count)} more`, () => { wantedItems.set(name, want(name) + count); show(); });
+  return h("div", { class: "more" }, what ? what(grouped(items.length)) : t`The first ${grouped(items.length)} are shown, and there are more.`, ask(PAGE),
     ask(10 * PAGE));
 }
 const VIEWS = {};
@@ -911,7 +983,7 @@ let showing = 0;
 async function show() {
   const mine = ++showing, [name, rest] = place();
   markRole(name);
-  const slow = setTimeout(() => tellStatus("", "reading\u2026"), SLOW);
+  const slow = setTimeout(() => tellStatus("", t`reading\u2026`), SLOW);
   try {
     await desk.look();
     const [layout, ...parts] = await VIEWS[name](rest);
@@ -926,7 +998,7 @@ async function show() {
 }
 const unread = new Map(), lastRead = new Map();
 function later(name, read) {
-  const it = h("div", { class: "later" }, none("reading\u2026"));
+  const it = h("div", { class: "later" }, none(t`reading\u2026`));
   unread.set(it, { name, read });
   return it;
 }
@@ -974,36 +1046,39 @@ function doDrawn() {
   toDo = [];
   for (const act of all) act();
 }
-const LISTS_OF = { planner: "the orders", shift: "the batches", warehouse: "the materials", quality: "recalls and holds" };
+const LISTS_OF = { planner: "Back to the orders", shift: "Back to the batches", warehouse: "Back to the materials", quality: "Back to recalls and holds" };
 function drawBack() {
   const [name, rest] = place(), isInside = name === "warehouse" && rest.length > 1, isList = !rest.length || (rest.length === 1 && rest[0] === "place");
   view.classList.toggle("thing", !isList);
   at("back").hidden = isList;
   at("back").href = `#${placeFrom(location.hash, isInside ? `warehouse/${rest[0]}` : name)}`;
-  at("back").textContent = `\u2039 Back to ${!isInside ? LISTS_OF[name] : rest[0] === "place" ? "the places" : `the lots of ${rest[0]}`}`;
+  const text = !isInside ? t(LISTS_OF[name] || "") : rest[0] === "place" ? t`Back to the places` : t`Back to the lots of ${rest[0]}`;
+  at("back").textContent = `\u2039 ${text}`;
 }
 function drawFailure(name, error) {
-  if (error instanceof Refusal) return draw("", [card("Not here", null, none(error.message, " ", link(name, "Back")))]);
-  const why = "The desk doesn't answer. It may be stopped, or the way to it is broken.", again = button("Try again", () => { notice(); show(); });
-  if (drawn !== location.hash) draw("", [card("No answer", null, none(why), h("div", { class: "body" }, again))]);
+  if (error instanceof Refusal) return draw("", [card(t`Not here`, null, none(error.message, " ", link(name, t`Back`)))]);
+  const why = t`The desk doesn't answer. It may be stopped, or the way to it is broken.`, again = button(t`Try again`, () => { notice(); show(); });
+  if (drawn !== location.hash) draw("", [card(t`No answer`, null, none(why), h("div", { class: "body" }, again))]);
   else notice("bad", why, again);
-  tellStatus("bad", "no answer");
+  tellStatus("bad", t`no answer`);
 }
+const clockIsOff = (length) => (desk.offset < 0 ? t`This device's clock is ${length} ahead of that of the desk's machine.`
+  : t`This device's clock is ${length} behind that of the desk's machine.`);
 function drawStatus() {
   const isAhead = desk.moment > desk.time() + 60, isOff = Math.abs(desk.offset) > 60;
   at("clock").hidden = !isOff;
-  at("clock").textContent = isOff ? `This device's clock is ${lengthOfTime(Math.abs(desk.offset))} ${desk.offset < 0 ? "ahead of" : "behind"} that of the desk's `
-    + "machine. Bookings take the machine's time." : "";
-  tellStatus(isAhead ? "warn" : "", desk.seq === 0 ? "no booking yet"
-    : `${counted(desk.seq, "booking", "bookings")}, ${isAhead ? "ahead:" : "last"} ${moment(desk.moment)}`);
-  at("stand").title = isAhead ? "The desk's last booking is later than its machine's clock. Bookings take the desk's moment." : "";
+  at("clock").textContent = isOff ? `${clockIsOff(lengthOfTime(Math.abs(desk.offset)))} ${t`Bookings take the machine's time.`}` : "";
+  const count = counted(desk.seq, "booking", "bookings"), last = moment(desk.moment);
+  tellStatus(isAhead ? "warn" : "", desk.seq === 0 ? t`no booking yet` : isAhead ? t`${count}, ahead: ${last}` : t`${count}, last ${last}`);
+  at("stand").title = isAhead ? t`The desk's last booking is later than its machine's clock. Bookings take the desk's moment.` : "";
 }
+const TITLES = { today: "today^view", planner: "planner^view", shift: "shift^view", warehouse: "warehouse^view", quality: "quality^view", board: "board^view" };
 function markRole(name) {
   for (const it of document.querySelectorAll("header nav a")) {
     if (it.hash === "#" + name) it.setAttribute("aria-current", "page");
     else it.removeAttribute("aria-current");
   }
-  document.title = "Desk: " + name;
+  document.title = t`Desk: ${t(TITLES[name])}`;
 }
 const LINK_LASTS = 60_000;
 function save(name, text) {
@@ -1013,18 +1088,18 @@ function save(name, text) {
 }
 async function saveList(list, name, read) {
   const isNew = await desk.look(), rows = rowsOf(await read(), COLUMNS[list]), file = `${name}-${desk.today()}.csv`;
-  save(file, csvOf(rows, separatorOf(navigator.language)));
+  save(file, csvOf(rows, separatorOf(numbersOf())));
   if (isNew) await show();
-  notice("good", `${counted(rows.length - 1, "row", "rows")} saved as ${file}.`);
+  notice("good", t`${counted(rows.length - 1, "row", "rows")} saved as ${file}.`);
 }
-const csvButton = (list, name, read) => button("CSV", async () => {
-  notice("", "Reading the list\u2026");
+const csvButton = (list, name, read) => button(t`CSV`, async () => {
+  notice("", t`Reading the list\u2026`);
   try { await saveList(list, name, read); } catch (error) {
-    notice("bad", error instanceof Refusal ? error.message : "The desk doesn't answer. Nothing was saved.");
+    notice("bad", error instanceof Refusal ? error.message : t`The desk doesn't answer. Nothing was saved.`);
   }
-}, null, { "aria-label": `CSV of ${name}`, title: "Save the list for a spreadsheet" });
+}, null, { "aria-label": t`CSV of ${name}`, title: t`Save the list for a spreadsheet` });
 const partsOfLot = (lot) => lot.sublots.filter((it) => it.stock > 0).map((it) => ({ lot: lot.lot, sub: it.no, stock: it.stock, place: it.place,
-  at: lot.at, barred: lot.held ? "on hold" : lot.recalled ? "recalled" : "" }));
+  at: lot.at, barred: lot.held ? t`on hold` : lot.recalled ? t`recalled` : "" }));
 async function partsToOffer(def) {
   let lots, parts, wanted = 0;
   do {
@@ -1043,28 +1118,29 @@ async function lotNow(id) {
   await desk.look();
   return wholeLot(id);
 }
+const nothingIn = (id, sub) => (sub === null ? t`There is nothing in lot ${id}.` : t`There is nothing in part ${sub} of lot ${id}.`);
 async function partsNamed(code, { def, mayBeBarred }) {
   const { lot: id, sub } = lotOf(code), lot = await lotNow(id);
-  if (!lot) return `There is no lot ${id || code}.`;
-  if (lot.def !== def) return `Lot ${id} is ${lot.def}, and not ${def}.`;
+  if (!lot) return t`There is no lot ${id || code}.`;
+  if (lot.def !== def) return t`Lot ${id} is ${lot.def}, and not ${def}.`;
   const parts = partsOfLot(lot), meant = sub === null ? parts[0] : parts.find((it) => it.sub === sub);
-  if (!meant) return `There is nothing in ${sub === null ? "lot" : `part ${sub} of lot`} ${id}.`;
-  if (meant.barred && !mayBeBarred) return `Lot ${id} is ${meant.barred}.`;
+  if (!meant) return nothingIn(id, sub);
+  if (meant.barred && !mayBeBarred) return t`Lot ${id} is ${meant.barred}.`;
   return [meant, ...parts.filter((it) => it !== meant)];
 }
-const ATTRIBUTES = { "data-id": true, maxlength: 28, autocapitalize: "characters", autocomplete: "off", spellcheck: "false",
-  placeholder: "such as F-1, or F-1/2 for its part 2" };
+const ATTRIBUTES = { "data-id": true, maxlength: 28, autocapitalize: "characters", autocomplete: "off", spellcheck: "false" };
 class LotChoice {
   constructor(field, told) {
     Object.assign(this, { field, told, part: field.part || null, seen: "", looking: null, known: new Map() });
-    this.input = h("input", { name: field.name, ...ATTRIBUTES, required: !field.part && !field.isOptional, oninput: () => this.typed(), onchange: () => this.look() });
+    this.input = h("input", { name: field.name, ...ATTRIBUTES, placeholder: t`such as F-1, or F-1/2 for its part 2`, required: !field.part && !field.isOptional, oninput: () => this.typed(), onchange: () => this.look() });
     this.list = h("select", { name: `${field.name}-list`, onchange: () => this.choose(this.known.get(this.list.value) || null, true) },
-      h("option", { value: "" }, "none of these"));
+      h("option", { value: "" }, t`none of these`));
     this.said = h("p", { class: "said", role: "status" });
     this.wrong = h("p", { class: "wrong", role: "alert" });
     this.offer(field.parts || []);
     this.element = h("div", { class: "lot" }, h("label", {}, field.label, this.input),
-      h("label", {}, `Or one of those in stock, the oldest first${field.parts?.more ? "; younger ones are scanned or typed" : ""}`, this.list), this.said, this.wrong);
+      h("label", {}, field.parts?.more ? t`Or one of those in stock, the oldest first; younger ones are scanned or typed` : t`Or one of those in stock, the oldest first`,
+        this.list), this.said, this.wrong);
     this.draw();
   }
   isSettled() {
@@ -1134,15 +1210,15 @@ const say = (text) => ({ kind: "say", label: text });
 const ownField = (element) => ({ kind: "own", element });
 const idField = (name, label, value) => ({ name, kind: "id", label, value });
 const newLotField = (name, label, value) => ({ name, kind: "id", label, value, isNewLot: true });
-const lotField = (more) => ({ name: "from", kind: "lot", label: "Scan or type the lot", ...more });
+const lotField = (more) => ({ name: "from", kind: "lot", label: t`Scan or type the lot`, ...more });
 const textField = (name, label, more) => ({ name, kind: "text", label, more });
-const amountField = (unit, value) => ({ name: "amount", kind: "amount", label: unit ? `Amount, ${unit}` : "Amount", value });
-const placeField = (label) => textField("place", label || "Place");
-const noteField = (label) => textField("note", label || "Note, if any");
-const whyField = () => textField("note", "Why", { required: true, pattern: "[ -~]*[!-~][ -~]*" });
+const amountField = (unit, value) => ({ name: "amount", kind: "amount", label: unit ? t`Amount, ${unit}` : t`Amount`, value });
+const placeField = (label) => textField("place", label || t`Place`);
+const noteField = (label) => textField("note", label || t`Note, if any`);
+const whyField = () => textField("note", t`Why`, { required: true, pattern: "[ -~]*[!-~][ -~]*" });
 const selectField = (name, label, options, value, change) => ({ name, kind: "select", label, options, value, change });
 const halfField = (name, kind, label, more) => ({ name, kind, label, isHalf: true, ...more });
-const operatorField = textField("operator", "Operator: your name, which this browser keeps", { required: true });
+const operatorField = () => textField("operator", t`Operator: your name, which this browser keeps`, { required: true });
 const noted = (fields, note) => (note ? { ...fields, note } : fields);
 function input(field) {
   const value = field.value === undefined ? "" : String(field.value);
@@ -1150,7 +1226,8 @@ function input(field) {
     const options = field.options.map((it) => h("option", { value: it.value, disabled: it.isOff, selected: String(it.value) === value }, it.label));
     return h("select", { name: field.name, required: true }, options);
   }
-  const it = h(field.kind === "lines" ? "textarea" : "input", { name: field.name, ...FIELDS[field.kind], ...field.more });
+  const { title, ...rest } = FIELDS[field.kind];
+  const it = h(field.kind === "lines" ? "textarea" : "input", { name: field.name, ...rest, title: title && t(title), ...field.more });
   it.value = value;
   return it;
 }
@@ -1160,8 +1237,8 @@ async function foreseen(content, by, signal) {
   const { accepted, name, item, reason } = reply.status === 200 ? await reply.json() : { accepted: true };
   if (accepted || name === "MomentBack") return "";
   const list = content.parts || content.lines || content.orders || [];
-  return `As it stands, this would be refused${item && list.length > 1 ? `, for number ${item} of the list` : ""}. ${reason ? `It can't be read: ${reason}.`
-    : REFUSALS[name] || ""} (${name})`;
+  const which = item && list.length > 1 ? t`As it stands, this would be refused, for number ${item} of the list.` : t`As it stands, this would be refused.`;
+  return `${which} ${reason ? t`It can't be read: ${reason}.` : refusalOf(name)} (${name})`;
 }
 const PAUSE = 400;
 const CONSIDER = 600;
@@ -1169,7 +1246,7 @@ class Form {
   constructor(title, fields, label, take, { isGrave, contentOf, doubt, booksNothing } = {}) {
     Object.assign(this, { label, take, contentOf, doubt, style: isGrave ? "main bad" : "main", again: null, confirmed: null, asking: new AbortController() });
     this.needsName = !booksNothing;
-    this.fields = hasOperator() || booksNothing ? fields : [...fields, operatorField];
+    this.fields = hasOperator() || booksNothing ? fields : [...fields, operatorField()];
     this.inputs = {};
     this.wrong = h("p", { class: "wrong", role: "alert" });
     this.told = h("p", { class: "foreseen", role: "status" });
@@ -1179,7 +1256,7 @@ class Form {
     this.drawAs();
     const part = fields.find((it) => it.part)?.part;
     this.name = booksNothing ? null : [desk.name || "", title, part ? keyOfPart(part) : ""].join("|");
-    const rows = this.fields.map((it) => this.row(it)), away = button("Cancel", () => this.ok.disabled || dialog.close());
+    const rows = this.fields.map((it) => this.row(it)), away = button(t`Cancel`, () => this.ok.disabled || dialog.close());
     const events = { onsubmit: (event) => this.submit(event), oninput: () => this.changed(), onkeydown: (event) => this.pressed(event) };
     this.element = h("form", { method: "dialog", ...events }, h("h2", { id: "title" }, title), this.who, this.putBack(), rows, this.told, this.wrong,
       h("div", { class: "end" }, away, this.as, this.ok));
@@ -1196,18 +1273,19 @@ class Form {
     const kept = Object.entries((this.name !== null && typedIn(this.name)) || {}).filter(([name]) => this.inputs[name]);
     for (const [name, value] of kept) this.inputs[name].value = value;
     if (this.lot && kept.some(([name]) => this.inputs[name] === this.lot.input)) this.lot.look();
-    return kept.length > 0 && h("p", { class: "soft", role: "status" }, "What was typed before the page was loaded anew is put back.");
+    return kept.length > 0 && h("p", { class: "soft", role: "status" }, t`What was typed before the page was loaded anew is put back.`);
   }
   isInDoubt() { return this.needsName && !this.inputs.operator && isInDoubt(); }
-  drawAs() { this.as.textContent = this.needsName && !this.inputs.operator && hasOperator() ? `as ${operatorName()}` : ""; }
+  drawAs() { this.as.textContent = this.needsName && !this.inputs.operator && hasOperator() ? t`as ${operatorName()}` : ""; }
   askWho(then) {
     const named = (name) => { nameOperator(name); this.who.hidden = true; this.drawAs(); then(); };
     this.who.replaceChildren(whoQuestion(named, () => this.askName()));
     this.who.hidden = false;
   }
   askName() {
-    this.fields = [...this.fields, operatorField];
-    this.who.replaceWith(this.row(operatorField));
+    const field = operatorField();
+    this.fields = [...this.fields, field];
+    this.who.replaceWith(this.row(field));
     this.drawAs();
     this.inputs.operator.focus();
   }
@@ -1230,7 +1308,7 @@ class Form {
   offerPlain(it, hint) {
     const plain = it.checkValidity() ? null : plainText(it.value);
     const take = () => { it.value = plain; hint.replaceChildren(); this.changed(); };
-    hint.replaceChildren(...(plain === null || plain === it.value ? [] : ["The desk has plain letters alone. ", button(`Take \u201c${plain}\u201d`, take)]));
+    hint.replaceChildren(...(plain === null || plain === it.value ? [] : [t`The desk has plain letters alone.`, " ", button(t`Take \u201c${plain}\u201d`, take)]));
   }
   isOpen() { return dialog.open && dialog.firstChild === this.element; }
   values() {
@@ -1278,7 +1356,7 @@ class Form {
     this.confirmed = text;
     this.wrong.textContent = text || "";
     this.ok.className = text ? "main bad" : this.style;
-    this.ok.textContent = text ? `${this.label} all the same` : this.label;
+    this.ok.textContent = text ? t`${this.label} all the same` : this.label;
     this.notBefore = performance.now() + CONSIDER;
   }
   async hasDoubt(values) {
@@ -1311,7 +1389,7 @@ class Form {
   async scanned(code, isAgain, place) {
     if (this.ok.disabled) return tone();
     this.doubted(null);
-    this.again = isAgain ? `${code} was scanned twice within two seconds.` : null;
+    this.again = isAgain ? t`${code} was scanned twice within two seconds.` : null;
     const field = this.fields.find((it) => it.isNewLot), isForNew = field && place === this.inputs[field.name];
     if (this.lot && !(isForNew && !(await lotNow(lotOf(code).lot)))) {
       if (await this.lot.look(code)) this.goOn(this.lot.input);
@@ -1319,15 +1397,15 @@ class Form {
       this.inputs[field.name].value = code.toUpperCase();
       this.putNewLot(field, code);
       this.goOn(this.inputs[field.name]);
-    } else return this.refuse("This form takes no scan. Nothing was booked.");
-    if (this.again && !this.wrong.textContent) this.wrong.textContent = `${this.again} It is booked once you say so.`;
+    } else return this.refuse(t`This form takes no scan. Nothing was booked.`);
+    if (this.again && !this.wrong.textContent) this.wrong.textContent = `${this.again} ${t`It is booked once you say so.`}`;
   }
   refuse(why) { this.wrong.textContent = why; tone(); }
   putNewLot(field, code) {
     const text = code.trim(), lot = isId(text.toUpperCase()) || !text ? null : lotOfSupplier(text), { note } = this.inputs;
     if (text === this.made) return;
     this.made = lot;
-    this.hint.textContent = lot ? `${text} is no id of the desk: the lot is ${lot}, and the code goes into the note.` : "";
+    this.hint.textContent = lot ? t`${text} is no id of the desk: the lot is ${lot}, and the code goes into the note.` : "";
     if (!lot) return;
     this.inputs[field.name].value = lot;
     if (note) note.value = withCode(note.value, text);
@@ -1358,12 +1436,12 @@ function openDialog(content, first) {
 function barcode(text, room, high) {
   const { path, width } = bars(text), module = moduleFor(width, room);
   return svg("svg", { class: "bars", width: `${width * module}mm`, height: `${high}mm`, viewBox: `0 0 ${width} 1`, preserveAspectRatio: "none", role: "img",
-    "aria-label": `Bar code of ${text}`, "shape-rendering": "crispEdges" }, svg("path", { d: path }));
+    "aria-label": t`Bar code of ${text}`, "shape-rendering": "crispEdges" }, svg("path", { d: path }));
 }
 let topOfPages = null;
 function openPaper(title, content, top = null, tools = []) {
   topOfPages = top;
-  const print = button("Print", () => globalThis.print(), "main"), away = button("Close", () => dialog.close());
+  const print = button(t`Print`, () => globalThis.print(), "main"), away = button(t`Close`, () => dialog.close());
   openDialog(h("form", { method: "dialog", class: "preview" }, h("h2", { id: "title" }, title), h("div", { class: "sheets" }, content),
     h("div", { class: "end" }, tools, away, print)), print);
 }
@@ -1387,22 +1465,22 @@ const ROOM = 94, HIGH = 17, LOW = 12, SHORT = 20;
 const codeOf = ({ lot, sub }) => (sub === 0 ? lot : `${lot}/${sub}`);
 function label(part, def, { name, unit }) {
   const known = (what, ...value) => h("div", {}, h("span", {}, what), h("b", {}, ...value));
-  const code = codeOf(part), place = part.place || "no place", isLong = [code, name, place].some((it) => it.length > SHORT);
+  const code = codeOf(part), place = part.place || t`no place`, isLong = [code, name, place].some((it) => it.length > SHORT);
   return h("section", { class: isLong ? "label long" : "label" }, h("h3", {}, code), barcode(code, ROOM, isLong ? LOW : HIGH),
     h("p", {}, h("b", {}, def), name && ` ${name}`),
-    h("div", { class: "known" }, known("Amount", `${grouped(part.stock)} ${unit}`), known("Came", dayOf(part.at)), known("Place", place)));
+    h("div", { class: "known" }, known(t`Amount`, `${grouped(part.stock)} ${unit}`), known(t`Came`, dated(dayOf(part.at))), known(t`Place`, place)));
 }
 async function showLabels(id, sub) {
   try {
     const lot = await lotNow(id), parts = lot ? partsOfLot(lot).filter((it) => sub === undefined || it.sub === sub) : [];
-    if (!parts.length) return notice("bad", `There is nothing in ${sub === undefined ? "lot" : `part ${sub} of lot`} ${id}.`);
+    if (!parts.length) return notice("bad", nothingIn(id, sub ?? null));
     const known = await desk.definition(lot.def);
-    openPaper(parts.length === 1 ? `Label of ${codeOf(parts[0])}` : `${parts.length} labels of ${id}`, parts.map((it) => label(it, lot.def, known)));
+    openPaper(parts.length === 1 ? t`Label of ${codeOf(parts[0])}` : t`${parts.length} labels of ${id}`, parts.map((it) => label(it, lot.def, known)));
   } catch (error) { notice("bad", whyNot(error)); }
 }
 function labelOffer({ do: word, lot, new: made }) {
   const id = { receive: lot, produce: lot, split: made, merge: made }[word];
-  return id ? [button("Label", () => showLabels(id), null, { "aria-label": `Label of ${id}` })] : [];
+  return id ? [button(t`Label`, () => showLabels(id), null, { "aria-label": t`Label of ${id}` })] : [];
 }
 const REFERENCE = "ABCDEFGHIJKLMNOPQRSTUVWXYZ234567";
 const newReference = () => "WEB-" + Array.from(crypto.getRandomValues(new Uint8Array(20)), (byte) => REFERENCE[byte & 31]).join("");
@@ -1445,8 +1523,8 @@ async function deliver(booking) {
   } catch { return null; } finally { sending = null; drawWaiting(); }
 }
 async function book(what, content, isOneOfMany) {
-  if (sending) return "A booking is under way.";
-  if (unanswered().some((it) => it.tab === TAB && !isOfAnother(it))) return "An earlier booking has no answer yet. Send it again first: see the top of the page.";
+  if (sending) return t`A booking is under way.`;
+  if (unanswered().some((it) => it.tab === TAB && !isOfAnother(it))) return t`An earlier booking has no answer yet. Send it again first: see the top of the page.`;
   const booking = { what, at: desk.now(), by: operatorName(), ref: newReference(), tab: TAB, since: clock(), desk: desk.name, ...content };
   return settle(booking, await deliver(booking), isOneOfMany);
 }
@@ -1455,29 +1533,29 @@ async function settle({ what, by, fields }, answer, isOneOfMany) {
   if (answer.status !== 200) return plainly(answer);
   keepName(by);
   if (isOneOfMany) return null;
-  notice("good", `${what}. Number ${grouped(answer.body.ok)}. By ${by}.`, ...labelOffer(fields || {}));
+  notice("good", t`${what}. Number ${grouped(answer.body.ok)}. By ${by}.`, ...labelOffer(fields || {}));
   await show();
   return null;
 }
 async function sendAgain(booking) {
   if (sending) return;
-  notice("", "Sending again\u2026");
+  notice("", t`Sending again\u2026`);
   const wrong = await sentAgain(booking);
-  if (wrong) notice("bad", wrong === LOST ? "Still no answer." : `${booking.what}: ${wrong}`);
+  if (wrong) notice("bad", wrong === LOST ? t`Still no answer.` : `${booking.what}: ${wrong}`);
 }
 async function sentAgain(booking) {
   sending = booking.ref;
   try { await desk.lookAtName(); } catch { return LOST; } finally { sending = null; drawWaiting(); }
-  if (isOfAnother(booking)) return "It was sent to another desk than the one that is served here now. It is kept until that one is back.";
+  if (isOfAnother(booking)) return t`It was sent to another desk than the one that is served here now. It is kept until that one is back.`;
   return settle(booking, await deliver(booking));
 }
 function drawWaiting() {
-  const told = (it) => h("span", {}, `No answer came to \u201c${it.what}\u201d. It may have been taken or not. Sent again, it counts once.`);
-  const row = (it) => h("div", {}, told(it), button("Send again", () => sendAgain(it), "main"), button("Leave it", () => leaveBooking(it)));
+  const told = (it) => h("span", {}, t`No answer came to \u201c${it.what}\u201d. It may have been taken or not. Sent again, it counts once.`);
+  const row = (it) => h("div", {}, told(it), button(t`Send again`, () => sendAgain(it), "main"), button(t`Leave it`, () => leaveBooking(it)));
   at("waiting").replaceChildren(...unanswered().filter(isOffered).map(row));
 }
 function leaveBooking(booking) {
-  form(`Leave \u201c${booking.what}\u201d?`, [say("It isn't sent again. Whether the desk took it is seen in the views alone.")], "Leave it",
+  form(t`Leave \u201c${booking.what}\u201d?`, [say(t`It isn't sent again. Whether the desk took it is seen in the views alone.`)], t`Leave it`,
     () => { forgetBooking(booking.ref); return null; }, { isGrave: true, booksNothing: true });
 }
 const command = (what, fields) => book(what, { fields });
@@ -1496,7 +1574,7 @@ async function bookAtOnce(what, content, label) {
   const wrong = await book(what, content);
   if (wrong && wrong !== LOST) notice("bad", wrong);
 }
-const act = (what, fields) => bookAtOnce(what, { fields }, "Book it");
+const act = (what, fields) => bookAtOnce(what, { fields }, t`Book it`);
 function bookingForm(title, fields, label, take, more) {
   const contentOf = (v) => {
     let content = null;
@@ -1508,4 +1586,4 @@ function bookingForm(title, fields, label, take, more) {
 "##;
 
 /// Its entity tag.
-pub const SCRIPT_TAG: &str = "\"b36a3d411b3d8739b997a1925b20bd21\"";
+pub const SCRIPT_TAG: &str = "\"401b8cf792bd5ddce403a7d14e6dd5bc\"";

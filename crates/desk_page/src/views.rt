@@ -24,7 +24,7 @@ function plot(said, values, top, lines, unit, inner) {
 const SIZES = [[1e12, "T"], [1e9, "G"], [1e6, "M"], [1e4, "k"]];
 function shortly(n) {
   const [size, word] = SIZES.find(([it]) => n >= it) || [1, ""], of = word === "k" ? 1e3 : size;
-  return grouped(Number((n / of).toPrecision(3))) + word;
+  return marked(grouped(Number((n / of).toPrecision(3)))) + word;
 }
 const thick = (across) => Math.max(1, Math.min(32, across * 0.76));
 function barPlot(said, values, unit = "", mark = null) {
@@ -42,19 +42,19 @@ function stepPlot(said, values, unit = "") {
   });
 }
 function valuesOf(what, heads, rows) {
-  return h("details", { class: "noprint" }, h("summary", { "aria-label": `${what}: the values as a table` }, "The values as a table"), table(heads, rows,
+  return h("details", { class: "noprint" }, h("summary", { "aria-label": t`${what}: the values as a table` }, t`The values as a table`), table(heads, rows,
     "", true));
 }
 const valueRow = (name, ...values) => row(`value ${name}`, [cell(name), ...values.map(([n, unit]) => numberCell(n, unit))]);
 function alarmBox() {
   const change = (event) => { keep("alarm", event.target.checked); if (event.target.checked) tone(); };
   return h("label", { class: "tick" }, h("input", { type: "checkbox", id: "alarm", checked: kept("alarm", false), onchange: change }),
-    h("span", {}, "A tone and a flash at a new hold or recall"));
+    h("span", {}, t`A tone and a flash at a new hold or recall`));
 }
 let known = null, knownOf = null;
 function watchFor(holds, recalls) {
-  const all = new Map([...recalls.map((it) => [`recall ${it.recall}`, `Recall ${it.recall} of lot ${it.lot}, by ${it.by}.`]),
-    ...holds.map((it) => [`hold ${it.lot}.${it.hold}`, `Hold ${it.hold} on lot ${it.lot}, by ${it.by}.`])]);
+  const all = new Map([...recalls.map((it) => [`recall ${it.recall}`, t`Recall ${it.recall} of lot ${it.lot}, by ${it.by}.`]),
+    ...holds.map((it) => [`hold ${it.lot}.${it.hold}`, t`Hold ${it.hold} on lot ${it.lot}, by ${it.by}.`])]);
   const news = known && knownOf === desk.name ? newIn(all.keys(), known) : [];
   known = new Set(all.keys());
   knownOf = desk.name;
@@ -69,9 +69,9 @@ function alarm(texts) {
   clearTimeout(ending);
   ending = setTimeout(() => document.body.classList.remove("alarm"), LASTS);
 }
-const KEYS_OF_VIEWS = [["0", "today"], ["1", "planner"], ["2", "shift"], ["3", "warehouse"], ["4", "quality"]];
-const OTHER_KEYS = [["/", "find a lot, a batch, an order or a recall"], ["n", "to the button of a batch's next phase"], ["r", "look again"], ["?", "this help"],
-  ["Esc", "close a form, leave the board"], ["Enter", "to the next field of a form; books in the last one"]];
+const KEYS = { 0: "today^view", 1: "planner^view", 2: "shift^view", 3: "warehouse^view", 4: "quality^view",
+  "/": "find a lot, a batch, an order or a recall", n: "to the button of a batch's next phase", r: "look again", "?": "this help",
+  Esc: "close a form, leave the board", Enter: "to the next field of a form; books in the last one" };
 const SCANS = "A scanner works wherever the cursor is, and books nothing: at a batch it opens the form with the scanned lot, in a form it chooses the lot, "
   + "elsewhere it finds.";
 const BOOKINGS = "A booking can't be taken back: book the opposite, or scrap. It counts once, also where its answer is lost and it is sent again. Views look "
@@ -114,26 +114,26 @@ const WORDS = {
   },
 };
 function help() {
-  const key = ([name, what]) => h("p", {}, h("kbd", {}, name), " ", what);
-  const words = Object.entries(WORDS).map(([about, all]) => [h("h3", {}, about),
-    h("dl", {}, Object.entries(all).map(([name, what]) => [h("dt", {}, name), h("dd", {}, what)]))]);
-  const end = h("div", { class: "end" }, h("button", { class: "main" }, "Close"));
-  const it = h("form", { method: "dialog", class: "help" }, h("h2", { id: "title" }, "Keys and help"), h("div", { class: "keys" },
-    [...KEYS_OF_VIEWS, ...OTHER_KEYS].map(key)),
-    h("p", { class: "soft" }, SCANS), h("p", { class: "soft" }, BOOKINGS), h("h2", {}, "Words"), words, end);
-  openDialog(it, it.querySelector("button"));
+  const key = ([name, what]) => h("p", {}, h("kbd", {}, name), " ", t(what));
+  const words = Object.entries(WORDS).map(([about, all]) => [h("h3", {}, t(about)),
+    h("dl", {}, Object.entries(all).map(([name, what]) => [h("dt", {}, t(name)), h("dd", {}, t(what))]))]);
+  const end = h("div", { class: "end" }, h("button", { class: "main" }, t`Close`));
+  const it = h("form", { method: "dialog", class: "help" }, h("h2", { id: "title" }, t`Keys and help`),
+    h("p", { class: "row" }, choice(t`Language`, languages, spokenName(), chooseLanguage)), h("div", { class: "keys" }, Object.entries(KEYS).map(key)),
+    h("p", { class: "soft" }, t(SCANS)), h("p", { class: "soft" }, t(BOOKINGS)), h("h2", {}, t`Words`), words, end);
+  openDialog(it, end.firstChild);
 }
 const MOST = 1000, MOST_LINES = 40, MOST_ROWS = 8, MOST_ON_WALL = 4;
 const firstOf = (rows, isBoard) => rows.slice(0, isBoard ? MOST_ON_WALL : MOST_ROWS);
-const AHEAD = ["7 days", "1 day", "30 days"];
+const AHEAD = ["7 days", "1 day", "30 days"], SPANS = ["1 day", "7 days", "30 days"];
 const today = () => overview(false);
 const board = () => overview(true);
 async function overview(isBoard) {
   const it = await figures(), stack = (...cards) => h("div", { class: "stack" }, cards);
   if (desk.seq === 0) return ["", firstSteps()];
   const running = runningBatches(it, isBoard), bars = latestBars(it, isBoard), short = shortCard(it, isBoard), due = dueCard(it);
-  const yields = card("Yield", null, later("yield", (isShown) => yieldPlot(isShown, isBoard)));
-  const stock = card(`Stock over ${STOCK_DAYS} days`, null, later("stock", (isShown) => stockPlot(it, isShown, isBoard)));
+  const yields = card(t`Yield`, null, later("yield", (isShown) => yieldPlot(isShown, isBoard)));
+  const stock = card(t`Stock over ${STOCK_DAYS} days`, null, later("stock", (isShown) => stockPlot(it, isShown, isBoard)));
   if (isBoard) return ["today board", tiles(it, true), stack(running, stock), stack(bars, short), stack(due, yields)];
   return ["today", tiles(it, false), stack(running, short, yields), stack(bars, due, stock, boardCard())];
 }
@@ -142,10 +142,10 @@ async function figures() {
   const orders = await desk.orders("open", MOST), batches = await desk.batches(MOST), holds = await desk.allHolds(MOST), recalls = await desk.recalls(MOST);
   const stocks = new Map((await desk.materials()).map((it) => [it.def, it]));
   watchFor(holds, recalls);
-  const dated = batches.filter((it) => it.planned).map((it) => ({ ...it, due: it.planned.due }));
-  const wanted = await demands(orders.filter((it) => it.due <= until), dated.filter((it) => it.due <= until));
+  const planned = batches.filter((it) => it.planned).map((it) => ({ ...it, due: it.planned.due }));
+  const wanted = await demands(orders.filter((it) => it.due <= until), planned.filter((it) => it.due <= until));
   const isWhole = wanted.isWhole && !(orders.more && orders.at(-1).due <= until);
-  return { day, ahead, until, orders, batches, dated, holds, recalls, stocks, isWhole, short: shortage(wanted.asked, wanted.made, stocks) };
+  return { day, ahead, until, orders, batches, planned, holds, recalls, stocks, isWhole, short: shortage(wanted.asked, wanted.made, stocks) };
 }
 async function demands(orders, batches) {
   const asked = [], made = [];
@@ -161,7 +161,7 @@ async function demands(orders, batches) {
   }
   return { asked, made, isWhole: begun.length <= MOST_LINES };
 }
-const many = (list, one, several) => `${grouped(list.length)}${list.more ? " and more" : ""} ${list.length === 1 && !list.more ? one : several}`;
+const many = (list, one, several) => (list.more ? t`${grouped(list.length)} and more ${t(several)}` : counted(list.length, one, several));
 function tile({ name, list, tone, place, more = [] }, isBoard) {
   const count = `${grouped(list.length)}${list.more ? "+" : ""}`, number = isBoard ? h("b", { class: "number" }, count)
     : h("a", { class: "number", href: `#${place}`, "aria-label": `${name}: ${count}` }, count);
@@ -169,7 +169,7 @@ function tile({ name, list, tone, place, more = [] }, isBoard) {
   return h("section", { class: `card tile ${list.length ? tone || "" : "nothing"}`.trim() }, h("h2", { tabindex: -1 }, name), number, h("p", {}, told));
 }
 function tiles(it, isBoard) {
-  const orders = dueBy(it.orders, it.day), batches = dueBy(it.dated, it.day), all = [[...orders.late, ...batches.late], [...orders.today, ...batches.today]];
+  const orders = dueBy(it.orders, it.day), batches = dueBy(it.planned, it.day), all = [[...orders.late, ...batches.late], [...orders.today, ...batches.today]];
   const due = (mine, theirs, where = "planner") => [mine.length && [where, many(mine, "order isn't released", "orders aren't released")],
     theirs.length && ["shift", many(theirs, "batch is open", "batches are open")]];
   const running = it.batches.filter((one) => one.state === "running"), idle = it.batches.filter((one) => one.state === "idle");
@@ -178,61 +178,61 @@ function tiles(it, isBoard) {
   const of = (mine, theirs) => (mine.length || !theirs.length ? "planner" : "shift");
   const first = (list, place, name) => list.slice(0, 2).map((one) => [place(one), name(one)]);
   const figures = [
-    { name: "Late", list: all[0], tone: "bad", place: of(orders.late, batches.late), more: due(orders.late, batches.late) },
-    { name: "Due today", list: all[1], tone: "warn", place: orders.today.length ? `planner?text=${it.day}` : of(orders.today, batches.today),
+    { name: t`Late`, list: all[0], tone: "bad", place: of(orders.late, batches.late), more: due(orders.late, batches.late) },
+    { name: t`Due today`, list: all[1], tone: "warn", place: orders.today.length ? `planner?text=${it.day}` : of(orders.today, batches.today),
       more: due(orders.today, batches.today, `planner?text=${it.day}`) },
-    { name: "Running", list: running, tone: "good", place: "shift",
-      more: [idle.length && ["shift", `${grouped(idle.length)} to be started`],
-        broken.length && ["shift", `${grouped(broken.length)} paused, held or ended early`]] },
-    { name: "Waiting", list: it.orders, place: "planner", more: [[null, `${grouped(soon.length)} due within ${it.ahead}`]] },
-    { name: "On hold", list: lots, tone: "warn", place: "quality", more: first(lots, (one) => `quality/lot/${one}`, (one) => one) },
-    { name: "Recalled", list: it.recalls, tone: "bad", place: "quality",
+    { name: t`Running`, list: running, tone: "good", place: "shift",
+      more: [idle.length && ["shift", t`${grouped(idle.length)} to be started`],
+        broken.length && ["shift", t`${grouped(broken.length)} paused, held or ended early`]] },
+    { name: t`Waiting`, list: it.orders, place: "planner", more: [[null, t`${grouped(soon.length)} due within ${t(it.ahead)}`]] },
+    { name: t`On hold`, list: lots, tone: "warn", place: "quality", more: first(lots, (one) => `quality/lot/${one}`, (one) => one) },
+    { name: t`Recalled`, list: it.recalls, tone: "bad", place: "quality",
       more: first(it.recalls, (one) => `quality/recall/${one.recall}`, (one) => one.recall) },
-    { name: "Short", list: it.short, tone: "bad", place: it.short.length ? `warehouse/${it.short[0].def}` : "warehouse",
+    { name: t`Short`, list: it.short, tone: "bad", place: it.short.length ? `warehouse/${it.short[0].def}` : "warehouse",
       more: first(it.short, (one) => `warehouse/${one.def}`, (one) => one.def) },
   ];
   return h("div", { class: "tiles" }, figures.map((one) => tile(one, isBoard)));
 }
-const restOf = (rows, place, text) => rows.length > MOST_ROWS && h("div", { class: "more" }, `${grouped(rows.length - MOST_ROWS)} more: `, link(place, text));
+const restOf = (rows, place, text) => rows.length > MOST_ROWS && h("div", { class: "more" }, t`${grouped(rows.length - MOST_ROWS)} more: `, link(place, text));
 function runningBatches({ batches }, isBoard) {
   const now = desk.time(), going = batches.filter((it) => it.state !== "idle" && it.state !== "complete").sort((a, b) => a.at - b.at);
   const made = ({ planned }) => planned && h("div", { class: "under" }, planned.title || planned.product);
-  const rows = firstOf(going, isBoard).map((it) => row(it.batch, [idCell(batchLink(it.batch), made(it)), cell(pill(it.state, TONES[it.state])),
-    cell(it.phase ? [h("div", {}, it.phase), h("div", { class: "soft small nowrap" }, `on ${it.phase_unit}`)] : "all phases done"),
+  const rows = firstOf(going, isBoard).map((it) => row(it.batch, [idCell(batchLink(it.batch), made(it)), cell(pill(wordOf(it.state), TONES[it.state])),
+    cell(it.phase ? [h("div", {}, it.phase), h("div", { class: "soft small nowrap" }, t`on ${it.phase_unit}`)] : t`all phases done`),
     cell(h("div", {}, lengthOfTime(now - it.at)), !isBoard && h("div", { class: "soft small" }, moment(it.at)))]));
-  return card("Running, the longest first", null, table(["Batch", "State", "Next", "Last step ago"], rows, "No batch runs."),
-    restOf(going, "shift", "all batches"));
+  return card(t`Running, the longest first`, null, table(["Batch", "State", "Next", "Last step ago"], rows, t`No batch runs.`),
+    restOf(going, "shift", t`all batches`));
 }
 function latestBars({ holds, recalls }, isBoard) {
-  const all = [...holds.map((it) => ({ ...it, what: `hold ${it.hold}` })),
-    ...recalls.map((it) => ({ ...it, what: ["recall ", link(`quality/recall/${it.recall}`, it.recall)], isRecall: true }))].sort((a, b) => b.at - a.at);
+  const all = [...holds.map((it) => ({ ...it, what: t`hold ${it.hold}` })),
+    ...recalls.map((it) => ({ ...it, what: [t`recall `, link(`quality/recall/${it.recall}`, it.recall)], isRecall: true }))].sort((a, b) => b.at - a.at);
   const rows = firstOf(all, isBoard).map((it) => row(`${it.lot} ${it.hold || it.recall}`, [idCell(lotLink(it.lot)),
     cell(h("div", { class: it.isRecall ? "over" : null }, it.what), it.note && h("div", { class: "soft small" }, it.note)),
     cell(h("div", {}, it.by), h("div", { class: "soft small when" }, moment(it.at)))]));
-  return card("On hold and recalled, the last first", null, table(["Lot", "What", "By, since"], rows, "No lot is on hold, and none is recalled."),
-    restOf(all, "quality", "all holds and recalls"));
+  return card(t`On hold and recalled, the last first`, null, table(["Lot", "What", "By, since"], rows, t`No lot is on hold, and none is recalled.`),
+    restOf(all, "quality", t`all holds and recalls`));
 }
 function shortCard({ short, until, ahead, isWhole }, isBoard) {
   const amount = (n, unit) => (n ? numberCell(n, unit) : cell());
   const rows = firstOf(short, isBoard).map((it) => row(it.def, [idCell(link("warehouse/" + it.def, it.def), it.name && h("div", { class: "under" }, it.name)),
     !isBoard && [numberCell(it.asked, it.unit), numberCell(it.free, it.unit), amount(it.made, it.unit)],
-    h("td", { class: "num" }, h("span", { class: "over" }, grouped(it.short), " ", it.unit)), cell(it.from)].flat().filter(Boolean)));
-  const heads = ["Material", ...(isBoard ? [] : ["#Asked", "#Free", "#Made by then"]), "#Short", "From"];
-  const days = ["1 day", "7 days", "30 days"], pick = choice("Days to look ahead", days, ahead, (it) => setFilter("ahead", AHEAD, it));
-  return card(`Short by ${until}`, !isBoard && pick, table(heads, rows, "Nothing is short for the open orders and batches that are due by then."),
-    restOf(short, "warehouse", "the warehouse"),
-    !isWhole && h("p", { class: "none" }, `The first ${grouped(MOST)} orders and the lines of ${MOST_LINES} batches are counted, and there are more.`));
+    h("td", { class: "num" }, h("span", { class: "over" }, grouped(it.short), " ", it.unit)), cell(dated(it.from))].flat().filter(Boolean)));
+  const heads = ["Material", ...(isBoard ? [] : ["#Asked", "#Free", "#Made by then"]), "#Short", "From^day"];
+  const pick = choice(t`Days to look ahead`, SPANS, ahead, (it) => setFilter("ahead", AHEAD, it));
+  return card(t`Short by ${dated(until)}`, !isBoard && pick, table(heads, rows, t`Nothing is short for the open orders and batches that are due by then.`),
+    restOf(short, "warehouse", t`the warehouse`),
+    !isWhole && h("p", { class: "none" }, t`The first ${grouped(MOST)} orders and the lines of ${MOST_LINES} batches are counted, and there are more.`));
 }
 const BEFORE = 14, DAYS = 29;
-function dueCard({ day, orders, dated }) {
-  const { days, before, after } = dueByDay([...orders, ...dated], dayAfter(day, -BEFORE), DAYS), shortDay = (it) => it.slice(5);
+function dueCard({ day, orders, planned }) {
+  const { days, before, after } = dueByDay([...orders, ...planned], dayAfter(day, -BEFORE), DAYS);
   const values = days.map((it) => ({ n: it.count, tone: it.day < day ? "bad" : it.day === day ? "warn" : "",
-    tick: it.day === day ? `today, ${shortDay(day)}` : shortDay(it.day), said: `${it.day}: ${grouped(it.count)}` }));
+    tick: it.day === day ? t`today, ${shortDay(day)}` : shortDay(it.day), said: `${dated(it.day)}: ${grouped(it.count)}` }));
   const late = before + days.filter((it) => it.day < day).reduce((sum, it) => sum + it.count, 0);
-  const rest = [before && `${grouped(before)} due before these days`, after && `${grouped(after)} after them`].filter(Boolean).join(", ");
-  return card("Orders and batches by their due dates", null, barPlot(`Open orders and batches by their due dates, ${late} late`, values),
-    rest && h("p", { class: "none" }, `${rest}.`), valuesOf("Due dates", ["Due", "#Open"],
-      days.filter((it) => it.count).map((it) => valueRow(it.day, [it.count]))));
+  const rest = [before && t`${grouped(before)} due before these days`, after && t`${grouped(after)} after them`].filter(Boolean).join(", ");
+  return card(t`Orders and batches by their due dates`, null, barPlot(t`Open orders and batches by their due dates, ${late} late`, values),
+    rest && h("p", { class: "none" }, `${rest}.`), valuesOf(t`Due dates`, ["Due", "#Open"],
+      days.filter((it) => it.count).map((it) => valueRow(dated(it.day), [it.count]))));
 }
 function plotOf(name, id, label, values, on) {
   return h("div", { class: "body row" }, h("select", { id, "aria-label": label, onchange: (event) => setText(name, event.target.value) },
@@ -254,30 +254,31 @@ async function lastFinished(recipe, isShown) {
 }
 async function yieldPlot(isShown, isBoard) {
   const { of, found, recipes } = await lastFinished(textOf("recipe"), isShown), values = [];
-  const pick = !isBoard && recipes.length > 0 && plotOf("recipe", "yieldrecipe", "Recipe of the yields", recipes, of);
+  const pick = !isBoard && recipes.length > 0 && plotOf("recipe", "yieldrecipe", t`Recipe of the yields`, recipes, of);
   for (const order of found) {
     if (!isShown()) return [];
     const { batch, lines } = await desk.finishedBatch(order.order), { product } = await desk.recipeOnce(order.recipe, order.version);
     const it = yieldOf(lines, product);
-    if (it) values.push({ ...it, n: it.percent, batch, due: order.due, tone: it.percent < LOW_YIELD ? "bad" : "good", tick: order.due.slice(5),
-      said: `${batch}: ${it.percent.toFixed(1)}\u202f%, ${grouped(it.booked)} of ${grouped(it.asked)} ${it.unit}` });
+    if (it) values.push({ ...it, n: it.percent, batch, due: order.due, tone: it.percent < LOW_YIELD ? "bad" : "good", tick: shortDay(order.due),
+      said: t`${batch}: ${decimal(it.percent, 1)}\u202f%, ${grouped(it.booked)} of ${grouped(it.asked)} ${it.unit}` });
   }
-  if (!values.length) return [pick, none(of ? `No order of ${of} is finished.` : "No order is finished.")];
+  if (!values.length) return [pick, none(of ? t`No order of ${of} is finished.` : t`No order is finished.`)];
   const asked = values.reduce((sum, it) => sum + it.asked, 0), booked = values.reduce((sum, it) => sum + it.booked, 0);
   const rows = values.map((it) => row(`yield ${it.batch}`, [idCell(batchLink(it.batch)), numberCell(it.asked, it.unit), numberCell(it.booked, it.unit),
-    h("td", { class: "num" }, it.percent.toFixed(1))]));
-  const which = values.length === 1 ? "batch" : `${values.length} batches`, percent = ((100 * booked) / asked).toFixed(1);
-  const told = `${of}: the last ${which} made ${percent}\u202f% of what was asked`;
-  return [pick, h("p", { class: "none" }, `${told}. Red is below ${LOW_YIELD}\u202f%.`), barPlot(told, values, "\u202f%", 100),
-    valuesOf("Yield", ["Batch", "#Asked", "#Booked", "#Percent"], rows)];
+    h("td", { class: "num" }, decimal(it.percent, 1))]));
+  const percent = decimal((100 * booked) / asked, 1);
+  const told = values.length === 1 ? t`${of}: the last batch made ${percent}\u202f% of what was asked`
+    : t`${of}: the last ${values.length} batches made ${percent}\u202f% of what was asked`;
+  return [pick, h("p", { class: "none" }, `${told}. ${t`Red is below ${LOW_YIELD}\u202f%.`}`), barPlot(told, values, "\u202f%", 100),
+    valuesOf(t`Yield`, ["Batch", "#Asked", "#Booked", "#Percent"], rows)];
 }
 const STOCK_DAYS = 90, MOST_LOTS = 100, MOST_MOVEMENTS = 500;
 async function stockPlot({ stocks, short, day }, isShown, isBoard) {
   const there = [...stocks.values()].filter((it) => it.lots > 0), most = [...there].sort((a, b) => b.lots - a.lots)[0];
   const def = textOf("def") || short.find((it) => stocks.get(it.def)?.lots)?.def || most?.def, known = stocks.get(def);
   const defs = [...new Set([...there.map((it) => it.def), def])].sort();
-  const pick = !isBoard && there.length > 0 && plotOf("def", "stockdef", "Material of the stock", defs, def);
-  if (!known?.lots) return [pick, none(def ? `There is no ${def} in stock.` : "Nothing is in stock.")];
+  const pick = !isBoard && there.length > 0 && plotOf("def", "stockdef", t`Material of the stock`, defs, def);
+  if (!known?.lots) return [pick, none(def ? t`There is no ${def} in stock.` : t`Nothing is in stock.`)];
   const lots = await desk.stock(def, MOST_LOTS), ledgers = [];
   for (const { lot, stock } of lots) {
     if (!isShown()) return [];
@@ -285,63 +286,63 @@ async function stockPlot({ stocks, short, day }, isShown, isBoard) {
     if (!movements.more) ledgers.push({ lot, movements });
   }
   const left = lots.length - ledgers.length, days = stockByDay(ledgers, dayAfter(day, 1 - STOCK_DAYS), STOCK_DAYS), now = days.at(-1).stock;
-  const told = `${known.name || def}: ${grouped(now)} ${known.unit} of ${counted(ledgers.length, "lot", "lots")} in stock`;
-  const limits = [lots.more && `the ${MOST_LOTS} oldest lots alone`,
-    left > 0 && `${counted(left, "lot", "lots")} of more than ${MOST_MOVEMENTS} bookings left out`];
-  const said = ["Lots that are used up meanwhile aren't counted", ...limits].filter(Boolean).join(", ");
+  const told = t`${known.name || def}: ${grouped(now)} ${known.unit} of ${counted(ledgers.length, "lot", "lots")} in stock`;
+  const limits = [lots.more && t`the ${MOST_LOTS} oldest lots alone`,
+    left > 0 && t`${counted(left, "lot", "lots")} of more than ${MOST_MOVEMENTS} bookings left out`];
+  const said = [t`Lots that are used up meanwhile aren't counted`, ...limits].filter(Boolean).join(", ");
   const weeks = days.filter((it, k) => (STOCK_DAYS - 1 - k) % 7 === 0);
-  return [pick, h("p", { class: "none" }, `${told}. ${said}.`), stepPlot(`${told}, day by day`, days.map((it) => ({ n: it.stock, tick: it.day.slice(5) })), ""),
-    valuesOf("Stock", ["Day", "#Stock"], weeks.map((it) => valueRow(it.day, [it.stock, known.unit])))];
+  return [pick, h("p", { class: "none" }, `${told}. ${said}.`), stepPlot(t`${told}, day by day`, days.map((it) => ({ n: it.stock, tick: shortDay(it.day) })), ""),
+    valuesOf(t`Stock`, ["Day", "#Stock"], weeks.map((it) => valueRow(dated(it.day), [it.stock, known.unit])))];
 }
 function boardCard() {
-  const board = link(location.hash.replace(/^#?\w*/, "board"), "Open the board");
-  const what = ": the same in large letters, without buttons, for a screen on the wall. Esc leads back here.";
-  return card("The board", null, h("div", { class: "body" }, h("p", {}, board, what), alarmBox()));
+  const board = link(location.hash.replace(/^#?\w*/, "board"), t`Open the board`);
+  const what = t`: the same in large letters, without buttons, for a screen on the wall. Esc leads back here.`;
+  return card(t`The board`, null, h("div", { class: "body" }, h("p", {}, board, what), alarmBox()));
 }
 const LARGEST_PICTURE = 300, PICTURES = ["each", "by material"];
 function genealogyCard({ back, forward }, here) {
   const nodes = new Map([...back.nodes, ...forward.nodes].map((it) => [nameOfNode(it), it]));
   const named = [...back.edges, ...forward.edges].map((it) => ({ from: nameOfNode(it.from), to: nameOfNode(it.to), amount: it.amount }));
   const edges = [...new Map(named.map((it) => [`${it.from}>${it.to}`, it])).values()];
-  if (nodes.size === 1) return card("Genealogy", null, none("It came of nothing that is booked, and nothing came of it."));
+  if (nodes.size === 1) return card(t`Genealogy`, null, none(t`It came of nothing that is booked, and nothing came of it.`));
   const before = new Set(back.nodes.map(nameOfNode)), isLarge = nodes.size > LARGEST_PICTURE;
   const tools = [h("span", { class: "soft small" }, `${counted(nodes.size - 1, "other", "others")}`),
-    !isLarge && filterChoice("How the genealogy is drawn", "picture", PICTURES)];
+    !isLarge && filterChoice(t`How the genealogy is drawn`, "picture", PICTURES)];
   if (isLarge || filterOf("picture", PICTURES) === "by material") {
-    return card("Genealogy", tools, isLarge && none(`${grouped(nodes.size)} lots and batches are drawn by their materials.`),
+    return card(t`Genealogy`, tools, isLarge && none(t`${grouped(nodes.size)} lots and batches are drawn by their materials.`),
       picturesOfGroups(groupsOf(nodes, edges, here, (it) => before.has(it)), here), edgesList(nodes, edges));
   }
   const made = productsOf(nodes, edges), boxes = new Map([...nodes].map(([name, it]) => [name, boxOf(it, made.get(name), name === here)]));
-  return card("Genealogy", tools, picture(boxes, edges, here), edgesList(nodes, edges));
+  return card(t`Genealogy`, tools, picture(boxes, edges, here), edgesList(nodes, edges));
 }
 const unitOf = (nodes, edge) => nodes.get(edge.from).unit || nodes.get(edge.to).unit || "";
 const boxOf = (node, product, isHere) => ({ unit: node.unit, isHere, isOfLots: Boolean(node.lot), tone: node.recalled ? "recalled" : node.held ? "held" : "",
-  texts: [node.lot || node.batch, node.lot ? node.def : product ? `batch of ${product}` : "batch", node.lot ? `${grouped(node.stock)} ${node.unit}` : ""],
-  marks: [node.held && "HELD", node.recalled && "RECALLED"].filter(Boolean).join(" "),
+  texts: [node.lot || node.batch, node.lot ? node.def : product ? t`batch of ${product}` : t`batch`, node.lot ? `${grouped(node.stock)} ${node.unit}` : ""],
+  marks: [node.held && t`HELD`, node.recalled && t`RECALLED`].filter(Boolean).join(" "),
     place: node.lot ? `quality/lot/${node.lot}` : `quality/batch/${node.batch}` });
 function boxOfGroup(it) {
-  const isOne = it.count === 1, [kind, id] = it.first.split(" "), words = it.isOfLots ? ["lot", "lots"] : ["batch", "batches"];
-  const name = isOne ? id : counted(it.count, ...words);
+  const isOne = it.count === 1, [kind, id] = it.first.split(" "), count = it.isOfLots ? counted(it.count, "lot", "lots") : counted(it.count, "batch", "batches");
+  const name = isOne ? id : count;
   return { unit: it.unit, isHere: it.side === "here", isOfLots: it.isOfLots, tone: it.recalled ? "recalled" : it.held ? "held" : "",
-    texts: [name, it.isOfLots ? it.def : it.def ? `of ${it.def}` : "batch", it.isOfLots ? `${grouped(it.stock)} ${it.unit}` : ""],
-    marks: [it.held && [!isOne && grouped(it.held), "HELD"], it.recalled && [!isOne && grouped(it.recalled), "RECALLED"]].flat().filter(Boolean).join(" "),
+    texts: [name, it.isOfLots ? it.def : it.def ? t`of ${it.def}` : t`batch`, it.isOfLots ? `${grouped(it.stock)} ${it.unit}` : ""],
+    marks: [it.held && [!isOne && grouped(it.held), t`HELD`], it.recalled && [!isOne && grouped(it.recalled), t`RECALLED`]].flat().filter(Boolean).join(" "),
     place: isOne ? `quality/${kind}/${id}` : it.def ? `warehouse/${it.def}` : null };
 }
 function picturesOfGroups({ groups, edges, left }, here) {
   const boxes = new Map([...groups].map(([key, it]) => [key, boxOfGroup(it)]));
-  const sides = { back: "before it", here: "itself", forward: "of it" };
+  const sides = { back: t`before it`, here: t`itself`, forward: t`of it` };
   const sorted = [...groups.values()].sort((a, b) => a.depth - b.depth || (a.def < b.def ? -1 : 1));
-  const rows = sorted.map((it) => row(it.key, [cell(sides[it.side]), cell(it.isOfLots ? "lots" : "batches"), cell(it.def), numberCell(it.count),
+  const rows = sorted.map((it) => row(it.key, [cell(sides[it.side]), cell(it.isOfLots ? t`lots` : t`batches`), cell(it.def), numberCell(it.count),
     it.isOfLots ? numberCell(it.stock, it.unit) : cell(), numberCell(it.held), numberCell(it.recalled)]));
-  const backwards = left > 0 && none(`${counted(left, "step", "steps")} back to an earlier material, not drawn.`);
-  const heads = ["Came", "What", "Material", "#Count", "#In stock", "#On hold", "#Recalled"];
-  return [picture(boxes, edges, here), backwards, h("details", {}, h("summary", {}, "The materials as a table"), table(heads, rows, ""))];
+  const backwards = left > 0 && none(t`${counted(left, "step", "steps")} back to an earlier material, not drawn.`);
+  const heads = ["Came^side", "What", "Material", "#Count", "#In stock", "#On hold", "#Recalled"];
+  return [picture(boxes, edges, here), backwards, h("details", {}, h("summary", {}, t`The materials as a table`), table(heads, rows, ""))];
 }
 function edgesList(nodes, edges) {
-  const place = (name) => link("quality/" + name.replace(" ", "/"), name);
+  const place = (name) => link("quality/" + name.replace(" ", "/"), nodeInWords(name));
   const cells = (it) => [cell(place(it.from)), numberCell(it.amount, unitOf(nodes, it)), cell(place(it.to))];
   const rows = edges.slice(0, MOST_STEPS).map((it) => row(`${it.from}>${it.to}`, cells(it)));
-  const title = edges.length > MOST_STEPS ? `The first ${grouped(MOST_STEPS)} steps in words` : "The steps in words";
+  const title = edges.length > MOST_STEPS ? t`The first ${grouped(MOST_STEPS)} steps in words` : t`The steps in words`;
   return h("details", { class: "noprint" }, h("summary", {}, title), table(["From", "#Amount", "To"], rows, ""));
 }
 const MOST_STEPS = 1000;
@@ -363,7 +364,7 @@ function picture(boxes, edges, here) {
   const tall = Math.max(...columns.map((it) => it.length));
   const x = (name) => 8 + depth.get(name) * (width + BOX.across), y = (name) => 8 + (rows.get(name) + tall / 2 - 0.5) * (BOX.high + BOX.down);
   const wide = 16 + columns.length * (width + BOX.across) - BOX.across, high = 16 + tall * (BOX.high + BOX.down) - BOX.down;
-  const it = svg("svg", { width: wide, height: high, viewBox: `0 0 ${wide} ${high}`, role: "img", "aria-label": `Genealogy of ${here}` },
+  const it = svg("svg", { width: wide, height: high, viewBox: `0 0 ${wide} ${high}`, role: "img", "aria-label": t`Genealogy of ${nodeInWords(here)}` },
     svg("defs", {}, svg("marker", { id: "tip", viewBox: "0 0 8 8", refX: 8, refY: 4, markerWidth: 8, markerHeight: 8, orient: "auto" },
       svg("path", { class: "tip", d: "M0 0L8 4L0 8z" }))),
     edges.map((edge) => edgeLine(x(edge.from) + width, y(edge.from) + BOX.high / 2, x(edge.to), y(edge.to) + BOX.high / 2)),
@@ -371,7 +372,7 @@ function picture(boxes, edges, here) {
       y: y(edge.to) + BOX.high / 2 + amountDrop(x, y, edge, width) - 4 }, `${grouped(edge.amount)} ${unitOf(boxes, edge)}`)),
     [...boxes].map(([name, box]) => nodeBox(box, x(name), y(name), width)));
   Object.assign(it.style, { maxWidth: "100%", minWidth: `${Math.round(wide * 0.75)}px`, height: "auto" });
-  return scrolledToHere(h("div", { class: "picture", tabindex: 0, role: "group", "aria-label": "Picture, can be scrolled",
+  return scrolledToHere(h("div", { class: "picture", tabindex: 0, role: "group", "aria-label": t`Picture, can be scrolled`,
     "data-of": `${here} ${boxes.size}` }, it));
 }
 function scrolledToHere(frame) {
@@ -400,47 +401,47 @@ function nodeBox({ texts: [id, sub, stock], marks, tone, isHere, isOfLots, place
 const FORMS_OF_RECORD = ["tables", "text"];
 function recordCard(batch, ...more) {
   const isPlain = filterOf("record", FORMS_OF_RECORD) === "text";
-  const tools = [pill(batch.closed ? "closed" : batch.state, TONES[batch.state]),
-    h("span", { class: "noprint" }, link("shift/" + batch.batch, "To the shift's view")),
-    filterChoice("Form of the record", "record", FORMS_OF_RECORD),
-    csvButton("record", `record-${batch.batch}`, () => rowsOfRecord(batch.record, batch.lines.filter(isMaterial))), ...more, button("Print", () => print())];
+  const tools = [pill(batch.closed ? t`closed` : wordOf(batch.state), TONES[batch.state]),
+    h("span", { class: "noprint" }, link("shift/" + batch.batch, t`To the shift's view`)),
+    filterChoice(t`Form of the record`, "record", FORMS_OF_RECORD),
+    csvButton("record", `record-${batch.batch}`, () => rowsOfRecord(batch.record, batch.lines.filter(isMaterial))), ...more, button(t`Print`, () => print())];
   const content = isPlain ? h("div", { class: "body" }, h("pre", {}, batch.record.text)) : recordTables(batch);
-  const it = card(`Batch record ${batch.batch}`, tools, printedLine(), content, signatures(`batch record ${batch.batch}`));
+  const it = card(t`Batch record ${batch.batch}`, tools, printedLine(), content, signatures(t`batch record ${batch.batch}`));
   it.classList.add("record");
   return it;
 }
 const printedLine = () => h("p", { class: "printed" });
 addEventListener("beforeprint", () => {
   for (const it of document.querySelectorAll(".printed")) {
-    it.textContent = `Printed ${moment(desk.time(), true)} by ${operator.value.trim() || "nobody named"}, of the web page of the desk at ${location.host}.`;
+    it.textContent = t`Printed ${moment(desk.time(), true)} by ${operator.value.trim() || t`nobody named`}, of the web page of the desk at ${location.host}.`;
   }
 });
 const SIGNED = ["Made by", "Checked by", "Released by"];
-const signatures = (what) => h("div", { class: "sign" }, h("b", {}, `Signed of ${what}`),
-  SIGNED.map((it) => h("div", {}, h("span", {}, it), h("span", {}, "Date"), h("span", {}, "Signature"))));
+const signatures = (what) => h("div", { class: "sign" }, h("b", {}, t`Signed of ${what}`),
+  SIGNED.map((it) => h("div", {}, h("span", {}, t(it)), h("span", {}, t`Date`), h("span", {}, t`Signature`))));
 function recordTables({ record, ...batch }) {
   const number = (it) => h("td", { class: "num" }, it), stamp = (it) => [stampCell(it), cell(it.note)];
   const booking = ({ words: [lot, def, amount, unit] }) => [idCell(lot), cell(def), numberCell(amount, unit)];
-  const what = (it) => [cell(it.kind), cell(it.def || it.name || it.path), it.amount ? numberCell(it.amount, it.unit) : cell(), cell(it.value || "")];
+  const what = (it) => [cell(wordOf(it.kind)), cell(it.def || it.name || it.path), it.amount ? numberCell(it.amount, it.unit) : cell(), cell(it.value || "")];
   const recipe = record.lines.map((it, k) => row("line " + k, [number(k + 1), ...what(it)]));
-  const events = record.events.map((it) => row(it.seq, [number(it.seq), cell(it.what), ...stamp(it)]));
+  const events = record.events.map((it) => row(it.seq, [number(it.seq), cell(eventInWords(it.what)), ...stamp(it)]));
   const consumed = record.consumed.map((it) => row(it.seq, [number(it.seq), ...booking(it), ...stamp(it)]));
   const produced = record.produced.map((it) => row(it.seq, [number(it.seq), ...booking(it), numberCell(it.words[5], it.words[3]), ...stamp(it)]));
-  const total = (it) => [cell(it.kind), idCell(it.def), numberCell(it.asked, it.unit),
+  const total = (it) => [cell(wordOf(it.kind)), idCell(it.def), numberCell(it.asked, it.unit),
     excess(it) ? overCell(it, `${grouped(it.booked)} ${it.unit}, `) : numberCell(it.booked, it.unit)];
   const totals = batch.lines.filter(isMaterial).map((it) => row(`total ${it.kind} ${it.def}`, total(it)));
   return [recordFacts(batch, record.released),
-    h("h3", {}, "Control recipe"), table(["#No", "Kind", "What", "#Amount", "Value"], recipe, ""),
-    h("h3", {}, "Events"), table(["#Number", "Event", "When, by", "Note"], events, "None."),
-    h("h3", {}, "Consumed"), table(["#Number", "Lot and part", "Material", "#Amount", "When, by", "Note"], consumed, "Nothing."),
-    h("h3", {}, "Produced"), table(["#Number", "Lot", "Material", "#Amount", "#Scrapped", "When, by", "Note"], produced, "Nothing."),
-    h("h3", {}, "Totals"), table(["In or out", "Material", "#Asked", "#Booked"], totals, "")];
+    h("h3", {}, t`Control recipe`), table(["#No", "Kind", "What", "#Amount", "Value"], recipe, ""),
+    h("h3", {}, t`Events`), table(["#Number", "Event", "When, by", "Note"], events, t`None.`),
+    h("h3", {}, t`Consumed`), table(["#Number", "Lot and part", "Material", "#Amount", "When, by", "Note"], consumed, t`Nothing.`),
+    h("h3", {}, t`Produced`), table(["#Number", "Lot", "Material", "#Amount", "#Scrapped", "When, by", "Note"], produced, t`Nothing.`),
+    h("h3", {}, t`Totals`), table(["In or out", "Material", "#Asked", "#Booked"], totals, "")];
 }
 function recordFacts(batch, released) {
-  return facts(fact("Order", link("planner/" + batch.order, batch.order)), fact("Recipe", `${batch.recipe} ${batch.version}`),
-    fact("Size", grouped(batch.size)), fact("State", batch.state), fact("Attempt", batch.attempt), fact("Phases",
-      `${batch.next - 1} of ${batch.phases}`),
-    fact("Released", moment(released.at, true)), fact("By", released.by), released.note && fact("Note", released.note));
+  return facts(fact(t`Order`, link("planner/" + batch.order, batch.order)), fact(t`Recipe`, `${batch.recipe} ${batch.version}`),
+    fact(t`Size`, grouped(batch.size)), fact(t`State`, wordOf(batch.state)), fact(t`Attempt`, batch.attempt), fact(t`Phases`,
+      t`${batch.next - 1} of ${batch.phases}`),
+    fact(t`Released^when`, moment(released.at, true)), fact(t`By`, released.by), released.note && fact(t`Note`, released.note));
 }
 const stampCell = (it) => h("td", { class: "stamp" }, h("span", {}, h("span", { class: "when" }, moment(it.at, true)), " ", it.by));
 const OF_BATCH = [90, 11], OF_PHASE = [62, 7];
@@ -450,7 +451,7 @@ const toWrite = () => h("td", { class: "towrite" });
 function goods(lines, names) {
   const rows = lines.map((it) => row(`${it.kind} ${it.def}`, [tickBox(), idCell(it.def, names.get(it.def) && h("div", { class: "under" }, names.get(it.def))),
     numberCell(it.asked, it.unit), toWrite()]));
-  return table(["Done", "Material", "#Asked", "Lots and amounts"], rows, "Nothing.");
+  return table(["Done", "Material", "#Asked", "Lots and amounts"], rows, t`Nothing.`);
 }
 function procedure(batch) {
   let number = 0;
@@ -467,12 +468,12 @@ async function showSheet(id) {
     const batch = await desk.batch(id), order = await desk.order(batch.order), recipe = await desk.recipe(batch.recipe, batch.version);
     const lines = batch.lines.filter(isMaterial), names = new Map();
     for (const it of [recipe.product, ...lines.map((line) => line.def)]) names.set(it, (await desk.definition(it))?.name || "");
-    const head = h("div", { class: "facts" }, fact("Order", order.order), fact("Product", `${recipe.product} ${names.get(recipe.product)}`),
-      fact("Size", `${grouped(batch.size)} ${recipe.unit || ""}`), fact("Recipe", `${batch.recipe} ${batch.version} ${recipe.title}`), fact("Due", order.due),
-      fact("Priority", order.priority), fact("Attempt", batch.attempt));
-    openPaper(`Sheet of ${id}`, [h("section", { class: "sheet" }, h("div", { class: "head" }, h("h2", {}, `Batch ${id}`), barcode(id, ...OF_BATCH)),
-      printedLine(), head, h("h3", {}, "Goes in"), goods(lines.filter((it) => it.kind === "in"), names), h("h3", {}, "Procedure"), procedure(batch),
-      h("h3", {}, "Comes out"), goods(lines.filter((it) => it.kind === "out"), names), signatures(`batch ${id}`))], `Batch ${id}`);
+    const head = h("div", { class: "facts" }, fact(t`Order`, order.order), fact(t`Product`, `${recipe.product} ${names.get(recipe.product)}`),
+      fact(t`Size`, `${grouped(batch.size)} ${recipe.unit || ""}`), fact(t`Recipe`, `${batch.recipe} ${batch.version} ${recipe.title}`), fact(t`Due`, dated(order.due)),
+      fact(t`Priority`, order.priority), fact(t`Attempt`, batch.attempt));
+    openPaper(t`Sheet of ${id}`, [h("section", { class: "sheet" }, h("div", { class: "head" }, h("h2", {}, t`Batch ${id}`), barcode(id, ...OF_BATCH)),
+      printedLine(), head, h("h3", {}, t`Goes in`), goods(lines.filter((it) => it.kind === "in"), names), h("h3", {}, t`Procedure`), procedure(batch),
+      h("h3", {}, t`Comes out`), goods(lines.filter((it) => it.kind === "out"), names), signatures(t`batch ${id}`))], t`Batch ${id}`);
   } catch (error) { notice("bad", whyNot(error)); }
 }
 const stockIn = (parts) => parts.reduce((sum, it) => sum + it.stock, 0);
@@ -500,12 +501,12 @@ class Plan {
   taken(input) { return takenOf(input.parts.filter((it) => this.isOn(it)), input.left); }
   bookings(note) {
     return this.inputs.flatMap((input) => this.taken(input).taken.map(({ lot, sub, amount }) => ({ input, amount,
-      what: `${grouped(amount)} ${input.unit} of ${lot} consumed`, fields: noted({ do: "consume", batch: this.id, lot, sub, amount }, note) })));
+      what: t`${grouped(amount)} ${input.unit} of ${lot} consumed`, fields: noted({ do: "consume", batch: this.id, lot, sub, amount }, note) })));
   }
   text() { return JSON.stringify(this.inputs.map((it) => [it.def, it.booked, this.taken(it).short, this.bookings().map((one) => one.fields)])); }
   draw() {
     const name = document.activeElement.getAttribute("aria-label");
-    this.element.replaceChildren(...(this.inputs.length ? this.inputs.map((it) => this.inputBox(it)) : [h("p", { class: "soft" }, "Nothing is left to book.")]));
+    this.element.replaceChildren(...(this.inputs.length ? this.inputs.map((it) => this.inputBox(it)) : [h("p", { class: "soft" }, t`Nothing is left to book.`)]));
     const again = name && [...this.element.querySelectorAll("input")].find((it) => it.getAttribute("aria-label") === name);
     if (again) again.focus();
   }
@@ -513,8 +514,8 @@ class Plan {
     const { taken, short } = this.taken(input), amounts = new Map(taken.map((it) => [keyOfPart(it), it.amount])), { def, name, unit, left, asked } = input;
     const shown = input.parts.filter((it) => amounts.has(keyOfPart(it)) || !this.isOn(it));
     return h("section", { class: "input" }, h("h3", {}, def, name && [" ", h("span", { class: "soft small" }, name)]),
-      h("p", { class: "soft small" }, `${grouped(left)} ${unit} left${left === asked ? "" : ` of ${grouped(asked)} ${unit}`}`,
-        short > 0 && [" ", pill(`${grouped(short)} ${unit} short`, "bad")]),
+      h("p", { class: "soft small" }, left === asked ? t`${grouped(left)} ${unit} left` : t`${grouped(left)} ${unit} left of ${grouped(asked)} ${unit}`,
+        short > 0 && [" ", pill(t`${grouped(short)} ${unit} short`, "bad")]),
       shown.map((it) => this.partBox(it, amounts.get(keyOfPart(it)) || 0, unit)));
   }
   partBox(part, amount, unit) {
@@ -522,29 +523,29 @@ class Plan {
       if (event.target.checked) this.off.delete(key); else this.off.add(key);
       this.draw();
     };
-    const all = amount < part.stock ? ` of ${grouped(part.stock)}` : "";
-    return h("label", { class: "part" }, h("input", { type: "checkbox", checked: this.isOn(part), "aria-label": `Take ${key}`, onchange: tick }),
-      h("span", {}, `${placeOfPart(part)}${cameInWords(part)}`), h("b", {}, amount ? `${grouped(amount)}${all} ${unit}` : "none"));
+    return h("label", { class: "part" }, h("input", { type: "checkbox", checked: this.isOn(part), "aria-label": t`Take ${key}`, onchange: tick }),
+      h("span", {}, `${placeOfPart(part)}${cameInWords(part)}`), h("b", {}, !amount ? t`none` : amount < part.stock ? t`${grouped(amount)} of ${grouped(part.stock)} ${unit}` : `${grouped(amount)} ${unit}`));
   }
 }
 async function bookPlan(plan, note, isWanted) {
   const before = plan.text();
-  try { await plan.read(); } catch (error) { return `${whyNot(error)} Nothing was booked.`; }
-  if (plan.text() !== before) return "What is booked or in stock has changed meanwhile. Look at the amounts, and press once more.";
+  try { await plan.read(); } catch (error) { return `${whyNot(error)} ${t`Nothing was booked.`}`; }
+  if (plan.text() !== before) return t`What is booked or in stock has changed meanwhile. Look at the amounts, and press once more.`;
   const bookings = plan.bookings(note), booked = new Map(plan.inputs.map((it) => [it.def, it.booked]));
-  if (!bookings.length) return "There is nothing that could be booked.";
+  if (!bookings.length) return t`There is nothing that could be booked.`;
   const why = async (k) => {
     const { input, amount } = bookings[k], line = (await desk.linesNow(plan.id)).find((it) => it.kind === "in" && it.def === input.def);
-    if (!isWanted()) return "The form was closed.";
-    if (line.booked !== booked.get(input.def)) return `Somebody else booked ${input.def} on the batch meanwhile.`;
+    if (!isWanted()) return t`The form was closed.`;
+    if (line.booked !== booked.get(input.def)) return t`Somebody else booked ${input.def} on the batch meanwhile.`;
     booked.set(input.def, line.booked + amount);
     return null;
   };
   const { count, wrong } = await bookEach(bookings, why);
-  const far = `${grouped(count)} of ${counted(bookings.length, "booking", "bookings")} on ${plan.id} ${count === 1 ? "is" : "are"} booked`;
-  if (!wrong) { notice("good", `${far}. The last is number ${grouped(desk.seq)}.`); return null; }
+  const number = grouped(count), all = counted(bookings.length, "booking", "bookings");
+  const far = count === 1 ? t`${number} of ${all} on ${plan.id} is booked` : t`${number} of ${all} on ${plan.id} are booked`;
+  if (!wrong) { notice("good", `${far}. ${t`The last is number ${grouped(desk.seq)}.`}`); return null; }
   if (wrong === LOST) {
-    notice("bad", `${far}. No answer came to the next one: send it again, and then book the rest.`);
+    notice("bad", `${far}. ${t`No answer came to the next one: send it again, and then book the rest.`}`);
     return LOST;
   }
   if (isWanted()) await plan.read().catch(() => {}); else notice("bad", `${far}. ${wrong}`);
@@ -553,13 +554,13 @@ async function bookPlan(plan, note, isWanted) {
 async function bookInputs(id) {
   const plan = new Plan(id);
   try { await plan.read(); } catch (error) { return notice("bad", whyNot(error)); }
-  const fields = [say("The oldest lots first. A tick that is taken away leaves a lot out."), ownField(plan.element), noteField("Note on each booking, if any")];
+  const fields = [say(t`The oldest lots first. A tick that is taken away leaves a lot out.`), ownField(plan.element), noteField(t`Note on each booking, if any`)];
   let mine = null;
-  form(`Book all inputs of ${id} as asked`, fields, "Book all", ({ note }) => bookPlan(plan, note, () => openForm() === mine));
+  form(t`Book all inputs of ${id} as asked`, fields, t`Book all`, ({ note }) => bookPlan(plan, note, () => openForm() === mine));
   mine = openForm();
 }
-const closing = (it) => (it.closes ? "closes" : h("span", { class: "over" }, "doesn't close"));
-const where = (places, unit) => cell(places.map((it) => h("div", {}, `${it.place || "no place"}: ${grouped(it.stock)} ${unit}`)));
+const closing = (it) => (it.closes ? t`closes` : h("span", { class: "over" }, t`doesn't close`));
+const where = (places, unit) => cell(places.map((it) => h("div", {}, `${it.place || t`no place`}: ${grouped(it.stock)} ${unit}`)));
 function balanceOfMaterial(it) {
   const amounts = [it.received, it.produced, it.others, it.consumed, it.scrapped, it.stock].map((n) => numberCell(n, it.unit));
   return row(`material ${it.def}`, [idCell(it.def), numberCell(it.count), ...amounts, where(it.places, it.unit), cell(closing(it))]);
@@ -567,24 +568,24 @@ function balanceOfMaterial(it) {
 function balanceOfLot(it) {
   const unit = it.unit || "", { entered, left } = it;
   const amounts = [entered.received, entered.produced, entered.split + entered.merged, left.consumed, left.scrapped, left.split + left.merged, it.stock];
-  const states = [it.held && pill("on hold", "warn"), it.recalled && pill("recalled", "bad")];
+  const states = [it.held && pill(t`on hold`, "warn"), it.recalled && pill(t`recalled`, "bad")];
   return row(it.lot, [idCell(it.lot), cell(it.def), ...amounts.map((n) => numberCell(n, unit)), cell(states)]);
 }
 async function showBalance(kind, id, what) {
   try {
     const lots = await desk.balance(kind, id), materials = materialsOf(lots);
     const ofMaterials = table(["Material", "#Lots", "#Received", "#Produced", "#Of other lots", "#Consumed", "#Scrapped", "#In stock", "Where", "Balance"],
-      materials.map(balanceOfMaterial), "Nothing came of it.");
-    const ofLots = table(["Lot", "Material", "#Received", "#Produced", "#Of lots", "#Consumed", "#Scrapped", "#To lots", "#In stock", "State"], lots.map(balanceOfLot), "None.");
-    const head = h("div", { class: "facts" }, fact("Materials", grouped(materials.length)), fact("Lots", grouped(lots.length)),
-      fact("Balance", materials.every((it) => it.closes) ? "closes" : "doesn't close"));
-    const sheet = h("section", { class: "sheet balance" }, h("h2", {}, `Balance of ${what}`), printedLine(), head,
-      h("p", { class: "soft small" }, "What came in of each material is what left it and what is in stock. Lots that were split off or merged are among these."),
-      h("h3", {}, "Materials"), ofMaterials, h("h3", {}, counted(lots.length, "lot", "lots")), ofLots, signatures(`the balance of ${what}`));
-    openPaper("Balance", [sheet], `Balance of ${what}`, [csvButton("balance", `balance-of-${id}`, () => rowsOfBalance(lots))]);
+      materials.map(balanceOfMaterial), t`Nothing came of it.`);
+    const ofLots = table(["Lot", "Material", "#Received", "#Produced", "#Of lots", "#Consumed", "#Scrapped", "#To lots", "#In stock", "State"], lots.map(balanceOfLot), t`None.`);
+    const head = h("div", { class: "facts" }, fact(t`Materials`, grouped(materials.length)), fact(t`Lots`, grouped(lots.length)),
+      fact(t`Balance`, materials.every((it) => it.closes) ? t`closes` : t`doesn't close`));
+    const sheet = h("section", { class: "sheet balance" }, h("h2", {}, t`Balance of ${what}`), printedLine(), head,
+      h("p", { class: "soft small" }, t`What came in of each material is what left it and what is in stock. Lots that were split off or merged are among these.`),
+      h("h3", {}, t`Materials`), ofMaterials, h("h3", {}, counted(lots.length, "lot", "lots")), ofLots, signatures(t`the balance of ${what}`));
+    openPaper(t`Balance`, [sheet], t`Balance of ${what}`, [csvButton("balance", `balance-of-${id}`, () => rowsOfBalance(lots))]);
   } catch (error) { notice("bad", whyNot(error)); }
 }
-const balanceButton = (kind, id, what) => button("Balance", () => showBalance(kind, id, what), null, { "aria-label": `Balance of ${what}` });
+const balanceButton = (kind, id, what) => button(t`Balance`, () => showBalance(kind, id, what), null, { "aria-label": t`Balance of ${what}` });
 const nameOfTicks = (of) => `ticks.${desk.name || ""}.${of}`;
 function tick(of, key, isOn) {
   const others = kept(nameOfTicks(of), []).filter((it) => it !== key);
@@ -604,29 +605,29 @@ function totals(parts, units) {
 function standsCard(of, lots, nodes) {
   const units = new Map(nodes.filter((it) => it.lot).map((it) => [it.lot, it.unit])), parts = partsToSee(lots);
   const seen = new Set(kept(nameOfTicks(of), [])), told = h("span", { class: "soft small" });
-  const count = () => { told.textContent = `${grouped(parts.filter((it) => seen.has(it.key)).length)} of ${counted(parts.length, "row", "rows")} ticked`; };
+  const count = () => { told.textContent = t`${grouped(parts.filter((it) => seen.has(it.key)).length)} of ${counted(parts.length, "row", "rows")} ticked`; };
   const ticked = (it, isOn) => {
     if (isOn) seen.add(it.key); else seen.delete(it.key);
     tick(of, it.key, isOn);
     count();
   };
-  const box = (it) => h("input", { type: "checkbox", "aria-label": `${it.key} at ${it.place || "no place"} is seen`, checked: seen.has(it.key),
+  const box = (it) => h("input", { type: "checkbox", "aria-label": t`${it.key} at ${it.place || t`no place`} is seen`, checked: seen.has(it.key),
     onchange: (event) => ticked(it, event.target.checked) });
-  const cells = (it) => [cell(box(it)), cell(it.place || h("span", { class: "soft" }, "no place")), idCell(lotLink(it.lot, it.no)), cell(it.def),
-    numberCell(it.stock, units.get(it.lot)), cell(it.held && pill("on hold", "warn")), cell(it.recalled && pill("recalled", "bad"))];
+  const cells = (it) => [cell(box(it)), cell(it.place || h("span", { class: "soft" }, t`no place`)), idCell(lotLink(it.lot, it.no)), cell(it.def),
+    numberCell(it.stock, units.get(it.lot)), cell(it.held && pill(t`on hold`, "warn")), cell(it.recalled && pill(t`recalled`, "bad"))];
   count();
   const rows = parts.map((it) => row(it.key, cells(it)));
   const csv = csvButton("stands", `goods-of-${of.split(" ")[1]}`, () => parts.map((it) => ({ ...it, unit: units.get(it.lot), seen: seen.has(it.key) })));
-  return card("Where its goods are", parts.length > 0 && [told, csv],
-    table(["Seen", "Place", "Lot", "Material", "#Amount", "On hold", "Recalled"], rows, "Nothing of it is in stock."),
-    parts.length > 0 && [h("h3", {}, "In all"), table(["Material", "#Amount", "#Parts"], totals(parts, units), "", true)]);
+  return card(t`Where its goods are`, parts.length > 0 && [told, csv],
+    table(["Seen", "Place", "Lot", "Material", "#Amount", "On hold", "Recalled"], rows, t`Nothing of it is in stock.`),
+    parts.length > 0 && [h("h3", {}, t`In all`), table(["Material", "#Amount", "#Parts"], totals(parts, units), "", true)]);
 }
 async function runningCard(batches) {
   const open = new Map((await desk.batches(Infinity)).map((it) => [it.batch, it]));
   const running = batches.filter((it) => open.has(it.batch)).map((it) => open.get(it.batch));
-  const rows = running.map((it) => row(it.batch, [idCell(batchLink(it.batch)), cell(pill(it.state, TONES[it.state])), cell(it.order),
-    cell(it.phase ? `${it.phase}, ${it.next} of ${it.phases}` : "all done")]));
-  return card("Batches that still run", null, table(["Batch", "State", "Order", "Next phase"], rows, "None."));
+  const rows = running.map((it) => row(it.batch, [idCell(batchLink(it.batch)), cell(pill(wordOf(it.state), TONES[it.state])), cell(it.order),
+    cell(it.phase ? t`${it.phase}, ${it.next} of ${it.phases}` : t`all done`)]));
+  return card(t`Batches that still run`, null, table(["Batch", "State", "Order", "Next phase"], rows, t`None.`));
 }
 async function needsOf(orders) {
   const needs = [];
@@ -638,40 +639,41 @@ async function needsOf(orders) {
 function needsTable(needs) {
   const short = (it) => h("td", { class: "num" }, it.free < it.asked && h("span", { class: "over" }, `${grouped(it.asked - it.free)} ${it.unit}`));
   const rows = needs.map((it) => row(`need ${it.def}`, [idCell(it.def), numberCell(it.asked, it.unit), numberCell(it.free, it.unit), short(it)]));
-  return h("div", { class: "needs" }, table(["Input", "#Asked", "#Free", "#Short"], rows, "No input is asked.", true));
+  return h("div", { class: "needs" }, table(["Input", "#Asked", "#Free", "#Short"], rows, t`No input is asked.`, true));
 }
 const batchOf = (order) => idOf("B", order.replace(/^O-?(?=.)/, ""));
 const fieldsOf = (order, batch, note) => noted({ do: "release", order, batch }, note);
-const inWords = (it) => `${it.recipe} ${it.version}, size ${grouped(it.size)}, due ${it.due}`;
+const inWords = (it) => t`${it.recipe} ${it.version}, size ${grouped(it.size)}, due ${dated(it.due)}`;
 async function release(order) {
   let needs;
   try { await desk.look(); needs = await needsOf([order]); } catch (error) { return notice("bad", whyNot(error)); }
-  const text = say(`${inWords(order)}. The shift can start its batch at once.`), batch = idField("batch", "New batch", batchOf(order.order));
+  const text = say(`${inWords(order)}. ${t`The shift can start its batch at once.`}`), batch = idField("batch", t`New batch`, batchOf(order.order));
   const fields = [text, ownField(needsTable(needs)), batch, noteField()];
-  bookingForm(`Release order ${order.order}`, fields, "Release",
-    (v, tell) => tell(`Order ${order.order} released as ${v.batch}`, fieldsOf(order.order, v.batch, v.note)));
+  bookingForm(t`Release order ${order.order}`, fields, t`Release`,
+    (v, tell) => tell(t`Order ${order.order} released as ${v.batch}`, fieldsOf(order.order, v.batch, v.note)));
 }
 async function releaseSeveral(orders, isDone) {
   let needs;
   try { await desk.look(); needs = await needsOf(orders); } catch (error) { return notice("bad", whyNot(error)); }
-  const batches = orders.map((it) => ({ ...idField(`batch ${it.order}`, `New batch of ${it.order}: ${inWords(it)}`, batchOf(it.order)) }));
-  const fields = [say("Their batches can be started at once."), ownField(needsTable(needs)), ...batches, noteField("Note on each, if any")];
+  const batches = orders.map((it) => ({ ...idField(`batch ${it.order}`, t`New batch of ${it.order}: ${inWords(it)}`, batchOf(it.order)) }));
+  const fields = [say(t`Their batches can be started at once.`), ownField(needsTable(needs)), ...batches, noteField(t`Note on each, if any`)];
   const done = new Set();
   let mine = null;
   const take = async ({ note, ...v }) => {
     const left = orders.filter((it) => !done.has(it.order));
-    const bookings = left.map((it) => ({ what: `Order ${it.order} released`, fields: fieldsOf(it.order, v[`batch ${it.order}`], note) }));
+    const bookings = left.map((it) => ({ what: t`Order ${it.order} released`, fields: fieldsOf(it.order, v[`batch ${it.order}`], note) }));
     const isWanted = () => openForm() === mine;
-    const { count, wrong } = await bookEach(bookings, async () => (isWanted() ? null : "The form was closed."));
+    const { count, wrong } = await bookEach(bookings, async () => (isWanted() ? null : t`The form was closed.`));
     for (const it of left.slice(0, count)) { done.add(it.order); isDone(it.order); }
     await show();
-    const far = `${grouped(done.size)} of ${counted(orders.length, "order", "orders")} ${done.size === 1 ? "is" : "are"} released`;
+    const number = grouped(done.size), all = counted(orders.length, "order", "orders");
+    const far = done.size === 1 ? t`${number} of ${all} is released` : t`${number} of ${all} are released`;
     if (!wrong) { notice("good", `${far}.`); return null; }
-    if (wrong === LOST) notice("bad", `${far}. No answer came to the next one: send it again, and then release the rest.`);
+    if (wrong === LOST) notice("bad", `${far}. ${t`No answer came to the next one: send it again, and then release the rest.`}`);
     else if (!isWanted()) notice("bad", `${far}. ${wrong}`);
     return wrong === LOST ? LOST : `${far}. ${left[count].order}: ${wrong}`;
   };
-  form(`Release ${counted(orders.length, "order", "orders")}`, fields, "Release all", take);
+  form(t`Release ${counted(orders.length, "order", "orders")}`, fields, t`Release all`, take);
   mine = openForm();
 }
 const ORDER_STATES = ["open", "released", "finished", "cancelled"], WITHDRAWN = ["hidden", "shown"];
@@ -700,16 +702,19 @@ function ordersCard(orders, orderState, approved) {
   const rows = sorted.map((it) => orderRow(it, orderState, recipeOf(it), () => drawChosenOrders(bar)));
   drawChosenOrders(bar);
   const late = MAY_BE_LATE.includes(orderState) ? orders.filter((it) => it.due < desk.today()).length : 0;
-  const states = filterChoice("State of the orders", "orders", ORDER_STATES);
+  const states = filterChoice(t`State of the orders`, "orders", ORDER_STATES);
   const csv = csvButton("orders", `orders-${orderState}`, async () => (await desk.orders(orderState, Infinity)).map((it) => ({ ...it, state: orderState })));
-  const without = isFiltered && orders.length ? "No order fits the filter." : isOpen ? "No order is open. Take an order file in, or one order by hand."
-    : `No order is ${orderState}.`;
+  const without = isFiltered && orders.length ? t`No order fits the filter.` : isOpen ? t`No order is open. Take an order file in, or one order by hand.`
+    : t`No order is ${wordOf(orderState)}.`;
   const isAll = late === orders.length && orders.more, heads = ["Order", "Due", "#Priority", "Recipe", "#Size", ""];
-  return card("Orders", [late > 0 && pill(`${grouped(late)}${isAll ? " and more" : ""} late`, "bad"), csv, states],
+  return card(t`Orders`, [late > 0 && pill(isAll ? t`${grouped(late)} and more late` : t`${grouped(late)} late`, "bad"), csv, states],
     orders.length > 0 && filterRow(orders, sort, way), table(isOpen ? ["Choose", ...heads] : heads, rows, without, false, sortsOf(sort, way)),
-    more(orders, "orders " + orderState, isAsTheyCome() ? " by their due dates" : " by their due dates are looked through; those that fit"), isOpen && bar);
+    more(orders, "orders " + orderState, firstOrders), isOpen && bar);
 }
+const firstOrders = (count) => (isAsTheyCome() ? t`The first ${count} by their due dates are shown, and there are more.`
+  : t`The first ${count} by their due dates are looked through; those that fit are shown, and there are more.`);
 const SORT_HEADS = { order: "Order", due: "Due", priority: "#Priority", recipe: "Recipe", size: "#Size" };
+const SORTS = { order: "by order", due: "by due date", priority: "by priority", recipe: "by recipe", size: "by size" };
 function setSort(by, way) {
   const other = withFilter(`#${withFilter(location.hash || "#planner", "sort", by === "due" ? null : by)}`, "way", way === "up" ? null : way);
   location.hash = `#${other}`;
@@ -727,26 +732,26 @@ function typeText(value) {
 function filterRow(orders, sort, way) {
   const recipe = textOf("recipe"), ids = [...new Set([...orders.map((it) => it.recipe), ...(recipe ? [recipe] : [])])].sort();
   const option = (value, label, isOn) => h("option", { value, selected: isOn }, label);
-  const text = h("input", { type: "search", id: "ordertext", maxlength: 60, placeholder: "Filter by a text", "aria-label": "Filter the orders by a text",
+  const text = h("input", { type: "search", id: "ordertext", maxlength: 60, placeholder: t`Filter by a text`, "aria-label": t`Filter the orders by a text`,
     autocomplete: "off", oninput: (event) => typeText(event.target.value) });
   text.value = typedText();
-  const sorts = Object.entries(SORT_HEADS).flatMap(([by, head]) => WAYS.map((it) => option(`${by}.${it}`, `by ${head.replace("#", "").toLowerCase()}, ${it}`,
+  const sorts = Object.entries(SORTS).flatMap(([by, words]) => WAYS.map((it) => option(`${by}.${it}`, `${t(words)}, ${t(it)}`,
     by === sort && it === way)));
   return h("div", { class: "body row filter" }, text,
-    h("select", { id: "orderrecipe", "aria-label": "Filter the orders by a recipe", onchange: (event) => setText("recipe", event.target.value) },
-      option("", "all recipes", !recipe), ids.map((it) => option(it, it, it === recipe))),
-    h("select", { id: "ordersort", class: "phone", "aria-label": "Sort the orders", onchange: (event) => setSort(...event.target.value.split(".")) }, sorts),
-    (recipe || typedText()) && button("No filter", () => { typed = null; clearTimeout(typing); setText("text", ""); setText("recipe", ""); }));
+    h("select", { id: "orderrecipe", "aria-label": t`Filter the orders by a recipe`, onchange: (event) => setText("recipe", event.target.value) },
+      option("", t`all recipes`, !recipe), ids.map((it) => option(it, it, it === recipe))),
+    h("select", { id: "ordersort", class: "phone", "aria-label": t`Sort the orders`, onchange: (event) => setSort(...event.target.value.split(".")) }, sorts),
+    (recipe || typedText()) && button(t`No filter`, () => { typed = null; clearTimeout(typing); setText("text", ""); setText("recipe", ""); }));
 }
 function chosenBar() {
   const all = () => releaseSeveral([...chosenOrders.values()], (it) => chosenOrders.delete(it));
-  return h("div", { class: "chosen" }, h("span", {}), button("Release\u2026", all, "main", { "aria-label": "Release the chosen orders" }),
-    button("Choose none", () => { chosenOrders.clear(); show(); }));
+  return h("div", { class: "chosen" }, h("span", {}), button(t`Release\u2026`, all, "main", { "aria-label": t`Release the chosen orders` }),
+    button(t`Choose none`, () => { chosenOrders.clear(); show(); }));
 }
 function drawChosenOrders(bar) {
   const count = chosenOrders.size, isTooMany = count > MOST_AT_ONCE;
   bar.hidden = !count;
-  bar.firstChild.textContent = isTooMany ? `At most ${MOST_AT_ONCE} orders are released at once.` : `${counted(count, "order is", "orders are")} chosen.`;
+  bar.firstChild.textContent = isTooMany ? t`At most ${MOST_AT_ONCE} orders are released at once.` : count === 1 ? t`1 order is chosen.` : t`${grouped(count)} orders are chosen.`;
   bar.children[1].disabled = isTooMany;
 }
 function orderBox(order, isOff, told) {
@@ -754,15 +759,15 @@ function orderBox(order, isOff, told) {
     if (event.target.checked) chosenOrders.set(order.order, order); else chosenOrders.delete(order.order);
     told();
   };
-  const name = `Choose ${order.order} to be released`;
+  const name = t`Choose ${order.order} to be released`;
   return h("input", { type: "checkbox", "aria-label": name, checked: chosenOrders.has(order.order), disabled: isOff, onchange: choose });
 }
 function orderRow(order, orderState, recipe, told) {
   const isOpen = orderState === "open", name = `${order.recipe} ${order.version}`;
   const title = recipe && recipe.title ? [recipe.title, " ", h("span", { class: "soft small" }, name)] : name;
-  const mark = isOpen && !recipe && [" ", pill("not approved", "warn")];
-  const open = [button("Release", () => release(order), "main"), button("Cancel", () => cancelOrder(order), "bad")];
-  const buttons = isOpen ? open : orderState !== "cancelled" && button("Batch", () => showBatchOf(order.order));
+  const mark = isOpen && !recipe && [" ", pill(t`not approved`, "warn")];
+  const open = [button(t`Release`, () => release(order), "main"), button(t`Cancel^order`, () => cancelOrder(order), "bad")];
+  const buttons = isOpen ? open : orderState !== "cancelled" && button(t`Batch`, () => showBatchOf(order.order));
   return row(order.order, [isOpen && cell(orderBox(order, !recipe, told)), idCell(link("planner/" + order.order, order.order)), cell(due(order, orderState)),
     h("td", { class: "num" }, order.priority),
     cell(title, mark), numberCell(order.size), buttonsCell(buttons)].filter(Boolean));
@@ -770,64 +775,64 @@ function orderRow(order, orderState, recipe, told) {
 const MAY_BE_LATE = ["open", "released"];
 function due(order, state) {
   const today = desk.today(), mayBeLate = MAY_BE_LATE.includes(state);
-  if (mayBeLate && order.due < today) return pill(order.due + " late", "bad");
-  return mayBeLate && order.due === today ? pill(order.due + " today", "warn") : order.due;
+  if (mayBeLate && order.due < today) return pill(t`${dated(order.due)} late`, "bad");
+  return mayBeLate && order.due === today ? pill(t`${dated(order.due)} today`, "warn") : dated(order.due);
 }
 async function showBatchOf(id) {
   try { go("shift", (await desk.order(id)).batch); } catch (error) { notice("bad", error.message); }
 }
 function orderCard(id, order) {
-  const away = button("Close this", () => go("planner"));
-  if (!order) return card(`Order ${id}`, away, none("There is no such order."));
+  const away = button(t`Close this`, () => go("planner"));
+  if (!order) return card(t`Order ${id}`, away, none(t`There is no such order.`));
   const isOpen = order.state === "open";
-  return card(`Order ${id}`, [pill(order.state, isOpen ? "warn" : order.state === "finished" ? "good" : ""), away],
-    facts(fact("Due", due(order, order.state)), fact("Priority", order.priority), fact("Recipe", `${order.recipe} ${order.version}`),
-      fact("Size", grouped(order.size)), order.batch && fact("Batch", batchLink(order.batch))),
-    isOpen && h("div", { class: "body row" }, button("Release", () => release(order), "main", { "aria-label": `Release the order ${id}` }),
-      button("Cancel", () => cancelOrder(order), "bad", { "aria-label": `Cancel the order ${id}` })));
+  return card(t`Order ${id}`, [pill(wordOf(order.state), isOpen ? "warn" : order.state === "finished" ? "good" : ""), away],
+    facts(fact(t`Due`, due(order, order.state)), fact(t`Priority`, order.priority), fact(t`Recipe`, `${order.recipe} ${order.version}`),
+      fact(t`Size`, grouped(order.size)), order.batch && fact(t`Batch`, batchLink(order.batch))),
+    isOpen && h("div", { class: "body row" }, button(t`Release`, () => release(order), "main", { "aria-label": t`Release the order ${id}` }),
+      button(t`Cancel^order`, () => cancelOrder(order), "bad", { "aria-label": t`Cancel the order ${id}` })));
 }
 function cancelOrder(order) {
-  bookingForm(`Cancel order ${order.order}?`, [say("A cancelled order stays cancelled."), noteField("Why")], "Cancel the order",
-    (v, tell) => tell(`Order ${order.order} cancelled`, noted({ do: "cancel_order", order: order.order }, v.note)), { isGrave: true });
+  bookingForm(t`Cancel order ${order.order}?`, [say(t`A cancelled order stays cancelled.`), noteField(t`Why`)], t`Cancel the order`,
+    (v, tell) => tell(t`Order ${order.order} cancelled`, noted({ do: "cancel_order", order: order.order }, v.note)), { isGrave: true });
 }
 const FILE_HINT = "An order file has comma-separated values, with the first line order,recipe,version,size,due,priority. "
   + "All of its orders are taken in, or none.";
 function takeInCard(approved) {
-  const file = h("input", { type: "file", accept: ".csv,text/csv", "aria-label": "Order file", id: "orderfile", class: "full" });
-  const buttons = [button("Take the file in", () => importFile(file), "main"), button("One order by hand", () => oneOrder(approved))];
-  return card("Take orders in", null, h("div", { class: "body" }, h("p", { class: "soft small" }, FILE_HINT), file,
+  const file = h("input", { type: "file", accept: ".csv,text/csv", "aria-label": t`Order file`, id: "orderfile", class: "full" });
+  const buttons = [button(t`Take the file in`, () => importFile(file), "main"), button(t`One order by hand`, () => oneOrder(approved))];
+  return card(t`Take orders in`, null, h("div", { class: "body" }, h("p", { class: "soft small" }, t(FILE_HINT)), file,
     h("p", { class: "row" }, buttons)));
 }
 async function importFile(field) {
   const file = field.files[0];
-  if (!file) { field.focus(); return notice("bad", "Choose a file first."); }
-  if (file.size > 262144) return notice("bad", FILE_FAULTS.TooLong);
-  const content = await file.text(), what = `Order file ${file.name} taken in`;
+  if (!file) { field.focus(); return notice("bad", t`Choose a file first.`); }
+  if (file.size > 262144) return notice("bad", t(FILE_FAULTS.TooLong));
+  const content = await file.text(), what = t`Order file ${file.name} taken in`;
   dropFilter("orders");
-  return bookAtOnce(what, { file: content }, "Take it in");
+  return bookAtOnce(what, { file: content }, t`Take it in`);
 }
 function oneOrder(approved) {
-  if (!approved.length) return notice("bad", "No recipe is approved, so that no order can be taken in.");
-  const label = (it) => `${it.title || it.recipe} (${it.recipe} ${it.version}), ${grouped(it.min)} to ${grouped(it.max)}`;
+  if (!approved.length) return notice("bad", t`No recipe is approved, so that no order can be taken in.`);
+  const label = (it) => t`${it.title || it.recipe} (${it.recipe} ${it.version}), ${grouped(it.min)} to ${grouped(it.max)}`;
   const recipes = approved.map((it) => ({ value: `${it.recipe}.${it.version}`, label: label(it) }));
   const priorities = [9, 8, 7, 6, 5, 4, 3, 2, 1].map((it) => ({ value: it, label: it }));
   const fields = [
-    idField("order", "New order"), selectField("recipe", "Recipe", recipes), { ...amountField(), name: "size", label: "Size" },
-    halfField("due", "date", "Due", { value: day(new Date(Date.now() + 7 * 86400e3)) }),
-    halfField("priority", "select", "Priority, 9 before 1", { value: 5, options: priorities }),
+    idField("order", t`New order`), selectField("recipe", t`Recipe`, recipes), { ...amountField(), name: "size", label: t`Size` },
+    halfField("due", "date", t`Due`, { value: day(new Date(Date.now() + 7 * 86400e3)) }),
+    halfField("priority", "select", t`Priority, 9 before 1`, { value: 5, options: priorities }),
   ];
-  bookingForm("One order", fields, "Take it in", (v, tell) => {
+  bookingForm(t`One order`, fields, t`Take it in`, (v, tell) => {
     const [recipe, version] = v.recipe.split(".");
     const order = { order: v.order, recipe, version: Number(version), size: v.size, due: v.due, priority: Number(v.priority) };
-    return tell(`Order ${v.order} taken in`, { do: "import_orders", orders: [order] });
+    return tell(t`Order ${v.order} taken in`, { do: "import_orders", orders: [order] });
   });
 }
 function recipesCard(approved, drafts, withdrawn) {
   const rows = [...drafts.map((it) => recipeRow(it, "draft")), ...approved.map((it) => recipeRow(it, "approved")),
     ...(withdrawn || []).map((it) => recipeRow(it, "withdrawn"))];
-  const tools = [button(withdrawn ? "Hide withdrawn" : "Show withdrawn", () => setFilter("withdrawn", WITHDRAWN, withdrawn ? "hidden" : "shown")),
-    csvButton("recipes", "recipes", allRecipes), button("New recipe", () => newRecipe())];
-  return card("Recipes", tools, table(["Recipe", ""], rows, "There is no recipe yet. Write one: its materials have to be there."),
+  const tools = [button(withdrawn ? t`Hide withdrawn` : t`Show withdrawn`, () => setFilter("withdrawn", WITHDRAWN, withdrawn ? "hidden" : "shown")),
+    csvButton("recipes", "recipes", allRecipes), button(t`New recipe`, () => newRecipe())];
+  return card(t`Recipes`, tools, table(["Recipe", ""], rows, t`There is no recipe yet. Write one: its materials have to be there.`),
     [approved, drafts, withdrawn || []].map((it) => more(it, "recipes")).find(Boolean));
 }
 async function allRecipes() {
@@ -837,22 +842,22 @@ async function allRecipes() {
 }
 function recipeRow(it, state) {
   const name = `${it.recipe} ${it.version}`;
-  const approve = () => act(`Recipe ${name} approved`, { do: "approve", recipe: it.recipe, version: it.version });
-  const mark = state !== "approved" && [" ", pill(state, state === "draft" ? "warn" : "")];
+  const approve = () => act(t`Recipe ${name} approved`, { do: "approve", recipe: it.recipe, version: it.version });
+  const mark = state !== "approved" && [" ", pill(wordOf(state), state === "draft" ? "warn" : "")];
   const title = [h("b", {}, it.title || it.recipe), " ", h("span", { class: "soft small" }, name), mark];
-  const sizes = h("div", { class: "soft small" }, `${grouped(it.min)} to ${grouped(it.max)} of ${it.product}`);
-  const buttons = [button("Lines", () => showRecipe(it)), state === "draft" && button("Approve", approve),
-    state === "approved" && button("Withdraw", () => withdraw(it), "bad")];
+  const sizes = h("div", { class: "soft small" }, t`${grouped(it.min)} to ${grouped(it.max)} of ${it.product}`);
+  const buttons = [button(t`Lines`, () => showRecipe(it)), state === "draft" && button(t`Approve`, approve),
+    state === "approved" && button(t`Withdraw`, () => withdraw(it), "bad")];
   return row(name, [cell(title, sizes), buttonsCell(...buttons)]);
 }
 async function showRecipe({ recipe, version }) {
   let it;
   try { it = await desk.recipe(recipe, version); } catch (error) { return notice("bad", error.message); }
   const amount = (line) => (line.qty ? `${grouped(line.qty)} ${line.unit}` : line.value || "");
-  const rows = it.lines.map(withPath).map((line, k) => row("line " + k, [cell(line.kind), cell(line.def || line.name || line.path), cell(amount(line))]));
-  const away = button("Close", () => dialog.close()), again = button("New version from this one", () => newVersion(it));
-  const sizes = `For ${grouped(it.base)} ${it.unit} of ${it.product}; orders of ${grouped(it.min)} to ${grouped(it.max)} ${it.unit}.`;
-  openDialog(h("form", { method: "dialog" }, h("h2", { id: "title" }, `${it.title || it.recipe} (${it.recipe} ${it.version}), ${it.state}`),
+  const rows = it.lines.map(withPath).map((line, k) => row("line " + k, [cell(wordOf(line.kind)), cell(line.def || line.name || line.path), cell(amount(line))]));
+  const away = button(t`Close`, () => dialog.close()), again = button(t`New version from this one`, () => newVersion(it));
+  const sizes = t`For ${grouped(it.base)} ${it.unit} of ${it.product}; orders of ${grouped(it.min)} to ${grouped(it.max)} ${it.unit}.`;
+  openDialog(h("form", { method: "dialog" }, h("h2", { id: "title" }, `${it.title || it.recipe} (${it.recipe} ${it.version}), ${wordOf(it.state)}`),
     h("p", { class: "soft" }, sizes), table(["Kind", "What", "Amount or value"], rows, ""), h("div", { class: "end" }, again, away)), away);
 }
 async function newVersion(it) {
@@ -861,23 +866,23 @@ async function newVersion(it) {
   newRecipe({ ...it, version, lines: linesText(it.lines) });
 }
 function withdraw(it) {
-  bookingForm(`Withdraw recipe ${it.recipe} ${it.version}?`,
-    [say("No order of this version can be released any more. Batches that are released go on."), noteField("Why")], "Withdraw",
-    (v, tell) => tell(`Recipe ${it.recipe} ${it.version} withdrawn`,
+  bookingForm(t`Withdraw recipe ${it.recipe} ${it.version}?`,
+    [say(t`No order of this version can be released any more. Batches that are released go on.`), noteField(t`Why`)], t`Withdraw`,
+    (v, tell) => tell(t`Recipe ${it.recipe} ${it.version} withdrawn`,
       noted({ do: "withdraw", recipe: it.recipe, version: it.version }, v.note)), { isGrave: true });
 }
 function newRecipe(values = {}) {
   const fields = [
-    say("A draft can't be changed: a slip wants another version."), halfField("recipe", "id", "Recipe"),
-    halfField("version", "amount", "Version, 1 to 999", { value: 1, more: { pattern: "0*[1-9][0-9]{0,2}" } }),
-    halfField("title", "text", "Title"), halfField("product", "id", "Product, a material"),
-    { name: "base", kind: "amount", label: "Base size, for which the lines are written" },
-    halfField("min", "amount", "Least size of an order"), halfField("max", "amount", "Greatest size"),
-    { name: "lines", kind: "lines", label: "Lines", hint: LINES_HINT, more: { placeholder: LINES_EXAMPLE } },
+    say(t`A draft can't be changed: a slip wants another version.`), halfField("recipe", "id", t`Recipe`),
+    halfField("version", "amount", t`Version, 1 to 999`, { value: 1, more: { pattern: "0*[1-9][0-9]{0,2}" } }),
+    halfField("title", "text", t`Title`), halfField("product", "id", t`Product, a material`),
+    { name: "base", kind: "amount", label: t`Base size, for which the lines are written` },
+    halfField("min", "amount", t`Least size of an order`), halfField("max", "amount", t`Greatest size`),
+    { name: "lines", kind: "lines", label: t`Lines`, hint: t(LINES_HINT), more: { placeholder: LINES_EXAMPLE } },
   ].map((it) => ({ ...it, value: values[it.name] ?? it.value }));
-  bookingForm(values.recipe ? `New version of recipe ${values.recipe}` : "New recipe", fields, "Make a draft", ({ lines: text, ...header }, tell) => {
+  bookingForm(values.recipe ? t`New version of recipe ${values.recipe}` : t`New recipe`, fields, t`Make a draft`, ({ lines: text, ...header }, tell) => {
     const [lines, wrong] = recipeLines(text);
-    return wrong || tell(`Recipe ${header.recipe} ${header.version} drafted`, { do: "add_recipe", ...header, lines });
+    return wrong || tell(t`Recipe ${header.recipe} ${header.version} drafted`, { do: "add_recipe", ...header, lines });
   });
 }
 const WHICH = ["open", "closed"];
@@ -890,14 +895,14 @@ async function shift([id]) {
   const shown = id || (!isNarrow() && batches[0] && batches[0].batch);
   if (!shown || batchShown?.batch !== shown) batchShown = null;
   const rows = batches.map((it) => batchRow(it, it.batch === shown, areClosedShown));
-  const noneOpen = unit ? `No batch has its next phase on ${unit}.` : "No batch is open. The planner releases an order, which makes its batch.";
-  const all = h("div", { class: "batches" }, table(["Batch", "State", "#Due"], rows, areClosedShown ? "No batch is closed." : noneOpen, true));
-  const which = filterChoice("Which batches", "batches", WHICH);
+  const noneOpen = unit ? t`No batch has its next phase on ${unit}.` : t`No batch is open. The planner releases an order, which makes its batch.`;
+  const all = h("div", { class: "batches" }, table(["Batch", "State", "#Due"], rows, areClosedShown ? t`No batch is closed.` : noneOpen, true));
+  const which = filterChoice(t`Which batches`, "batches", WHICH);
   const csv = csvButton("batches", `batches-${areClosedShown ? "closed" : "open"}`, async () => (await (areClosedShown ? desk.closedBatches(Infinity)
     : desk.batches(Infinity))).map((it) => ({ ...it, ...it.planned, closed: areClosedShown })));
-  const without = card("No batch", null, none("Once an order is released, its batch is started, booked and closed here."));
+  const without = card(t`No batch`, null, none(t`Once an order is released, its batch is started, booked and closed here.`));
   const one = shown ? await batchCards(shown) : desk.seq === 0 ? firstSteps() : !isNarrow() && without;
-  return ["list", listed(card("Batches", [csv, which], !areClosedShown && unitRow(read, unit), all, more(batches, areClosedShown ? "closed" : "batches"))),
+  return ["list", listed(card(t`Batches`, [csv, which], !areClosedShown && unitRow(read, unit), all, more(batches, areClosedShown ? "closed" : "batches"))),
     h("div", { class: "stack" }, one)];
 }
 const MOST_READ_BATCHES = 2000;
@@ -905,8 +910,8 @@ function unitRow(batches, unit) {
   const units = [...new Set([...batches.map((it) => it.phase_unit), unit].filter(Boolean))].sort(), option = (value, label) => h("option", { value,
     selected: value === unit }, label);
   if (!units.length) return null;
-  return h("div", { class: "body row filter" }, h("select", { id: "batchunit", "aria-label": "Filter the batches by the unit of their next phase",
-    onchange: (event) => setText("unit", event.target.value) }, option("", "all units"), units.map((it) => option(it, `next on ${it}`))));
+  return h("div", { class: "body row filter" }, h("select", { id: "batchunit", "aria-label": t`Filter the batches by the unit of their next phase`,
+    onchange: (event) => setText("unit", event.target.value) }, option("", t`all units`), units.map((it) => option(it, t`next on ${it}`))));
 }
 function byDueDate({ planned: one }, { planned: other }) {
   if (!one || !other) return Boolean(other) - Boolean(one);
@@ -914,16 +919,16 @@ function byDueDate({ planned: one }, { planned: other }) {
 }
 function batchRow(batch, isShown, isClosed) {
   const { planned } = batch, small = (...text) => h("div", { class: "soft small" }, ...text);
-  const next = batch.phase ? `next ${batch.phase} on ${batch.phase_unit}, ${batch.next} of ${batch.phases}` : "all phases done";
+  const next = batch.phase ? t`next ${batch.phase} on ${batch.phase_unit}, ${batch.next} of ${batch.phases}` : t`all phases done`;
   const cells = [idCell(batchLink(batch.batch), planned && h("div", { class: "under" }, planned.title || planned.product), small(batch.order)),
-    cell(pill(batch.state, TONES[batch.state]), small(next), small("since ", h("span", { class: "when" }, moment(batch.at)))),
-    h("td", { class: "num" }, planned && h("span", {}, isClosed ? planned.due : dueMark(planned.due),
+    cell(pill(wordOf(batch.state), TONES[batch.state]), small(next), small(t`since `, h("span", { class: "when" }, moment(batch.at)))),
+    h("td", { class: "num" }, planned && h("span", {}, isClosed ? dated(planned.due) : dueMark(planned.due),
       small(`${grouped(planned.size)} ${planned.unit || ""}`)))];
   return row(batch.batch, cells, "shift/" + batch.batch, isShown);
 }
 function dueMark(due) {
   const today = desk.today();
-  return [due, due <= today && h("div", {}, pill(due < today ? "late" : "today", due < today ? "bad" : "warn"))];
+  return [dated(due), due <= today && h("div", {}, pill(due < today ? t`late` : t`today`, due < today ? "bad" : "warn"))];
 }
 async function batchCards(id) {
   const batch = await desk.batch(id);
@@ -933,59 +938,60 @@ async function batchCards(id) {
 function progressCard(batch) {
   const done = batch.next - 1, { phases, last } = procedureOf(batch.lines), next = phases[done];
   const path = phases.map((it, k) => [k ? " \u203a " : "", k === done ? h("b", {}, it.path) : it.path, k < done ? " \u2713" : ""]);
-  const known = [fact("Order", link("planner/" + batch.order, batch.order)), fact("Recipe", `${batch.recipe} ${batch.version}`),
-    fact("Size", grouped(batch.size)), fact("Attempt", batch.attempt), fact("Phases done", `${done} of ${batch.phases}`)];
-  const tools = [pill(batch.closed ? "closed" : batch.state, batch.closed ? "" : TONES[batch.state]),
-    link("quality/batch/" + batch.batch, "Record and genealogy"), button("Sheet", () => showSheet(batch.batch), null,
-      { "aria-label": `Sheet of ${batch.batch}` })];
-  return card(`Batch ${batch.batch}`, tools, h("div", { class: "body" }, h("div", { class: "facts" }, known), progressBar(done, batch.phases),
-    h("p", { class: "soft small" }, path), parametersOf(next ? `For ${next.path}` : "After the phases", next ? next.parameters : last),
+  const known = [fact(t`Order`, link("planner/" + batch.order, batch.order)), fact(t`Recipe`, `${batch.recipe} ${batch.version}`),
+    fact(t`Size`, grouped(batch.size)), fact(t`Attempt`, batch.attempt), fact(t`Phases done`, t`${done} of ${batch.phases}`)];
+  const tools = [pill(batch.closed ? t`closed` : wordOf(batch.state), batch.closed ? "" : TONES[batch.state]),
+    link("quality/batch/" + batch.batch, t`Record and genealogy`), button(t`Sheet`, () => showSheet(batch.batch), null,
+      { "aria-label": t`Sheet of ${batch.batch}` })];
+  return card(t`Batch ${batch.batch}`, tools, h("div", { class: "body" }, h("div", { class: "facts" }, known), progressBar(done, batch.phases),
+    h("p", { class: "soft small" }, path), parametersOf(next ? t`For ${next.path}` : t`After the phases`, next ? next.parameters : last),
     h("p", { class: "row" }, moves(batch, next))), procedureTable(phases, last, done));
 }
 function parametersOf(name, parameters) {
   if (!parameters.length) return null;
-  return h("div", { class: "parameters", role: "group", "aria-label": `Parameters: ${name}` }, h("span", { class: "soft small" }, name),
+  return h("div", { class: "parameters", role: "group", "aria-label": t`Parameters: ${name}` }, h("span", { class: "soft small" }, name),
     h("div", { class: "facts" }, parameters.map((it) => fact(it.name, it.value))));
 }
 function procedureTable(phases, last, done) {
   if (!last.length && phases.every((it) => !it.parameters.length)) return null;
   const values = (parameters) => parameters.map((it) => h("div", {}, it.name, " ", h("b", {}, it.value)));
   const rows = phases.map((it, k) => row(`phase ${k + 1}`, [numberCell(k + 1), cell(values(it.parameters)), cell(it.path),
-    cell(k < done ? "done" : k === done ? "next" : "")]));
-  if (last.length) rows.push(row("after the phases", [cell(), cell(values(last)), cell("after the phases"), cell()]));
-  return h("details", {}, h("summary", {}, "All phases with their parameters"), table(["#No", "Parameters", "Phase", ""], rows, "", true));
+    cell(k < done ? t`done` : k === done ? t`next` : "")]));
+  if (last.length) rows.push(row("after the phases", [cell(), cell(values(last)), cell(t`after the phases`), cell()]));
+  return h("details", {}, h("summary", {}, t`All phases with their parameters`), table(["#No", "Parameters", "Phase", ""], rows, "", true));
 }
 function progressBar(done, phases) {
   const values = { "aria-valuemin": 0, "aria-valuemax": phases, "aria-valuenow": done };
-  const bar = h("div", { class: "bar", role: "progressbar", "aria-label": "Phases done", ...values }, h("i"));
+  const bar = h("div", { class: "bar", role: "progressbar", "aria-label": t`Phases done`, ...values }, h("i"));
   bar.firstChild.style.width = `${(100 * done) / phases}%`;
   return bar;
 }
 const NEXT_PHASE = "nextphase";
 function moves(batch, phase) {
-  if (batch.closed) return "This batch is closed. Nothing more is booked on it.";
+  if (batch.closed) return t`This batch is closed. Nothing more is booked on it.`;
   const { done, ...words } = STATES[batch.state], id = batch.batch;
   const mayEnd = done && !(batch.state === "running" && phase);
   const steps = [
-    batch.state === "running" && phase && { label: `Phase ${phase.phase} done`, what: `Phase ${phase.phase} of ${id} done`,
+    batch.state === "running" && phase && { label: t`Phase ${phase.phase} done`, what: t`Phase ${phase.phase} of ${id} done`,
       fields: { do: "phase_done", batch: id, phase: batch.next }, look: "main", id: NEXT_PHASE },
-    mayEnd && { label: `Finish: ${done}`, what: `Batch ${id} is ${done}`, fields: { do: "settle", batch: id }, look: "main" },
-    ...Object.keys(words).filter((it) => !GRAVE[it] && it !== "hold").map((word) => ({ label: capital(word), what: `Batch ${id}: ${word}`,
+    mayEnd && { label: t`Finish: ${wordOf(done)}`, what: t`Batch ${id} is ${wordOf(done)}`, fields: { do: "settle", batch: id }, look: "main" },
+    ...Object.keys(words).filter((it) => !GRAVE[it] && it !== "hold").map((word) => ({ label: t(MOVES[word]), what: toldTo(id, word),
       fields: { do: "batch", batch: id, word }, look: QUICK.includes(word) ? "main" : null })),
   ].filter(Boolean);
   return [
-    MAY_CLOSE.includes(batch.state) && button("Close", () => closeBatch(id), "main"),
+    MAY_CLOSE.includes(batch.state) && button(t`Close^batch`, () => closeBatch(id), "main"),
     steps.map((it) => button(it.label, () => act(it.what, it.fields), it.look, it.id && { id: it.id })),
-    Object.keys(words).filter((it) => GRAVE[it] || it === "hold").map((word) => button(capital(word), () => move(id, word), GRAVE[word] && "bad")),
-    steps.length > 0 && button("With a note\u2026", () => withNote(id, steps))];
+    Object.keys(words).filter((it) => GRAVE[it] || it === "hold").map((word) => button(t(MOVES[word]), () => move(id, word), GRAVE[word] && "bad")),
+    steps.length > 0 && button(t`With a note\u2026`, () => withNote(id, steps))];
 }
 function withNote(id, steps) {
   const options = steps.map((it, k) => ({ value: k, label: it.label }));
-  bookingForm(`Batch ${id}, with a note`, [selectField("step", "What", options), textField("note", "Note", { required: true })], "Book it", (v, tell) => {
+  bookingForm(t`Batch ${id}, with a note`, [selectField("step", t`What`, options), textField("note", t`Note`, { required: true })], t`Book it`, (v, tell) => {
     const { what, fields } = steps[v.step];
     return tell(what, noted(fields, v.note));
   });
 }
+const toldTo = (id, word) => t`Batch ${id}: ${t(MOVES[word]).toLowerCase()}`;
 const QUICK = ["start", "resume", "restart"];
 const GRAVE = {
   stop: "The batch ends before its time. It can be reset, and begins anew as another attempt.",
@@ -993,21 +999,21 @@ const GRAVE = {
   reset: "The batch begins anew, from its first phase, as another attempt. What was booked on it stays booked.",
 };
 function move(id, word) {
-  const fields = { do: "batch", batch: id, word }, what = `Batch ${id}: ${word}`;
-  bookingForm(`${capital(word)} batch ${id}?`, [GRAVE[word] && say(GRAVE[word]), noteField("Why")].filter(Boolean), capital(word),
+  const fields = { do: "batch", batch: id, word }, what = toldTo(id, word), label = t(MOVES[word]);
+  bookingForm(t`${label} batch ${id}?`, [GRAVE[word] && say(t(GRAVE[word])), noteField(t`Why`)].filter(Boolean), label,
     (v, tell) => tell(what, noted(fields, v.note)), { isGrave: Boolean(GRAVE[word]) });
 }
 function closeBatch(id) {
-  bookingForm(`Close batch ${id}?`, [say("A closed batch takes no more bookings, and its order is finished."), noteField()], "Close it",
-    (v, tell) => tell(`Batch ${id} closed`, noted({ do: "close_batch", batch: id }, v.note)));
+  bookingForm(t`Close batch ${id}?`, [say(t`A closed batch takes no more bookings, and its order is finished.`), noteField()], t`Close it`,
+    (v, tell) => tell(t`Batch ${id} closed`, noted({ do: "close_batch", batch: id }, v.note)));
 }
 const takesBookings = (batch) => batch.state !== "idle" && !batch.closed;
 async function materialsCard(batch) {
   const isOpen = takesBookings(batch), lines = batch.lines.filter(isMaterial), free = batch.closed ? null : await freeOf(lines);
   const rows = lines.map((it) => materialRow(batch, it, isOpen, free));
-  const all = isOpen && openInputs(lines).length > 0 && button("Book all inputs as asked", () => bookInputs(batch.batch), "main",
-    { "aria-label": `Book all inputs as asked, ${batch.batch}` });
-  return card("Materials", batch.state === "idle" ? h("span", { class: "soft small" }, "booked once the batch is started") : all,
+  const all = isOpen && openInputs(lines).length > 0 && button(t`Book all inputs as asked`, () => bookInputs(batch.batch), "main",
+    { "aria-label": t`Book all inputs as asked, ${batch.batch}` });
+  return card(t`Materials`, batch.state === "idle" ? h("span", { class: "soft small" }, t`booked once the batch is started`) : all,
     table(["In or out", "Material", "#Asked", "#Booked", "#Left", ...(free ? ["#Free in stock"] : []), ""], rows, ""));
 }
 async function freeOf(lines) {
@@ -1025,8 +1031,8 @@ function freeCell(line, free) {
 }
 function materialRow(batch, line, isOpen, free) {
   const isInput = line.kind === "in";
-  const book = isInput ? button("Consume", () => consume(batch, line)) : button("Produce", () => produce(batch, line));
-  return row(`${line.kind} ${line.def}`, [cell(pill(line.kind, isInput ? "" : "good")), idCell(line.def), numberCell(line.asked, line.unit),
+  const book = isInput ? button(t`Consume`, () => consume(batch, line)) : button(t`Produce`, () => produce(batch, line));
+  return row(`${line.kind} ${line.def}`, [cell(pill(wordOf(line.kind), isInput ? "" : "good")), idCell(line.def), numberCell(line.asked, line.unit),
     numberCell(line.booked, line.unit), excess(line) ? overCell(line) : numberCell(line.asked - line.booked, line.unit),
     free && freeCell(line, free), buttonsCell(isOpen && book)].filter(Boolean));
 }
@@ -1034,37 +1040,37 @@ function bookingsCard(batch) {
   const unit = (def) => (batch.lines.find((it) => it.def === def) || {}).unit;
   const booked = [...batch.consumed.map((it) => ({ ...it, kind: "consumed" })),
     ...batch.produced.map((it) => ({ ...it, kind: "produced" }))].sort((a, b) => b.seq - a.seq);
-  const rows = booked.map((it) => row(it.seq, [cell(it.kind), idCell(lotLink(it.lot, it.sub)), cell(it.def),
+  const rows = booked.map((it) => row(it.seq, [cell(wordOf(it.kind)), idCell(lotLink(it.lot, it.sub)), cell(it.def),
     numberCell(it.amount, unit(it.def)), numberCell(it.seq)]));
-  return card("Bookings, the last first", null, table(["What", "Lot", "Material", "#Amount", "#Number"], rows, "Nothing is booked yet."));
+  return card(t`Bookings, the last first`, null, table(["What", "Lot", "Material", "#Amount", "#Number"], rows, t`Nothing is booked yet.`));
 }
 async function consume(batch, line, ...scan) {
   const { def, unit } = line;
   let parts;
   try { await desk.look(); parts = await partsToOffer(def); } catch (error) { return notice("bad", error.message); }
   if (parts.every((it) => it.barred) && !scan.length) return notice("bad",
-    parts.length ? `All ${def} in stock is on hold or recalled.` : `There is no ${def} in stock.`);
+    parts.length ? t`All ${def} in stock is on hold or recalled.` : t`There is no ${def} in stock.`);
   const left = Math.max(1, line.asked - line.booked);
   let offered = left;
   const change = (inputs, part) => {
     if (Number(inputs.amount.value) === offered) inputs.amount.value = offered = Math.min(part.stock, left);
   };
   const fields = [sayBooked(line), lotField({ def, unit, parts, change }), amountField(unit, left), noteField()];
-  bookingForm(`Consume ${def} in ${batch.batch}`, fields, "Consume", ({ from: { lot, sub }, amount, note }, tell) => tell(
-    `${grouped(amount)} ${unit} of ${lot} consumed`, noted({ do: "consume", batch: batch.batch, lot, sub, amount }, note)), overbooked(batch, line));
+  bookingForm(t`Consume ${def} in ${batch.batch}`, fields, t`Consume`, ({ from: { lot, sub }, amount, note }, tell) => tell(
+    t`${grouped(amount)} ${unit} of ${lot} consumed`, noted({ do: "consume", batch: batch.batch, lot, sub, amount }, note)), overbooked(batch, line));
   if (scan.length) await openForm().scanned(...scan);
 }
 const overbooked = (batch, line) => ({ doubt: async ({ amount }) => {
   const lines = await desk.linesNow(batch.batch).catch(() => batch.lines);
   return doubtOf(lines.find((it) => it.kind === line.kind && it.def === line.def) || line, amount, line.booked);
 } });
-const sayBooked = (line) => say(`Asked ${grouped(line.asked)} ${line.unit}, booked ${grouped(line.booked)} ${line.unit}.`);
+const sayBooked = (line) => say(t`Asked ${grouped(line.asked)} ${line.unit}, booked ${grouped(line.booked)} ${line.unit}.`);
 async function produce(batch, line, ...scan) {
   const before = batch.produced.filter((it) => it.def === line.def).length;
-  const fields = [sayBooked(line), newLotField("lot", "New lot", idOf(line.def, batch.batch, ...(before ? [before + 1] : []))),
+  const fields = [sayBooked(line), newLotField("lot", t`New lot`, idOf(line.def, batch.batch, ...(before ? [before + 1] : []))),
     amountField(line.unit, Math.max(1, line.asked - line.booked)), placeField(), noteField()];
-  bookingForm(`Produce ${line.def} of ${batch.batch}`, fields, "Produce", (v, tell) => tell(
-    `${grouped(v.amount)} ${line.unit} as ${v.lot} produced`,
+  bookingForm(t`Produce ${line.def} of ${batch.batch}`, fields, t`Produce`, (v, tell) => tell(
+    t`${grouped(v.amount)} ${line.unit} as ${v.lot} produced`,
     noted({ do: "produce", batch: batch.batch, lot: v.lot, def: line.def, amount: v.amount, place: v.place }, v.note)), overbooked(batch, line));
   if (scan.length) await openForm().scanned(...scan);
 }
@@ -1078,7 +1084,7 @@ async function scanAtBatch(code, isAgain) {
   if (!takesBookings(batch)) return false;
   if (lot) {
     const line = lines.find((it) => it.kind === "in" && it.def === lot.def);
-    return line ? consume(batch, line, code, isAgain) : `Lot ${id} is ${lot.def}, which batch ${batch.batch} doesn't consume.`;
+    return line ? consume(batch, line, code, isAgain) : t`Lot ${id} is ${lot.def}, which batch ${batch.batch} doesn't consume.`;
   }
   const outputs = lines.filter((it) => it.kind === "out"), line = outputs.find((it) => it.booked < it.asked) || outputs[0];
   const isOther = !id || await desk.foundBatch(id) || await desk.foundOrder(id) || await desk.recall(id);
@@ -1086,41 +1092,41 @@ async function scanAtBatch(code, isAgain) {
 }
 const focusNextPhase = () => at(NEXT_PHASE)?.focus();
 async function pointToPhase({ batch, next, phases, state }, number) {
-  if (number < 1 || number > phases) return `Batch ${batch} has no phase ${number}.`;
-  if (number < next) return `Phase ${number} of ${batch} is done already.`;
-  if (number > next) return `Phase ${next} of ${batch} is next, and not phase ${number}.`;
-  if (state !== "running") return `Batch ${batch} doesn't run.`;
+  if (number < 1 || number > phases) return t`Batch ${batch} has no phase ${number}.`;
+  if (number < next) return t`Phase ${number} of ${batch} is done already.`;
+  if (number > next) return t`Phase ${next} of ${batch} is next, and not phase ${number}.`;
+  if (state !== "running") return t`Batch ${batch} doesn't run.`;
   if (!at(NEXT_PHASE)) await show();
   at(NEXT_PHASE)?.focus();
-  notice("", `Phase ${number} of ${batch} is next. Nothing is booked yet: press its button, or Enter.`);
+  notice("", t`Phase ${number} of ${batch} is next. Nothing is booked yet: press its button, or Enter.`);
   return true;
 }
 const fromField = ({ def, unit }, part, mayBeBarred) => lotField({ def, unit, part, parts: [part], mayBeBarred });
 function scrap(part, known) {
-  bookingForm(`Scrap ${known.def}`, [fromField(known, part, true), amountField(known.unit), noteField("Why")], "Scrap",
-    ({ from: { lot, sub }, amount, note }, tell) => tell(`${grouped(amount)} ${known.unit} of ${lot} scrapped`,
+  bookingForm(t`Scrap ${known.def}`, [fromField(known, part, true), amountField(known.unit), noteField(t`Why`)], t`Scrap`,
+    ({ from: { lot, sub }, amount, note }, tell) => tell(t`${grouped(amount)} ${known.unit} of ${lot} scrapped`,
       noted({ do: "scrap", lot, sub, amount }, note)), { isGrave: true });
 }
 function moveGoods(part, known) {
   let offered = part.stock;
   const change = (inputs, it) => { if (Number(inputs.amount.value) === offered) inputs.amount.value = offered = it.stock; };
-  bookingForm(`Move ${known.def}`, [{ ...fromField(known, part, true), change }, say("What is moved becomes another part of the same lot."),
-    amountField(known.unit, part.stock), textField("place", "New place", { required: true }), noteField()], "Move",
-  ({ from: { lot, sub }, amount, place, note }, tell) => tell(`${grouped(amount)} ${known.unit} of ${lot} brought to ${place}`,
+  bookingForm(t`Move ${known.def}`, [{ ...fromField(known, part, true), change }, say(t`What is moved becomes another part of the same lot.`),
+    amountField(known.unit, part.stock), textField("place", t`New place`, { required: true }), noteField()], t`Move`,
+  ({ from: { lot, sub }, amount, place, note }, tell) => tell(t`${grouped(amount)} ${known.unit} of ${lot} brought to ${place}`,
     noted({ do: "divide", lot, sub, amount, place }, note)));
 }
 function split(part, known) {
-  bookingForm(`Split ${known.def}`, [fromField(known, part), say("The amount becomes a lot of its own."), amountField(known.unit),
-    newLotField("new", "New lot"), placeField(), noteField()], "Split",
-    ({ from: { lot, sub }, amount, place, note, ...v }, tell) => tell(`${grouped(amount)} ${known.unit} of ${lot} split off as ${v.new}`,
+  bookingForm(t`Split ${known.def}`, [fromField(known, part), say(t`The amount becomes a lot of its own.`), amountField(known.unit),
+    newLotField("new", t`New lot`), placeField(), noteField()], t`Split`,
+    ({ from: { lot, sub }, amount, place, note, ...v }, tell) => tell(t`${grouped(amount)} ${known.unit} of ${lot} split off as ${v.new}`,
       noted({ do: "split", lot, sub, amount, new: v.new, place }, note)));
 }
 const GOODS_BY = ["by material", "by place"];
-const byChoice = (by) => h("div", { class: "body row filter" }, choice("By what goods are listed", GOODS_BY, by,
+const byChoice = (by) => h("div", { class: "body row filter" }, choice(t`By what goods are listed`, GOODS_BY, by,
   (it) => go("warehouse", it === "by place" && "place")));
 function cameCell(at) {
   const age = at !== null && h("div", { class: "soft small" }, ageInDays(at, desk.time()));
-  return h("td", { class: "when" }, h("span", {}, dayOf(at), age));
+  return h("td", { class: "when" }, h("span", {}, dated(dayOf(at)), age));
 }
 const MOST_READ_LOTS = 3000;
 async function allParts() {
@@ -1130,25 +1136,25 @@ async function allParts() {
     if (count + lots > MOST_READ_LOTS) { left.push(def); continue; }
     count += lots;
     for (const lot of await desk.stock(def, Infinity)) {
-      const barred = lot.held ? "on hold" : lot.recalled ? "recalled" : "";
+      const barred = lot.held ? t`on hold` : lot.recalled ? t`recalled` : "";
       parts.push(...lot.sublots.filter((it) => it.stock > 0).map((it) => ({ ...it, ...lot, stock: it.stock, sub: it.no, def, name, unit, barred })));
     }
   }
   return { parts, left };
 }
-const placeLink = (place, text) => link(`warehouse/place/${encodeURIComponent(place)}`, text || place || "no place");
+const placeLink = (place, text) => link(`warehouse/place/${encodeURIComponent(place)}`, text || place || t`no place`);
 async function places(shown) {
   const { parts, left } = await allParts(), all = partsByPlace(parts), at = shown ?? (isNarrow() ? undefined : all[0]?.place);
   const rows = all.map((it) => row(encodeURIComponent(it.place), [cell(placeLink(it.place)), numberCell(it.parts.length), numberCell(it.materials)],
     `warehouse/place/${encodeURIComponent(it.place)}`, it.place === at));
-  const list = card("Places", null, byChoice("by place"), table(["Place", "#Parts", "#Materials"], rows, "Nothing is in stock.", true),
-    left.length > 0 && none(`These materials have too many lots to be read here: ${left.join(", ")}.`));
+  const list = card(t`Places`, null, byChoice("by place"), table(["Place", "#Parts", "#Materials"], rows, t`Nothing is in stock.`, true),
+    left.length > 0 && none(t`These materials have too many lots to be read here: ${left.join(", ")}.`));
   return ["list", listed(list), at !== undefined && h("div", { class: "stack" }, placeCard(at, all.find((it) => it.place === at)?.parts || []))];
 }
 function placeCard(place, parts) {
   const name = place || "no place", marks = (it) => it.barred && [" ", pill(it.barred, it.held ? "warn" : "bad")];
-  const buttons = (it) => [button("Label", () => showLabels(it.lot, it.sub)), button("Move", () => moveGoods(it, it)),
-    button("Scrap", () => scrap(it, it), "bad")];
+  const buttons = (it) => [button(t`Label`, () => showLabels(it.lot, it.sub)), button(t`Move`, () => moveGoods(it, it)),
+    button(t`Scrap`, () => scrap(it, it), "bad")];
   const rows = parts.map((it) => row(`${it.lot}/${it.sub}`, [idCell(lotLink(it.lot, it.sub), marks(it)),
     cell(link("warehouse/" + it.def, it.def), it.name && h("div", { class: "soft small" }, it.name)), cameCell(it.at), numberCell(it.stock, it.unit),
     buttonsCell(buttons(it))]));
@@ -1156,9 +1162,9 @@ function placeCard(place, parts) {
   for (const it of parts) totals.set(it.def, { ...it, sum: (totals.get(it.def)?.sum || 0) + it.stock });
   const sums = [...totals.values()].map((it) => row(`total ${it.def}`, [idCell(it.def), numberCell(it.sum, it.unit)]));
   const csv = csvButton("stands", `place-${name}`, () => parts.map((it) => ({ ...it, place, seen: "" })));
-  return card(place ? `At ${place}` : "At no place", parts.length > 0 && [h("span", { class: "soft small" }, counted(parts.length, "part", "parts")), csv],
-    table(["Lot and part", "Material", "Came", "#Stock", ""], rows, "Nothing in stock is there."),
-    parts.length > 0 && [h("h3", {}, "In all"), table(["Material", "#Stock"], sums, "", true)]);
+  return card(place ? t`At ${place}` : t`At no place`, parts.length > 0 && [h("span", { class: "soft small" }, counted(parts.length, "part", "parts")), csv],
+    table(["Lot and part", "Material", "Came", "#Stock", ""], rows, t`Nothing in stock is there.`),
+    parts.length > 0 && [h("h3", {}, t`In all`), table(["Material", "#Stock"], sums, "", true)]);
 }
 const chosen = new Map();
 let chosenOf = null;
@@ -1169,72 +1175,72 @@ async function warehouse([id, lotId]) {
   if (def !== chosenOf) chosen.clear();
   chosenOf = def;
   const side = listed(materialsSide(classes, def));
-  const without = card("Lots", null, none("There is no material yet."));
+  const without = card(t`Lots`, null, none(t`There is no material yet.`));
   if (!def) return ["list", side, desk.seq === 0 ? firstSteps() : !all.length && without];
   const known = all.find((it) => it.def === def) || (await desk.stockOf(def));
-  if (!known) return ["list", side, card("Lots", null, none("There is no such material."))];
+  if (!known) return ["list", side, card(t`Lots`, null, none(t`There is no such material.`))];
   const lotsOf = lotsCard(known, await desk.stock(def, want("lots " + def))), one = await wholeLot(lotId);
   return ["list", side, h("div", { class: "stack" }, lotId && oneLotCard(lotId, one, known), lotId ? listed(lotsOf) : lotsOf)];
 }
 function materialsSide(classes, def) {
-  const tools = [csvButton("materials", "materials", () => desk.materials()), button("New class", newClass),
-    classes.length > 0 && button("New material", () => newMaterial(classes))];
-  const without = none("There is no class yet.");
-  return card("Materials", tools, byChoice("by material"), classes.length ? classes.map((it) => classTable(it, def)) : without, more(classes, "classes"));
+  const tools = [csvButton("materials", "materials", () => desk.materials()), button(t`New class`, newClass),
+    classes.length > 0 && button(t`New material`, () => newMaterial(classes))];
+  const without = none(t`There is no class yet.`);
+  return card(t`Materials`, tools, byChoice("by material"), classes.length ? classes.map((it) => classTable(it, def)) : without, more(classes, "classes"));
 }
 function classTable({ id, name, stocks }, def) {
   const named = (it) => idCell(link("warehouse/" + it.def, it.def), it.name && h("div", { class: "under" }, it.name));
   const rows = stocks.map((it) => row(it.def, [named(it), numberCell(it.lots), freeCellOf(it)], "warehouse/" + it.def, it.def === def));
   return [h("h3", {}, name || id, name && [" ", h("span", { class: "soft small" }, id)]),
-    h("div", { class: "stocks" }, table(["Material", "#Lots", "#Free in stock"], rows, "No material is in this class.", true)), more(stocks, "stocks " + id)];
+    h("div", { class: "stocks" }, table(["Material", "#Lots", "#Free in stock"], rows, t`No material is in this class.`, true)), more(stocks, "stocks " + id)];
 }
 function freeCellOf({ usable, held, recalled, unit }) {
   const barred = (amount, what, tone) => amount > 0 && h("div", {}, pill(`${grouped(amount)} ${unit} ${what}`, tone));
-  return h("td", { class: "num" }, h("span", {}, `${grouped(usable)} ${unit}`, barred(held, "on hold", "warn"), barred(recalled, "recalled", "bad")));
+  return h("td", { class: "num" }, h("span", {}, `${grouped(usable)} ${unit}`, barred(held, t`on hold`, "warn"), barred(recalled, t`recalled`, "bad")));
 }
 function newClass() {
-  bookingForm("New class", [say("A class is a group of materials, such as RAW or GOODS. It can't be changed once it is made."), idField("group", "New class"),
-    textField("name", "Name")], "Make it",
-  (v, tell) => tell(`Class ${v.group} made`, { do: "add_class", class: v.group, name: v.name }));
+  bookingForm(t`New class`, [say(t`A class is a group of materials, such as RAW or GOODS. It can't be changed once it is made.`), idField("group", t`New class`),
+    textField("name", t`Name`)], t`Make it`,
+  (v, tell) => tell(t`Class ${v.group} made`, { do: "add_class", class: v.group, name: v.name }));
 }
 function newMaterial(classes) {
-  bookingForm("New material", [say("It can't be changed once it is made."), idField("def", "New material"), textField("name", "Name"),
-    selectField("group", "Class", classes.map((it) => ({ value: it.id, label: it.name ? `${it.id} (${it.name})` : it.id }))),
-    textField("unit", "Unit in which it is counted, such as kg or pcs",
-      { pattern: "[A-Za-z0-9]{1,8}", title: "1 to 8 letters and digits", required: true })], "Make it",
-  (v, tell) => tell(`Material ${v.def} made`, { do: "add_definition", def: v.def, class: v.group, name: v.name, unit: v.unit }));
+  bookingForm(t`New material`, [say(t`It can't be changed once it is made.`), idField("def", t`New material`), textField("name", t`Name`),
+    selectField("group", t`Class`, classes.map((it) => ({ value: it.id, label: it.name ? `${it.id} (${it.name})` : it.id }))),
+    textField("unit", t`Unit in which it is counted, such as kg or pcs`,
+      { pattern: "[A-Za-z0-9]{1,8}", title: t`1 to 8 letters and digits`, required: true })], t`Make it`,
+  (v, tell) => tell(t`Material ${v.def} made`, { do: "add_definition", def: v.def, class: v.group, name: v.name, unit: v.unit }));
 }
 function lotsCard(known, lots) {
   const amount = (name, n) => fact(name, grouped(n), " ", known.unit);
-  const bar = h("div", { class: "chosen", hidden: true }, h("span", {}), button("Merge\u2026", () => merge(known), "main"),
-    button("Choose none", () => { chosen.clear(); show(); }));
+  const bar = h("div", { class: "chosen", hidden: true }, h("span", {}), button(t`Merge\u2026`, () => merge(known), "main"),
+    button(t`Choose none`, () => { chosen.clear(); show(); }));
   const told = () => drawChosen(bar);
   const rows = lots.flatMap((lot) => partRows(lot, known, told));
   told();
   const title = h("span", {}, known.name || known.def, known.name && [" ", h("span", { class: "soft small" }, known.def)]);
-  const without = `There is no ${known.def} in stock. Receive a lot, or have one produced. A lot that is used up is found by its id.`;
+  const without = t`There is no ${known.def} in stock. Receive a lot, or have one produced. A lot that is used up is found by its id.`;
   const csv = csvButton("lots", `lots-${known.def}`, async () => partsOfLots(await desk.stock(known.def, Infinity))
     .map((it) => ({ ...it, def: known.def, unit: known.unit })));
-  return card(title, [csv, button("Receive a lot", () => receive(known), "main")],
-    facts(amount("Free", known.usable), amount("On hold", known.held), amount("Recalled", known.recalled), fact("Lots with stock", grouped(known.lots))),
-    table(PART_HEADS, rows, without), more(lots, "lots " + known.def, " lots, the oldest first,"), bar);
+  return card(title, [csv, button(t`Receive a lot`, () => receive(known), "main")],
+    facts(amount(t`Free`, known.usable), amount(t`On hold`, known.held), amount(t`Recalled`, known.recalled), fact(t`Lots with stock`, grouped(known.lots))),
+    table(PART_HEADS, rows, without), more(lots, "lots " + known.def, (count) => t`The first ${count} lots, the oldest first, are shown, and there are more.`), bar);
 }
 function drawChosen(bar) {
   bar.hidden = !chosen.size;
   const isTooMany = chosen.size > MOST_PARTS;
-  bar.firstChild.textContent = isTooMany ? `A merge takes ${MOST_PARTS} parts at most.` : `${counted(chosen.size, "part is", "parts are")} chosen for a merge.`;
+  bar.firstChild.textContent = isTooMany ? t`A merge takes ${MOST_PARTS} parts at most.` : chosen.size === 1 ? t`1 part is chosen for a merge.` : t`${grouped(chosen.size)} parts are chosen for a merge.`;
   bar.children[1].disabled = isTooMany;
 }
 const PART_HEADS = ["Choose", "Lot", "#Part", "Came", "Place", "#Stock", ""];
 function partRows(lot, known, told) {
-  const barred = lot.held ? "on hold" : lot.recalled ? "recalled" : "", isBarred = barred !== "";
-  const marks = [lot.held && [" ", pill("on hold", "warn")], lot.recalled && [" ", pill("recalled", "bad")]];
+  const barred = lot.held ? t`on hold` : lot.recalled ? t`recalled` : "", isBarred = barred !== "";
+  const marks = [lot.held && [" ", pill(t`on hold`, "warn")], lot.recalled && [" ", pill(t`recalled`, "bad")]];
   return lot.sublots.filter((it) => it.stock > 0).map((it) => {
     const key = `${lot.lot}/${it.no}`, part = { lot: lot.lot, sub: it.no, stock: it.stock, place: it.place, at: lot.at, barred };
-    const buttons = [button("Label", () => showLabels(part.lot, part.sub)), button("Move", () => moveGoods(part, known)),
-      button("Split", () => split(part, known), null, { disabled: isBarred }), button("Scrap", () => scrap(part, known), "bad")];
+    const buttons = [button(t`Label`, () => showLabels(part.lot, part.sub)), button(t`Move`, () => moveGoods(part, known)),
+      button(t`Split`, () => split(part, known), null, { disabled: isBarred }), button(t`Scrap`, () => scrap(part, known), "bad")];
     return row(key, [cell(chooseBox(key, part, isBarred, told)), idCell(lotLink(lot.lot), marks), h("td", { class: "num" }, it.no),
-      cameCell(lot.at), cell(it.place || h("span", { class: "soft" }, "no place")), numberCell(it.stock, known.unit), buttonsCell(buttons)]);
+      cameCell(lot.at), cell(it.place || h("span", { class: "soft" }, t`no place`)), numberCell(it.stock, known.unit), buttonsCell(buttons)]);
   });
 }
 function chooseBox(key, part, isBarred, told) {
@@ -1244,41 +1250,41 @@ function chooseBox(key, part, isBarred, told) {
     else chosen.delete(key);
     told();
   };
-  const name = `Choose ${key} for a merge`;
+  const name = t`Choose ${key} for a merge`;
   return h("input", { type: "checkbox", "aria-label": name, checked: chosen.has(key), disabled: isBarred, onchange: choose });
 }
 function oneLotCard(id, lot, known) {
-  const away = button("Close this", () => go("warehouse", known.def));
-  if (!lot) return card(`Lot ${id}`, away, none("There is no such lot."));
-  return card(`Lot ${id}`, away, table(PART_HEADS, partRows(lot, known, show), "Nothing is left of it."));
+  const away = button(t`Close this`, () => go("warehouse", known.def));
+  if (!lot) return card(t`Lot ${id}`, away, none(t`There is no such lot.`));
+  return card(t`Lot ${id}`, away, table(PART_HEADS, partRows(lot, known, show), t`Nothing is left of it.`));
 }
 function receive({ def, unit }) {
-  bookingForm(`Receive ${def}`, [newLotField("lot", "Scan or type the new lot"), amountField(unit), placeField(), noteField()], "Receive",
-    (v, tell) => tell(`${grouped(v.amount)} ${unit} as ${v.lot} received`,
+  bookingForm(t`Receive ${def}`, [newLotField("lot", t`Scan or type the new lot`), amountField(unit), placeField(), noteField()], t`Receive`,
+    (v, tell) => tell(t`${grouped(v.amount)} ${unit} as ${v.lot} received`,
       noted({ do: "receive", lot: v.lot, def, amount: v.amount, place: v.place }, v.note)));
 }
 const MOST_PARTS = 16;
 function merge(known, values = {}) {
   const parts = [...chosen.values()], { def, unit } = known;
-  const label = (it) => `Of ${placeOfPart(it)}${cameInWords(it)}, ${unit}`;
+  const label = (it) => t`Of ${placeOfPart(it)}${cameInWords(it)}, ${unit}`;
   const amounts = parts.map((it) => ({ ...amountField(unit, it.stock), name: keyOfPart(it), label: label(it) }));
   const take = async (v, tell) => {
     const taken = parts.map((it) => ({ lot: it.lot, sub: it.sub, amount: v[keyOfPart(it)] }));
-    const wrong = await tell(`Merged as ${v.new}`, noted({ do: "merge", new: v.new, place: v.place, parts: taken }, v.note));
+    const wrong = await tell(t`Merged as ${v.new}`, noted({ do: "merge", new: v.new, place: v.place, parts: taken }, v.note));
     if (!wrong) { chosen.clear(); show(); }
     return wrong;
   };
   const change = (inputs, part) => {
     const key = keyOfPart(part);
     if (inputs[key]) return inputs[key];
-    if (chosen.size >= MOST_PARTS) return openForm().refuse(`A merge takes ${MOST_PARTS} parts at most.`);
+    if (chosen.size >= MOST_PARTS) return openForm().refuse(t`A merge takes ${MOST_PARTS} parts at most.`);
     chosen.set(key, part);
     show();
     return merge(known, Object.fromEntries(Object.entries(inputs).map(([name, it]) => [name, it.value])));
   };
-  const fields = [lotField({ def, unit, change, isOptional: true }), ...amounts, newLotField("new", "New lot"), placeField(), noteField()];
+  const fields = [lotField({ def, unit, change, isOptional: true }), ...amounts, newLotField("new", t`New lot`), placeField(), noteField()];
   for (const it of fields) if (it.kind !== "lot" && values[it.name] !== undefined) it.value = values[it.name];
-  bookingForm(`Merge ${counted(parts.length, "part", "parts")}`, fields, "Merge", take);
+  bookingForm(t`Merge ${counted(parts.length, "part", "parts")}`, fields, t`Merge`, take);
 }
 const WHICH_RECALLS = ["open", "lifted"];
 async function quality([kind, id]) {
@@ -1286,32 +1292,32 @@ async function quality([kind, id]) {
   const recalls = areLiftedShown ? await desk.liftedRecalls(want("lifted")) : await desk.recalls(want("recalls"));
   const side = listed(h("div", { class: "stack" }, recallsCard(recalls, areLiftedShown), holdsCard(await desk.allHolds(want("all holds")))));
   const shown = { lot: lotCards, batch: batchRecordCards, recall: (it) => recallCards(it, recalls) }[kind];
-  const hint = none("Find a lot, a batch or a recall by its id: at the top, or with ", h("kbd", {}, "/"),
-    ". Its holds, genealogy, ledger and record are shown here.");
+  const hint = none(t`Find a lot, a batch or a recall by its id: at the top, or with `, h("kbd", {}, "/"),
+    t`. Its holds, genealogy, ledger and record are shown here.`);
   if (!id || !shown) return ["list", side, desk.seq === 0 ? firstSteps()
-    : h("div", { class: "stack" }, card("A lot, a batch or a recall", null, hint), commandsCard(await desk.lastCommands(PAGE)))];
+    : h("div", { class: "stack" }, card(t`A lot, a batch or a recall`, null, hint), commandsCard(await desk.lastCommands(PAGE)))];
   return ["list", side, h("div", { class: "stack" }, await shown(id))];
 }
 function commandsCard(commands) {
-  const rows = commands.map((it) => row(it.seq, [numberCell(it.seq), momentCell(it.at), cell(it.by), cell(it.do), cell(it.note), cell(it.ref)]));
-  return card("The last commands with references", null, table(["#Number", "When", "By", "What", "Note", "Reference"], rows, "None."));
+  const rows = commands.map((it) => row(it.seq, [numberCell(it.seq), momentCell(it.at), cell(it.by), cell(commandWord(it.do)), cell(it.note), cell(it.ref)]));
+  return card(t`The last commands with references`, null, table(["#Number", "When", "By", "What", "Note", "Reference"], rows, t`None.`));
 }
 function holdsCard(holds) {
   const told = (it) => [it.hold, h("div", { class: "soft small" }, `${it.by}, ${moment(it.at)}`), it.note && h("div", { class: "small" }, it.note)];
   const rows = holds.map((it) => row(`${it.lot}.${it.hold}`, [idCell(lotLink(it.lot)), cell(told(it)),
-    buttonsCell(button("Take the hold off", () => unhold(it.lot, it.hold)))]));
+    buttonsCell(button(t`Take the hold off`, () => unhold(it.lot, it.hold)))]));
   const csv = csvButton("holds", "holds", () => desk.allHolds(Infinity));
-  return card("On hold", csv, table(["Lot", "Hold", ""], rows, "No lot is on hold."), more(holds, "all holds"));
+  return card(t`On hold`, csv, table(["Lot", "Hold", ""], rows, t`No lot is on hold.`), more(holds, "all holds"));
 }
 function recallsCard(recalls, areLiftedShown) {
   const told = (it) => [h("b", {}, link("quality/recall/" + it.recall, it.recall)), h("div", { class: "soft small" }, `${it.by}, ${moment(it.at)}`),
     it.note && h("div", { class: "small" }, it.note)];
   const lifted = (it) => cell(`${it.lift.by}, ${moment(it.lift.at)}`, it.lift.note && h("div", { class: "small" }, it.lift.note));
   const rows = recalls.map((it) => row(it.recall, [cell(told(it)), idCell(lotLink(it.lot)),
-    it.lift ? lifted(it) : buttonsCell(button("Lift", () => lift(it)))]));
+    it.lift ? lifted(it) : buttonsCell(button(t`Lift`, () => lift(it)))]));
   const state = areLiftedShown ? "lifted" : "open", all = () => (areLiftedShown ? desk.liftedRecalls(Infinity) : desk.recalls(Infinity));
-  const tools = [csvButton("recalls", `recalls-${state}`, all), filterChoice("Which recalls", "recalls", WHICH_RECALLS)];
-  return card("Recalls", tools, table(["Recall", "Lot", areLiftedShown ? "Lifted" : ""], rows, `No recall is ${state}.`),
+  const tools = [csvButton("recalls", `recalls-${state}`, all), filterChoice(t`Which recalls`, "recalls", WHICH_RECALLS)];
+  return card(t`Recalls`, tools, table(["Recall", "Lot", areLiftedShown ? "Lifted" : ""], rows, areLiftedShown ? t`No recall is lifted.` : t`No recall is open.`),
     more(recalls, areLiftedShown ? "lifted" : "recalls"));
 }
 async function lotCards(id) {
@@ -1324,75 +1330,75 @@ async function lotCards(id) {
 }
 function lotCard(lot, self, holds, forward) {
   const rows = holds.map((it) => row(it.hold, [idCell(it.hold), momentCell(it.at), cell(it.by), cell(it.note),
-    buttonsCell(button("Take the hold off", () => unhold(lot.lot, it.hold)))]));
-  const tools = [lot.held && pill("on hold", "warn"), self.recalled && pill("recalled", "bad"), button("Label", () => showLabels(lot.lot)),
-    balanceButton("lots", lot.lot, `lot ${lot.lot}`), button("Hold", () => hold(lot.lot)), button("Recall", () => recall(lot.lot, forward), "bad")];
-  return card(`Lot ${lot.lot}`, tools,
-    facts(fact("Material", link("warehouse/" + lot.def, lot.def)), fact("Stock", grouped(lot.stock), " ", self.unit),
+    buttonsCell(button(t`Take the hold off`, () => unhold(lot.lot, it.hold)))]));
+  const tools = [lot.held && pill(t`on hold`, "warn"), self.recalled && pill(t`recalled`, "bad"), button(t`Label`, () => showLabels(lot.lot)),
+    balanceButton("lots", lot.lot, t`lot ${lot.lot}`), button(t`Hold^verb`, () => hold(lot.lot)), button(t`Recall^verb`, () => recall(lot.lot, forward), "bad")];
+  return card(t`Lot ${lot.lot}`, tools,
+    facts(fact(t`Material`, link("warehouse/" + lot.def, lot.def)), fact(t`Stock`, grouped(lot.stock), " ", self.unit),
       lot.sublots.filter((it) => it.stock || lot.sublots.length === 1).map((it) =>
-        fact(`Part ${it.no} at ${it.place || "no place"}`, grouped(it.stock), " ", self.unit))),
-    table(["Hold", "Since", "By", "Why", ""], rows, "No hold is on it."), more(holds, "holds " + lot.lot));
+        fact(t`Part ${it.no} at ${it.place || t`no place`}`, grouped(it.stock), " ", self.unit))),
+    table(["Hold", "Since", "By", "Why", ""], rows, t`No hold is on it.`), more(holds, "holds " + lot.lot));
 }
 function ledgerCard(id, ledger, unit) {
   const to = (it) => (it.to ? `${it.to}/${it.to_sub}` : it.batch ? batchLink(it.batch) : "");
-  const cells = (it) => [momentCell(it.at), cell(it.by), cell(it.kind), numberCell(it.amount, unit), cell(`${it.lot}/${it.sub}`), cell(to(it)),
+  const cells = (it) => [momentCell(it.at), cell(it.by), cell(wordOf(it.kind)), numberCell(it.amount, unit), cell(`${it.lot}/${it.sub}`), cell(to(it)),
     cell(it.note)];
   const rows = ledger.map((it) => row(`${it.seq}.${it.line}`, cells(it)));
   const csv = csvButton("ledger", `ledger-${id}`, async () => (await desk.movements(id, Infinity)).map((one) => ({ ...one, unit })));
-  return card("Ledger", csv, table(["When", "By", "What", "#Amount", "Part", "To or of", "Note"], rows, ""),
+  return card(t`Ledger`, csv, table(["When", "By", "What", "#Amount", "Part", "To or of", "Note"], rows, ""),
     more(ledger, "movements " + id));
 }
 function hold(id) {
-  bookingForm(`Hold lot ${id}`, [say("It can't be consumed, split or merged until the hold is taken off."),
-    idField("hold", "New hold", idOf("H", stampWord())), whyField()], "Hold",
-    (v, tell) => tell(`Lot ${id} is on hold`, { do: "hold", lot: id, hold: v.hold, note: v.note }));
+  bookingForm(t`Hold lot ${id}`, [say(t`It can't be consumed, split or merged until the hold is taken off.`),
+    idField("hold", t`New hold`, idOf("H", stampWord())), whyField()], t`Hold^verb`,
+    (v, tell) => tell(t`Lot ${id} is on hold`, { do: "hold", lot: id, hold: v.hold, note: v.note }));
 }
 function unhold(id, name) {
-  bookingForm(`Take hold ${name} off lot ${id}?`, [noteField("Why")], "Take it off",
-    (v, tell) => tell(`Hold ${name} is taken off ${id}`, noted({ do: "unhold", lot: id, hold: name }, v.note)));
+  bookingForm(t`Take hold ${name} off lot ${id}?`, [noteField(t`Why`)], t`Take it off`,
+    (v, tell) => tell(t`Hold ${name} is taken off ${id}`, noted({ do: "unhold", lot: id, hold: name }, v.note)));
 }
 function recall(id, forward) {
   const lots = forward.nodes.filter((it) => it.lot).length, batches = forward.nodes.length - lots;
-  const reaches = `It reaches ${counted(lots, "lot", "lots")} and ${counted(batches, "batch", "batches")} now, and all that comes of them.`;
-  const fields = [say(`${reaches} No lot of these can be consumed, split or merged until the recall is lifted.`),
-    idField("recall", "New recall", idOf("RC", stampWord())), whyField()];
-  bookingForm(`Recall lot ${id}`, fields, "Recall",
-    (v, tell) => tell(`Lot ${id} is recalled`, { do: "recall", recall: v.recall, lot: id, note: v.note }), { isGrave: true });
+  const reaches = t`It reaches ${counted(lots, "lot", "lots")} and ${counted(batches, "batch", "batches")} now, and all that comes of them.`;
+  const fields = [say(`${reaches} ${t`No lot of these can be consumed, split or merged until the recall is lifted.`}`),
+    idField("recall", t`New recall`, idOf("RC", stampWord())), whyField()];
+  bookingForm(t`Recall lot ${id}`, fields, t`Recall^verb`,
+    (v, tell) => tell(t`Lot ${id} is recalled`, { do: "recall", recall: v.recall, lot: id, note: v.note }), { isGrave: true });
 }
 function lift(it) {
-  const text = `Lot ${it.lot} and all that came of it is free again, but for other recalls and holds. A lifted recall stays lifted.`;
-  bookingForm(`Lift recall ${it.recall}?`, [say(text), noteField("Why")], "Lift",
-    (v, tell) => tell(`Recall ${it.recall} is lifted`, noted({ do: "lift", recall: it.recall }, v.note)));
+  const text = t`Lot ${it.lot} and all that came of it is free again, but for other recalls and holds. A lifted recall stays lifted.`;
+  bookingForm(t`Lift recall ${it.recall}?`, [say(text), noteField(t`Why`)], t`Lift`,
+    (v, tell) => tell(t`Recall ${it.recall} is lifted`, noted({ do: "lift", recall: it.recall }, v.note)));
 }
 async function recallCards(id, recalls) {
   const it = await desk.recall(id), open = recalls.find((other) => other.recall === id);
-  if (!it) return [card(`Recall ${id}`, null, none("There is no such recall."))];
+  if (!it) return [card(t`Recall ${id}`, null, none(t`There is no such recall.`))];
   const { nodes } = await desk.forward("lots", it.lot), stands = standsCard(`recall ${id}`, await desk.stands("lots", it.lot), nodes);
-  const print = [balanceButton("lots", it.lot, `recall ${id}`), button("Print", () => globalThis.print())];
-  if (it.state === "lifted") return [card(`Recall ${id}`, [pill("lifted"), print], printedLine(), facts(fact("Lot", lotLink(it.lot))),
-    none("It is lifted, and reaches nothing any more.")), stands];
-  const since = open ? [fact("Since", moment(open.at)), fact("By", open.by), open.note && fact("Why", open.note)] : [];
+  const print = [balanceButton("lots", it.lot, t`recall ${id}`), button(t`Print`, () => globalThis.print())];
+  if (it.state === "lifted") return [card(t`Recall ${id}`, [pill(t`lifted`), print], printedLine(), facts(fact(t`Lot`, lotLink(it.lot))),
+    none(t`It is lifted, and reaches nothing any more.`)), stands];
+  const since = open ? [fact(t`Since`, moment(open.at)), fact(t`By`, open.by), open.note && fact(t`Why`, open.note)] : [];
   const lots = it.nodes.filter((node) => node.lot), batches = it.nodes.filter((node) => node.batch);
   const links = (kind, ids) => h("div", { class: "body row" }, ids.map((one) => link(`quality/${kind}/${one}`, one)));
   return [
-    card(`Recall ${id}`, [pill("open", "bad"), print, button("Lift", () => lift(it), null, { "aria-label": `Lift the recall ${id}` })], printedLine(),
-      facts(fact("Lot", lotLink(it.lot)), since, fact("Reaches", `${counted(lots.length, "lot", "lots")}, ${counted(batches.length, "batch", "batches")}`))),
+    card(t`Recall ${id}`, [pill(t`open`, "bad"), print, button(t`Lift`, () => lift(it), null, { "aria-label": t`Lift the recall ${id}` })], printedLine(),
+      facts(fact(t`Lot`, lotLink(it.lot)), since, fact(t`Reaches`, `${counted(lots.length, "lot", "lots")}, ${counted(batches.length, "batch", "batches")}`))),
     await runningCard(batches), stands,
-    card(`${counted(lots.length, "lot", "lots")} reached`, null, links("lot", lots.map((node) => node.lot))),
-    card(`${counted(batches.length, "batch", "batches")} reached`, null, links("batch", batches.map((node) => node.batch))),
+    card(t`${counted(lots.length, "lot", "lots")} reached`, null, links("lot", lots.map((node) => node.lot))),
+    card(t`${counted(batches.length, "batch", "batches")} reached`, null, links("batch", batches.map((node) => node.batch))),
   ];
 }
 async function batchRecordCards(id) {
   const batch = { ...(await desk.batch(id)), record: await desk.record(id) };
   const around = { back: await desk.back("batches", id), forward: await desk.forward("batches", id) };
-  return [recordCard(batch, balanceButton("batches", id, `batch ${id}`)), genealogyCard(around, "batch " + id)];
+  return [recordCard(batch, balanceButton("batches", id, t`batch ${id}`)), genealogyCard(around, "batch " + id)];
 }
 const KINDS = { lots: "lot", batches: "batch", orders: "order", recalls: "recall", definitions: "material" };
 const REST = 250;
 function offersOf(found) {
   const all = new Map();
   for (const [kinds, kind] of Object.entries(KINDS)) for (const id of found[kinds]) all.set(id, [...(all.get(id) || []), kind]);
-  return [...all].map(([id, kinds]) => h("option", { value: id, label: `${id}: ${kinds.join(", ")}` }));
+  return [...all].map(([id, kinds]) => h("option", { value: id, label: `${id}: ${kinds.map(wordOf).join(", ")}` }));
 }
 let turns = 0;
 async function offerBegun() {
@@ -1407,9 +1413,9 @@ async function offerBegun() {
 }
 async function find(code) {
   const { lot: id } = lotOf(code);
-  if (!id) return miss(`An id has ${ID_RULE}.`);
+  if (!id) return miss(t`An id has ${t(ID_RULE)}.`);
   if (await showFound(id)) return true;
-  return miss(`There is no lot, no batch, no order, no recall and no material ${id}.`);
+  return miss(t`There is no lot, no batch, no order, no recall and no material ${id}.`);
 }
 function miss(why) { notice("bad", why); return false; }
 async function showFound(id) {
@@ -1474,18 +1480,23 @@ async function lookAgain() {
     const isNew = await desk.look(), areChosen = { planner: chosenOrders, warehouse: chosen }[place()[0]]?.size > 0;
     const isAtWork = areChosen || (isWriting() && view.contains(document.activeElement));
     if (isNew && isAtWork) drawNew();
-    else if (isNew || (isOld() && !isAtWork) || at("stand").textContent === "no answer") show();
-  } catch { tellStatus("bad", "no answer"); }
+    else if (isNew || (isOld() && !isAtWork) || at("stand").textContent === t`no answer`) show();
+  } catch { tellStatus("bad", t`no answer`); }
 }
-const drawNew = () => tellStatus("warn", "there are new bookings: ", button("Look again", () => show()));
+const drawNew = () => tellStatus("warn", t`there are new bookings: `, button(t`Look again`, () => show()));
 setInterval(lookAgain, TURN * 1000);
 addEventListener("visibilitychange", lookAgain);
 addEventListener("storage", drawWaiting);
 addEventListener("desk-named", drawWaiting);
 addEventListener("hashchange", () => { if (dialog.open && !sending) dialog.close(); show(); });
-drawWaiting();
-desk.loggedIn().then(nameByLogin).catch((error) => notice("bad", whyNot(error))).then(show);
+async function begin() {
+  await loadTexts();
+  drawWaiting();
+  try { nameByLogin(await desk.loggedIn()); } catch (error) { notice("bad", whyNot(error)); }
+  show();
+}
+begin();
 "##;
 
 /// Its entity tag.
-pub const VIEWS_TAG: &str = "\"c131bad19ff54a1053a6a7717de75a52\"";
+pub const VIEWS_TAG: &str = "\"7061c86ce7dbab29fee2ff0166b4d0d0\"";

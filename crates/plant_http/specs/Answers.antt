@@ -88,6 +88,7 @@ security_header_lines part.Page =
 security_header_lines part.Style = codes "X-Content-Type-Options: nosniff\r\n"
 security_header_lines part.Script = codes "X-Content-Type-Options: nosniff\r\n"
 security_header_lines part.Views = codes "X-Content-Type-Options: nosniff\r\n"
+security_header_lines part.German = codes "X-Content-Type-Options: nosniff\r\n"
 
 -- the lines by which a browser keeps a resource, and asks each time whether it still is as it was
 abbrev pub validator_lines : Resource → List ℕ

@@ -91,7 +91,7 @@ impl FixedText {
                 self.push(policy());
                 self.push("\r\n");
             }
-            Resource::Style | Resource::Script | Resource::Views => {
+            Resource::Style | Resource::Script | Resource::Views | Resource::German => {
                 self.push("X-Content-Type-Options: nosniff\r\n");
             }
         }

@@ -245,7 +245,9 @@ CAUSES = {
 }
 
 # The resources of the page, each with its media type.
-RESOURCES = {"/": "text/html; charset=utf-8", "/desk.css": "text/css", "/desk.js": "text/javascript", "/views.js": "text/javascript"}
+RESOURCES = {
+    "/": "text/html; charset=utf-8", "/desk.css": "text/css", "/desk.js": "text/javascript", "/views.js": "text/javascript", "/german.json": "application/json",
+}
 
 # Where a client asks who it is, with --operator-field alone.
 OPERATOR = "/v1/operator"

@@ -31,7 +31,10 @@ GUARDS = {"x-frame-options": "DENY", "x-content-type-options": "nosniff", "conte
 SHARED = {name: GUARDS[name] for name in ("x-content-type-options", "cache-control")}
 
 # The media type of each resource.
-TYPES = {"/": "text/html; charset=utf-8", "/desk.css": "text/css", "/desk.js": "text/javascript", "/views.js": "text/javascript"}
+TYPES = {
+    "/": "text/html; charset=utf-8", "/desk.css": "text/css", "/desk.js": "text/javascript", "/views.js": "text/javascript",
+    "/german.json": "application/json",
+}
 
 
 class Markup(html.parser.HTMLParser):

@@ -18,9 +18,9 @@ OPTIONS = ("--strict", "--python-version", "3.9", "--no-error-summary")
 
 
 def groups() -> list[tuple[str, ...]]:
-    """The folders that are checked together: the tools with the gate, the tests, and each folder of benches."""
+    """The folders that are checked together: the tools with the gate, the gateway of examples/replica, the tests, and each folder of benches."""
     benches = sorted({str(script.parent.relative_to(TOP)) for script in (TOP / "bench").rglob("*.py")})
-    return [("make", "make/packaged", "gate"), ("tests",), *((folder,) for folder in benches)]
+    return [("make", "make/packaged", "gate"), ("examples/replica",), ("tests",), *((folder,) for folder in benches)]
 
 
 def checked(mypy: str, folders: tuple[str, ...]) -> int:
@@ -28,7 +28,7 @@ def checked(mypy: str, folders: tuple[str, ...]) -> int:
     scripts = [str(script) for folder in folders for script in sorted((TOP / folder).glob("*.py"))]
     if folders == ("tests",):
         scripts = ["tests"]
-    path = os.pathsep.join([str(TOP), str(TOP / "make/packaged"), *(str(TOP / folder) for folder in folders if folder != "tests")])
+    path = os.pathsep.join([str(TOP), str(TOP / "make/packaged"), str(TOP / "examples/replica"), *(str(TOP / folder) for folder in folders if folder != "tests")])
     environment = {**os.environ, "MYPYPATH": path}
     return subprocess.run([mypy, *OPTIONS, *scripts], cwd=TOP, env=environment).returncode
 

@@ -283,7 +283,7 @@ def name(text: str) -> str:
 def words_of(arguments: Sequence[str]) -> argparse.Namespace:
     """What the words of the command line mean."""
     parser = argparse.ArgumentParser(usage=(__doc__ or "").split("\n\n")[1], description="Keeps the desks of several machines equal")
-    parts = parser.add_subparsers(dest="do", required=True)
+    parts = parser.add_subparsers(dest="do", required=True, prog="desk_replica.py")
     for work in (found, serve, nodes, trim, drop):
         part = parts.add_parser(work.__name__, help=work.__doc__)
         part.set_defaults(work=work)

@@ -10,6 +10,7 @@ import pathlib
 import random
 import shutil
 import signal
+import socket
 import subprocess
 import sys
 import threading
@@ -17,7 +18,7 @@ import time
 from collections.abc import Callable, Iterator, Mapping, Sequence
 from typing import Any, NamedTuple
 
-from tests.support.http import Server, free_port
+from tests.support.http import Server
 from tests.support.program import SECONDS, TOP, Program
 
 SCRIPT = TOP / "examples/replica/desk_replica.py"
@@ -31,6 +32,9 @@ AT, PLANT, CONNECTIONS = 1000, "plant", 1_000_000
 
 # The most bytes that etcd takes at once.
 LARGEST = 3 * 2**19
+
+# The ports of machines in a test, and of clusters. A port is free while its program is begun again, so no server of another test may take these.
+MACHINE_PORTS, CLUSTER_PORTS = range(15_000, 20_000), range(10_000, 15_000)
 
 # The statuses after which a client sends its command again.
 NOT_ANSWERED = (None, 502, 503)
@@ -117,7 +121,7 @@ class Machine:
 
     def __init__(self, desk: Program, folder: pathlib.Path, name: str, etcd: Etcd) -> None:
         self.program, self.folder, self.name, self.etcd = desk, folder, name, etcd
-        self.file, self.journal, self.port = folder / f"{name}.db", folder / f"{name}.journal", free_port()
+        self.file, self.journal, self.port = folder / f"{name}.db", folder / f"{name}.journal", port_among(MACHINE_PORTS)
         self.said: list[str] = []
         self.server: Server | None = None
         self.node: Node | None = None
@@ -187,6 +191,15 @@ class Machine:
             if time.monotonic() > last or (self.node.halted and not condition(self.node)):
                 raise AssertionError(f"{self.name}: {self.said}")
             time.sleep(0.01)
+
+
+def port_among(ports: range) -> int:
+    """A port of these that is free at this moment."""
+    while True:
+        port = random.choice(ports)
+        with socket.socket() as it, contextlib.suppress(OSError):
+            it.bind(("127.0.0.1", port))
+            return port
 
 
 def command(do: str, **members: Any) -> bytes:
@@ -340,7 +353,7 @@ class Members:
     """Three members of etcd."""
 
     def __init__(self, folder: pathlib.Path, pauses: random.Random) -> None:
-        clients, peers = ([f"http://127.0.0.1:{free_port()}" for _ in range(3)] for _ in range(2))
+        clients, peers = ([f"http://127.0.0.1:{port_among(CLUSTER_PORTS)}" for _ in range(3)] for _ in range(2))
         all_peers = ",".join(f"e{it}={peers[it]}" for it in range(3))
         self.addresses = clients
         self.parts = [Part(
@@ -374,7 +387,7 @@ class Cluster:
         self.log = EtcdLog(Etcd(members.addresses), plant)
         self.log.found(Outcome(0, "-", "-"))
         self.files = [folder / f"plant{it}.db" for it in range(3)]
-        self.desk_ports, self.ports = ([free_port() for _ in range(3)] for _ in range(2))
+        self.desk_ports, self.ports = ([port_among(CLUSTER_PORTS) for _ in range(3)] for _ in range(2))
         self.desks = [Part([desk, "serve", self.files[it], str(self.desk_ports[it]), str(CONNECTIONS)], folder / "desks.log", pauses) for it in range(3)]
         self.gateways = [Part(self.gateway_words(it), folder / f"gateway{it}.log", pauses) for it in range(3)]
 

@@ -76,7 +76,7 @@ class Resource:
         elif self.path == "/desk.css":
             text = ascii_text("desk.css")
         elif self.kind == "JSON":
-            text = json.dumps(texts_of(self.source), separators=(",", ":")) + "\n"
+            text = json.dumps(texts_of(self.source), indent=0, separators=(",", ":")) + "\n"
         else:
             text = joined_script(self.path[1:])
         if len(text) > LARGEST_RESOURCE:

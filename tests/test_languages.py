@@ -82,9 +82,9 @@ class Tool(FolderTestCase):
         return self.repository.run("make/page.py", "--print", "/german.json")
 
     def test_modules_of_a_language_are_one_resource_in_ascii(self) -> None:
-        self.check("one", self.print(a=LANGUAGE), (0, '{"Lot":"Los","Lot {0}, over {1}":"Los {0} \\u00fcber {1}"}\n', ""))
+        self.check("one", self.print(a=LANGUAGE), (0, '{\n"Lot":"Los",\n"Lot {0}, over {1}":"Los {0} \\u00fcber {1}"\n}\n', ""))
         ended = self.print(b='export default {\n  "Batch":\n    "Charge"\n};\n')
-        self.check("two", ended, (0, '{"Lot":"Los","Lot {0}, over {1}":"Los {0} \\u00fcber {1}","Batch":"Charge"}\n', ""))
+        self.check("two", ended, (0, '{\n"Lot":"Los",\n"Lot {0}, over {1}":"Los {0} \\u00fcber {1}",\n"Batch":"Charge"\n}\n', ""))
         self.check("the writing", self.repository.run("make/page.py", "--write"), (0, "", ""))
         source = self.repository.read("crates/desk_page/src/german.rt")
         self.check_true("the source", source.isascii() and "pub const GERMAN: &[u8]" in source and json.dumps("\u00fcber")[1:-1] in source)

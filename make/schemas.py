@@ -249,6 +249,9 @@ RESOURCES = {
     "/": "text/html; charset=utf-8", "/desk.css": "text/css", "/desk.js": "text/javascript", "/views.js": "text/javascript", "/german.json": "application/json",
 }
 
+# Texts in another language, by the English ones.
+TEXTS: Schema = {"type": "object"}
+
 # Where a client asks who it is, with --operator-field alone.
 OPERATOR = "/v1/operator"
 
@@ -333,7 +336,7 @@ def asked(path: str, word: str, defs: Mapping[str, Schema], schema: Schema, kind
 
 def resource(path: str, kind: str, defs: Mapping[str, Schema]) -> Schema:
     """A resource of the page, which a client that has it as it is doesn't get again."""
-    found = asked(path, "desk", defs, {"type": "string"}, kind)
+    found = asked(path, "desk", defs, TEXTS if kind == "application/json" else {"type": "string"}, kind)
     named: Schema = {"name": "If-None-Match", "in": "header", "required": False, "description": "the ETag of what the client has", "schema": {"type": "string"}}
     tag: Schema = {"headers": {"ETag": {"description": "changes with the bytes", "schema": {"type": "string"}}}}
     for it in found.values():

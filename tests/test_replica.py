@@ -399,7 +399,7 @@ class Nodes(MachinesTestCase):
     def test_large_order_files_are_put_into_the_log_in_parts(self) -> None:
         """Nine of the largest at once are more than etcd takes at once."""
         [first] = self.started(1)
-        bodies = [order_file(f"O-{it}") + b"x" * (desk_replica.LARGEST - 60) for it in range(9)]
+        bodies = [order_file(f"O-{it}").ljust(desk_replica.LARGEST, b"x") for it in range(9)]
 
         def status(body: bytes) -> int | None:
             reply = first.node and first.node.replicate(ORDERS, {"Desk-At": str(AT)}, body, SECONDS)

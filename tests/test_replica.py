@@ -211,7 +211,7 @@ class Nodes(MachinesTestCase):
         self.check("again", third.book("scrap", lot="L-1", sub=0, amount=1), (200, {"ok": 5}))
         self.check("too much", third.book("scrap", lot="L-1", sub=0, amount=9), (409, {"name": "TooLittle", "refused": 13}))
         self.check_equal(first, second, third)
-        receipts = rows(first.file, "SELECT id, seq FROM receipt ORDER BY seq")
+        receipts = rows(self.copy(first), "SELECT id, seq FROM receipt ORDER BY seq")
         self.check("the numbers of the receipts", [it for _, it in receipts], [1, 2, 3, 4, 5])
         self.check_true("the references that the log gives", all(it.startswith("LOG-") for it, seq in receipts if seq != 3))
 

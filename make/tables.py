@@ -312,6 +312,7 @@ INDEXES = [
     Index("movement_by_lot2", "lot2 seq line", "those that name it second"),
     Index("job_by_due", "state due id", "the orders in a state, by when they are due, and those of one moment by their ids"),
     Index("receipt_by_seq", "seq", "the receipts of commands, by their numbers"),
+    Index("sublot_by_stock", "stock lot no", "the sublots that have stock, by how much"),
 ]
 
 # The lookups of single rows and of lists that are read as a whole: the name of each, its table, and the columns whose values are given.

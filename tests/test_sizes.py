@@ -7,6 +7,7 @@ are those of one program, and the bound is wide: a program that goes along each 
 from __future__ import annotations
 
 import json
+import resource
 from collections.abc import Sequence
 
 from tests.support import scenarios, sqlite
@@ -32,6 +33,11 @@ QUESTIONS = 1_000_001
 # How many rungs a ladder has, each of a split and a merge of both lots, and how many seconds a word over it may take.
 RUNGS = 3_000
 SECONDS = 60
+
+# How many lots have stock, among how many that are used up, and how many times they are asked for.
+STOCKED = 50
+USED_UP = 20_000
+TIMES = 200
 
 # How many rungs has a ladder that is checked and drawn by the other programs.
 FEWER_RUNGS = 300
@@ -362,6 +368,42 @@ class Ladders(LimitTestCase):
         self.check_within("a ladder is recalled", ["run", file], (0, b'{"ok":%d}\n%s\n' % (seq + 1, recalled), b""),
                           line(recall("R-0000")) + b'{"ask":"recall","recall":"RC-1"}\n')
         self.check_within("a recalled ladder, verified", ["verify", file], (0, b"good schema 4 seq %d\n" % (seq + 1), b""))
+
+
+class UsedUp(LimitTestCase):
+    """Lots with stock, and many that are used up."""
+
+    IN_MEMORY = False
+
+    def fill(self, file: str, used_up: int) -> None:
+        """Makes a file of lots with stock, and before them so many of which all was scrapped."""
+        seq = self.send(file, *GOODS) + 1
+        used, lots = [f"A-{it:05}" for it in range(used_up)], [f"L-{it:05}" for it in range(STOCKED)]
+        movements = [row for at, it in enumerate(used) for row in (received_row(seq + 2 * at, it, 1), scrapped_row(seq + 2 * at + 1, it))]
+        seq += 2 * used_up
+        sqlite.filled(self.path(file), {
+            "lot": [(it, "SUGAR") for it in [*used, *lots]],
+            "sublot": [*((it, 0, "", 0) for it in used), *((it, 0, "", 5) for it in lots)],
+            "movement": [*movements, *(received_row(seq + at, it, 5) for at, it in enumerate(lots))],
+        }, seq + STOCKED - 1)
+
+    def seconds(self, file: str, question: str, answer: dict[str, Item]) -> float:
+        """Asks a question again and again; returns the processor time of the answers, without that of the opening."""
+        spent = []
+        for times in 0, TIMES:
+            began = resource.getrusage(resource.RUSAGE_CHILDREN)
+            self.check_run(f"{question} of {file}", ["run", file], (0, (compact(answer) + "\n").encode() * times, b""), f"{question}\n".encode() * times)
+            ended = resource.getrusage(resource.RUSAGE_CHILDREN)
+            spent.append(ended.ru_utime - began.ru_utime)
+        return spent[1] - spent[0]
+
+    def test_lots_with_stock_are_found_as_soon_among_20000_that_are_used_up(self) -> None:
+        seconds = {}
+        for file, used_up in ("few.db", 1), ("many.db", USED_UP):
+            self.fill(file, used_up)
+            sums = {"def": "SUGAR", "held": 0, "lots": STOCKED, "name": "", "recalled": 0, "unit": "g", "usable": 5 * STOCKED}
+            seconds[file] = self.seconds(file, '{"ask":"stocks","class":"RAW"}', {"more": False, "stocks": [sums]})
+        self.check_true(f"lots with stock, {seconds}", seconds["many.db"] < 2 * seconds["few.db"] + 0.2)
 
 
 class Alone(LimitTestCase):

@@ -42,7 +42,7 @@ import sqlite3, sys
 store = sqlite3.connect(sys.argv[1])
 indexes = '''
 movement_by_lot movement_by_lot2 movement_by_batch batch_event_by_batch definition_by_class job_by_state batch_by_closed lot_by_def
-recipe_by_state job_by_due
+recipe_by_state job_by_due receipt_by_seq sublot_by_stock
 '''
 for name in indexes.split():
     store.execute(f'DROP INDEX IF EXISTS {name}')

@@ -54,12 +54,14 @@ INDEXES = {
     "movement_by_lot2": "movement (lot2, seq, line)",
     "job_by_due": "job (state, due, id)",
     "receipt_by_seq": "receipt (seq)",
+    "sublot_by_stock": "sublot (stock, lot, no)",
 }
 
 # The statements that take a file of the fourth schema back to an earlier one.
 TO_SCHEMA_3 = """
     DROP INDEX definition_by_class; DROP INDEX job_by_state; DROP INDEX batch_by_closed; DROP INDEX lot_by_def;
     DROP INDEX recipe_by_state; DROP INDEX movement_by_lot2; DROP INDEX job_by_due; DROP INDEX receipt_by_seq;
+    DROP INDEX sublot_by_stock;
     DROP TABLE recall; DROP TABLE mark;
     UPDATE meta SET schema = 3;
 """

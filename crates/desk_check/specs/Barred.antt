@@ -20,6 +20,7 @@ index_name index.RecipeByState = codes "recipe_by_state"
 index_name index.MovementByLot2 = codes "movement_by_lot2"
 index_name index.JobByDue = codes "job_by_due"
 index_name index.ReceiptBySeq = codes "receipt_by_seq"
+index_name index.SublotByStock = codes "sublot_by_stock"
 
 -- the schema that adds it
 abbrev pub schema_of : DeskIndex → ℕ
@@ -37,9 +38,10 @@ schema_of index.RecipeByState = 4
 schema_of index.MovementByLot2 = 4
 schema_of index.JobByDue = 4
 schema_of index.ReceiptBySeq = 4
+schema_of index.SublotByStock = 4
 
 abbrev pub all_indexes : List DeskIndex
-all_indexes = index.BatchEventByBatch ∷ index.MovementByLot ∷ index.MovementByBatch ∷ index.EdgeByEnd ∷ index.MarkByNode ∷ index.DefinitionByClass ∷ index.JobByState ∷ index.BatchByClosed ∷ index.LotByDef ∷ index.RecallByState ∷ index.RecipeByState ∷ index.MovementByLot2 ∷ index.JobByDue ∷ index.ReceiptBySeq ∷ []
+all_indexes = index.BatchEventByBatch ∷ index.MovementByLot ∷ index.MovementByBatch ∷ index.EdgeByEnd ∷ index.MarkByNode ∷ index.DefinitionByClass ∷ index.JobByState ∷ index.BatchByClosed ∷ index.LotByDef ∷ index.RecallByState ∷ index.RecipeByState ∷ index.MovementByLot2 ∷ index.JobByDue ∷ index.ReceiptBySeq ∷ index.SublotByStock ∷ []
 
 -- a later schema than this adds the index, and something bears its name
 abbrev pub is_barred : Schema → ℕ → DeskIndex → Bool

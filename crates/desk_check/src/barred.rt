@@ -23,6 +23,7 @@ pub(crate) enum DeskIndex {
     MovementByLot2,
     JobByDue,
     ReceiptBySeq,
+    SublotByStock,
 }
 
 impl DeskIndex {
@@ -45,6 +46,7 @@ impl DeskIndex {
             DeskIndex::MovementByLot2 => "movement_by_lot2",
             DeskIndex::JobByDue => "job_by_due",
             DeskIndex::ReceiptBySeq => "receipt_by_seq",
+            DeskIndex::SublotByStock => "sublot_by_stock",
         }
     }
 
@@ -66,13 +68,14 @@ impl DeskIndex {
             | DeskIndex::RecipeByState
             | DeskIndex::MovementByLot2
             | DeskIndex::JobByDue
-            | DeskIndex::ReceiptBySeq => 4,
+            | DeskIndex::ReceiptBySeq
+            | DeskIndex::SublotByStock => 4,
         }
     }
 }
 
 /// The indexes of the newest schema, in the order in which they are made.
-fn all_indexes() -> [DeskIndex; 14]
+fn all_indexes() -> [DeskIndex; 15]
     ensures all { result ≡ spec.all_indexes }
     ensures named { map spec.index_name result ≡ map (λ i. i.name) desk_indexes }
 {
@@ -91,6 +94,7 @@ fn all_indexes() -> [DeskIndex; 14]
         DeskIndex::MovementByLot2,
         DeskIndex::JobByDue,
         DeskIndex::ReceiptBySeq,
+        DeskIndex::SublotByStock,
     ]
 }
 

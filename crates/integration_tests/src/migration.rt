@@ -24,7 +24,7 @@ const ALL: [u64; 2] = [u64::MAX, u64::MAX];
 const LOWER: [&str; 3] = [
     "DROP INDEX definition_by_class; DROP INDEX job_by_state; DROP INDEX batch_by_closed; DROP INDEX lot_by_def;
     DROP INDEX recipe_by_state; DROP INDEX movement_by_lot2; DROP INDEX job_by_due; DROP INDEX receipt_by_seq;
-    DROP TABLE mark; DROP TABLE recall; UPDATE meta SET schema = 3",
+    DROP INDEX sublot_by_stock; DROP TABLE mark; DROP TABLE recall; UPDATE meta SET schema = 3",
     "DROP TABLE receipt; UPDATE meta SET schema = 2",
     "DROP INDEX batch_event_by_batch; DROP INDEX movement_by_lot; DROP INDEX movement_by_batch; DROP TABLE edge;
     UPDATE meta SET schema = 1",

@@ -1,7 +1,8 @@
 -- What a page finds among the tables of a valid state.
-use Rattle.std.proofs.Common.{◌≡◌, ◌∙◌, ℕ, ◌+◌, Bool, true, false, ◌&&◌, ◌==◌, if◌then◌else◌, arith, ◌<◌, nat_lt, List, [], ◌∷◌, Option, Some, None, refl, sym, ap, ap₂, codes, pos, is_eq, is_gt, nat_cmp, Ordering, Less, Equal, Greater}
+use Rattle.std.proofs.Common.{◌≡◌, ◌∙◌, ℕ, zero, suc, ◌+◌, Bool, true, false, ◌&&◌, ◌==◌, if◌then◌else◌, arith, ◌<◌, nat_lt, List, [], ◌∷◌, Option, Some, None, refl, sym, ap, ap₂, codes, pos, is_eq, is_gt, nat_cmp, Ordering, Less, Equal, Greater}
 use Rattle.std.specs.Cmp.{IsTotalOrder, ranks, unsigned_ties}
 use Rattle.std.specs.Ordering.{ordering_then, MatchOrdering}
+use Rattle.std.specs.Float.Ieee
 use Rattle.std.proofs.lemmas.Bool.Decides.{nat_tests}
 use Rattle.std.proofs.lemmas.Cmp.{nat_cmp_total, on_total}
 use Rattle.sqlite.specs.Effect.{Database}
@@ -26,7 +27,7 @@ use Rattle.plant_tables.proofs.SortedRowsAreUnique.{int_cmp_pos}
 use Rattle.plant_invariant_tables.proofs.TablesHaveValidValues.{in_order, valid_values, newest_known}
 use Rattle.sql_queries.specs.{is_beyond, first_of}
 use Rattle.plant_questions.specs.{page_size, page_of, text_after, is_after, is_order_in, orders_in, agree, is_batch_in, batches_in, is_lot_of, lots_of, is_hold_on, holds_on, is_recall_in, recalls_in, classes_after, is_definition_in, definitions_in, lots_after, sublots_after, sublots_in_stock, holds_after, definitions_after, orders_after, batches_after, recalls_after, recipes_after, number_after, number_order, is_number_after, receipts_by_number, Page}
-use Rattle.plant_keyed.specs.{AreAbove, IsPaged, row_limit}
+use Rattle.plant_keyed.specs.{AreAbove, IsPaged, half, row_limit}
 use Rattle.plant_keyed.proofs.SortedPermutationIsUnique.{AreApart as ArePlacesApart, apart_once}
 use Rattle.plant_keyed.proofs.PageIsFirstRows.{page_again, page_in_order, whole_again}
 use Rattle.plant_keyed.proofs.RowsShown.{recall_again}
@@ -54,13 +55,11 @@ by_number m n = sym (then_equal (value_cmp (number m) (number n)) ∙ number_cmp
 pub by_text_number : (a b : List ℕ) (m n : ℕ) → ordering_then (id_cmp a b) (nat_cmp m n) ≡ ordering_then (value_cmp (Text a) (Text b)) (ordering_then (value_cmp (number m) (number n)) Equal)
 by_text_number a b m n = ap₂ ordering_then (sym (value_cmp-Text a b)) (by_number m n)
 
-above_by : (n : ℕ) (o : Ordering) → MatchOrdering o (n < 0) (n ≡ 0) (0 < n) → is_gt o ≡ nat_lt 0 n
-above_by n Less low = absurd (omega (arith, low))
-above_by n Equal none = let no : nat_lt 0 n ≡ false = grind (arith, nat_tests) in sym no
-above_by n Greater more = let yes : nat_lt 0 n ≡ true = grind (arith, nat_tests) in sym yes
-
-above_zero : (n : ℕ) → is_gt (nat_cmp n 0) ≡ nat_lt 0 n
-above_zero n = above_by n (nat_cmp n 0) (ranks n 0)
+-- a number is above one half exactly where it isn't 0
+above_half : (n : ℕ) → is_gt (value_cmp (number n) half) ≡ nat_lt 0 n
+unfolding value_cmp Ieee.lt Ieee.is_nan
+above_half zero = refl
+above_half (suc n) = grind (arith, nat_tests)
 
 -- ---- receipts, by their numbers
 
@@ -172,10 +171,10 @@ module _ (db : Database) (s : State) (valid : StateInvariant s) (holds : HoldsTa
       page_again sublot_from row_of_sublot HasSublotValues (λ r h. sublot_reads.again r h tt) sublot_table (first_of sublot_table.keys) sublot_order (λ a b. by_text_number a.lot b.lot a.number b.number) db t.sublots (holds.each 10 sublot_table refl) (in_order newest_schema s valid).keyed.sublots values.sublots [] 1 (asked_after cursor)
       (λ r. is_after cursor r.lot) (λ r. above_is cursor r.lot)
 
-  pub sublots_in_stock_are : (rows : List Sublot) → AreAbove db sublot_table (first_of sublot_table.keys) sublot_from 4 (number 0 ∷ number (row_limit + 1) ∷ []) rows → rows ≡ sublots_in_stock s
+  pub sublots_in_stock_are : (rows : List Sublot) → AreAbove db sublot_table (first_of sublot_table.keys) sublot_from 4 (half ∷ number (row_limit + 1) ∷ []) rows → rows ≡ sublots_in_stock s
   sublots_in_stock_are rows is =
-      whole_again sublot_from row_of_sublot HasSublotValues (λ r h. sublot_reads.again r h tt) sublot_table (first_of sublot_table.keys) sublot_order (λ a b. by_text_number a.lot b.lot a.number b.number) db t.sublots (holds.each 10 sublot_table refl) (in_order newest_schema s valid).keyed.sublots values.sublots [] 4 (number 0 ∷ number (row_limit + 1) ∷ [])
-      (λ r. nat_lt 0 r.stock) (λ r. ap is_gt (number_cmp r.stock 0) ∙ above_zero r.stock) row_limit is.stored rows is.all is.read
+      whole_again sublot_from row_of_sublot HasSublotValues (λ r h. sublot_reads.again r h tt) sublot_table (first_of sublot_table.keys) sublot_order (λ a b. by_text_number a.lot b.lot a.number b.number) db t.sublots (holds.each 10 sublot_table refl) (in_order newest_schema s valid).keyed.sublots values.sublots [] 4 (half ∷ number (row_limit + 1) ∷ [])
+      (λ r. nat_lt 0 r.stock) (λ r. above_half r.stock) row_limit is.stored rows is.all is.read
 
   pub holds_after_are : (cursor : Option (List ℕ)) (page : Page Hold) → IsPaged db hold_table (first_of hold_table.keys) hold_from [] 1 (asked_after cursor) page → page ≡ page_of (holds_after s cursor)
   holds_after_are cursor =

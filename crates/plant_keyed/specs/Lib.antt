@@ -12,7 +12,7 @@ pub use Edges.{AreKindsAt, AreTurned, Ascend, HasEdgesAt, begins_at, id_of, near
 pub use Decoding.{AreFound, IsDecoded, IsFirstFound}
 pub use LookupOutcomes.{IsHonest, IsReported, PreservesFrame}
 pub use AbstractionLaws.{AbstractionIsState}
-pub use Paging.{AreAbove, IsOfBoth, IsPaged, IsPagedBeyond, row_limit}
+pub use Paging.{AreAbove, IsOfBoth, IsPaged, IsPagedBeyond, half, row_limit}
 pub use Abstraction.{abstract_position, abstract_rows, position_of_meta, rows_under, table_under}
 unfoldable pub use Abstraction.{rows_at}
 unfoldable pub use StateShown.{abstraction}

@@ -1,10 +1,12 @@
 -- A page of the desk's rows.
-use Rattle.std.specs.Prelude.{◌≡◌, ◌+◌, ℕ, false, true, List, [], ◌∷◌, Option, Some}
+use Rattle.std.specs.Prelude.{◌≡◌, ◌+◌, ℕ, negsuc, false, true, List, [], ◌∷◌, Option, Some}
+use Rattle.std.specs.Float.{fin}
 use Rattle.std.specs.Set.{sorted_merge}
 use Rattle.std.specs.declared.cmp.Ordering.{Ordering}
 use Rattle.sqlite.specs.Effect.{Database}
 use Rattle.sqlite.specs.Order.{Row}
 use Rattle.sqlite.specs.declared.types.Value.{Value}
+use Rattle.sqlite.specs.declared.types.Value.TheVariants.{Real}
 use Rattle.sql_tables.specs.{TableDef}
 use Rattle.sql_queries.specs.{IsPage}
 use Rattle.plant_tables_columns.specs.{all_from, number}
@@ -15,6 +17,10 @@ pub record IsPaged (db : Database) (table_def : TableDef) (by : List ℕ) {R : T
   pub stored : List Row
   pub paged : IsPage db table_def by places next values page_size stored page.has_more
   pub read : all_from row_from stored ≡ Some page.rows
+
+-- above 0, and below each amount
+abbrev pub half : Value
+half = Real (fin false 1 (negsuc 0))
 
 -- no more rows are read at once
 abbrev pub row_limit : ℕ

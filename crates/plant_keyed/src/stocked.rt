@@ -1,4 +1,4 @@
-//! All rows of a table with more than an amount.
+//! All rows of a table that have an amount.
 
 ghost use Rattle.std.specs.Prelude.{◌≡◌, ◌+◌, [], ◌∷◌, false, ℕ, List, Some, IfOk, IfErr, Err};
 ghost use Rattle.sqlite.specs.State.{HasCleanDisk, Survives};
@@ -8,11 +8,11 @@ ghost use Rattle.sql_queries.specs.{AnswersUnchanged, BeginsNone, KeepsVisible};
 ghost use Rattle.sql_queries.specs.{AreBounds, SelectsPage, first_of};
 ghost use Rattle.plant_tables_columns.specs.{all_from, number};
 ghost use Rattle.plant_keyed.specs.LookupOutcomes.{PreservesFrame};
-ghost use Rattle.plant_keyed.specs.Paging.{AreAbove, row_limit};
+ghost use Rattle.plant_keyed.specs.Paging.{AreAbove, half, row_limit};
 
 use crate::faults::if_memory;
 use crate::keyed::Keyed;
-use plant_tables_columns::storing::{large, small};
+use plant_tables_columns::storing::large;
 use plant_tables_columns::{Decoded, decode_all};
 use sql_queries::{RowPage, find_page, first_key};
 use sql_tables::{StoreFault, TableDef};
@@ -22,6 +22,9 @@ use std::alloc::Global;
 
 /// No more rows are read at once.
 const ROW_LIMIT: u32 = 1_000_000_000;
+
+/// Above 0, and below each amount. The store begins a range of an index at its bound: at 0 it would pass over all rows that have nothing.
+const HALF: f64 = 0.5;
 
 /// The rows of the desk that were read, where they are all. The fault is that of the reading; Memory where there are more, and where there is none for
 /// the rows; Store where a value of a row breaks its rule.
@@ -97,13 +100,12 @@ impl<'a, S: Alter> Keyed<'a, S> {
         }
     }
 
-    /// The rows of a table that have more than this amount in a column, in the order of its first key. Memory also where there are
+    /// The rows of a table that have an amount in a column, and not 0, in the order of its first key. Memory also where there are
     /// more than 10^9.
-    pub(crate) fn all_above<R: Decoded>(
+    pub(crate) fn all_with_amount<R: Decoded>(
         &mut self,
         table_def: &TableDef<'_>,
         sql: &str,
-        amount: u16,
     ) -> Result<Vec<R>, StoreFault>
         requires { (next : ℕ) × SelectsPage table_def.now (first_of table_def.now.keys) [] next sql.now }
         ensures same_reference { self.new.conn.ghost_name ≡ self.old.conn.ghost_name }
@@ -111,12 +113,12 @@ impl<'a, S: Alter> Keyed<'a, S> {
             → HasCleanDisk (state S.Store self.new.conn.now)
             → IfOk result (λ rows. AreAbove (state S.Store self.old.conn.now).now table_def.now
             (first_of table_def.now.keys) R.row_from next
-            (number amount ∷ number (row_limit + 1) ∷ []) rows.items) }
+            (half ∷ number (row_limit + 1) ∷ []) rows.items) }
         ensures frame { PreservesFrame (state S.Store self.old.conn.now) (state S.Store self.new.conn.now)
             self.old.has_failed self.new.has_failed }
         ensures cached { self.new.cache.now ≡ self.old.cache.now }
     {
-        let bounds = [small(amount), large(u64::from(ROW_LIMIT) + 1)?];
+        let bounds = [ValueRef::Real(HALF), large(u64::from(ROW_LIMIT) + 1)?];
         self.found_above(table_def, first_key(table_def), sql, &bounds)
     }
 }

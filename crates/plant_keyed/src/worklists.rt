@@ -174,7 +174,7 @@ impl<'a, S: Alter> Worklists for Keyed<'a, S> {
     }
 
     fn sublots_in_stock(&mut self) -> Result<Vec<Sublot>, StoreFault> {
-        self.all_above(&SUBLOT, texts::SUBLOTS_ABOVE, 0)
+        self.all_with_amount(&SUBLOT, texts::SUBLOTS_ABOVE)
     }
 
     fn holds_after(&mut self, cursor: Option<Id>) -> Result<Page<Hold>, StoreFault> {

@@ -5,10 +5,10 @@ use Rattle.sqlite_resolve.specs.Compile.{first}
 use Rattle.sqlite_value.specs.Keys.{first_key}
 use Rattle.sql_tables.specs.{IsPutStatement, IsUpsertStatement, IsDeleteStatement, parse_or, TableDef, IndexDef, AreCreateIndexStatements, AreOf, AreApart, AreCreateStatements}
 use Rattle.sql_tables.proofs.ComputedTexts.{takes_one, takes_two}
-use Rattle.plant_tables.specs.DeskTableDefs.{desk_table_defs, first_table_defs, table_defs_of, later_table_defs, added_table_defs, definition_table, recipe_table, job_table, batch_table, batch_event_table, lot_table, movement_table, hold_table, edge_table, receipt_table, recall_table, mark_table}
+use Rattle.plant_tables.specs.DeskTableDefs.{desk_table_defs, first_table_defs, table_defs_of, later_table_defs, added_table_defs, definition_table, recipe_table, job_table, batch_table, batch_event_table, lot_table, sublot_table, movement_table, hold_table, edge_table, receipt_table, recall_table, mark_table}
 use Rattle.sqlite_tied.specs.Compute.{everything}
 use Rattle.plant_tables.specs.{OnlyAdds, second_indexes, fourth_indexes, indexes_of, desk_indexes}
-use Rattle.plant_tables.specs.declared.table_defs.TheConstants.{DELETE_HOLD, DELETE_MARKS, CREATE_BATCH_EVENT_BY_BATCH, CREATE_MOVEMENT_BY_LOT, CREATE_MOVEMENT_BY_BATCH, CREATE_EDGE_BY_END, CREATE_MARK_BY_NODE, CREATE_DEFINITION_BY_CLASS, CREATE_JOB_BY_STATE, CREATE_BATCH_BY_CLOSED, CREATE_LOT_BY_DEF, CREATE_RECALL_BY_STATE, CREATE_RECIPE_BY_STATE, CREATE_MOVEMENT_BY_LOT2, CREATE_JOB_BY_DUE, CREATE_RECEIPT_BY_SEQ}
+use Rattle.plant_tables.specs.declared.table_defs.TheConstants.{DELETE_HOLD, DELETE_MARKS, CREATE_BATCH_EVENT_BY_BATCH, CREATE_MOVEMENT_BY_LOT, CREATE_MOVEMENT_BY_BATCH, CREATE_EDGE_BY_END, CREATE_MARK_BY_NODE, CREATE_DEFINITION_BY_CLASS, CREATE_JOB_BY_STATE, CREATE_BATCH_BY_CLOSED, CREATE_LOT_BY_DEF, CREATE_RECALL_BY_STATE, CREATE_RECIPE_BY_STATE, CREATE_MOVEMENT_BY_LOT2, CREATE_JOB_BY_DUE, CREATE_RECEIPT_BY_SEQ, CREATE_SUBLOT_BY_STOCK}
 use Rattle.plant_tables.proofs.TextsComputed.{AllTexts, CreatesTable, CreatesIndex, creates_index, prefix, behind, each_makes}
 use Rattle.plant_tables.proofs.TableTexts.{create_texts, tables_made, put_texts, texts_put}
 use Rattle.plant_tables.proofs.EachSchema.{by_schema}
@@ -55,7 +55,7 @@ apart_of = by_schema (λ s. AreApart (table_defs_of s)) (record { apart = λ tre
 -- ---- the indexes
 
 abbrev pub index_texts : List (List ℕ)
-index_texts = CREATE_BATCH_EVENT_BY_BATCH.now ∷ CREATE_MOVEMENT_BY_LOT.now ∷ CREATE_MOVEMENT_BY_BATCH.now ∷ CREATE_EDGE_BY_END.now ∷ CREATE_MARK_BY_NODE.now ∷ CREATE_DEFINITION_BY_CLASS.now ∷ CREATE_JOB_BY_STATE.now ∷ CREATE_BATCH_BY_CLOSED.now ∷ CREATE_LOT_BY_DEF.now ∷ CREATE_RECALL_BY_STATE.now ∷ CREATE_RECIPE_BY_STATE.now ∷ CREATE_MOVEMENT_BY_LOT2.now ∷ CREATE_JOB_BY_DUE.now ∷ CREATE_RECEIPT_BY_SEQ.now ∷ []
+index_texts = CREATE_BATCH_EVENT_BY_BATCH.now ∷ CREATE_MOVEMENT_BY_LOT.now ∷ CREATE_MOVEMENT_BY_BATCH.now ∷ CREATE_EDGE_BY_END.now ∷ CREATE_MARK_BY_NODE.now ∷ CREATE_DEFINITION_BY_CLASS.now ∷ CREATE_JOB_BY_STATE.now ∷ CREATE_BATCH_BY_CLOSED.now ∷ CREATE_LOT_BY_DEF.now ∷ CREATE_RECALL_BY_STATE.now ∷ CREATE_RECIPE_BY_STATE.now ∷ CREATE_MOVEMENT_BY_LOT2.now ∷ CREATE_JOB_BY_DUE.now ∷ CREATE_RECEIPT_BY_SEQ.now ∷ CREATE_SUBLOT_BY_STOCK.now ∷ []
 
 -- and such texts make the indexes
 each_indexes : (texts : List (List ℕ)) (indexes : List IndexDef) → AllTexts CreatesIndex texts indexes → AreCreateIndexStatements texts indexes
@@ -66,7 +66,7 @@ each_indexes (text ∷ texts) (index ∷ indexes) all = (creates_index text inde
 
 indexes_made : AllTexts CreatesIndex index_texts desk_indexes
 unfolding everything
-indexes_made = ((refl, λ tree. refl), ((refl, λ tree. refl), ((refl, λ tree. refl), ((refl, λ tree. refl), ((refl, λ tree. refl), ((refl, λ tree. refl), ((refl, λ tree. refl), ((refl, λ tree. refl), ((refl, λ tree. refl), ((refl, λ tree. refl), ((refl, λ tree. refl), ((refl, λ tree. refl), ((refl, λ tree. refl), ((refl, λ tree. refl), tt))))))))))))))
+indexes_made = ((refl, λ tree. refl), ((refl, λ tree. refl), ((refl, λ tree. refl), ((refl, λ tree. refl), ((refl, λ tree. refl), ((refl, λ tree. refl), ((refl, λ tree. refl), ((refl, λ tree. refl), ((refl, λ tree. refl), ((refl, λ tree. refl), ((refl, λ tree. refl), ((refl, λ tree. refl), ((refl, λ tree. refl), ((refl, λ tree. refl), ((refl, λ tree. refl), tt)))))))))))))))
 
 pub all_indexed : AreCreateIndexStatements index_texts desk_indexes
 all_indexed = each_indexes index_texts desk_indexes indexes_made
@@ -86,7 +86,7 @@ second_of more =
 pub indexes_of_fourth : AreOf fourth_indexes (table_defs_of 4)
 indexes_of_fourth =
     let table_defs = table_defs_of 4 in
-    (has_got table_defs 16 mark_table refl, (has_got table_defs 2 definition_table refl, (has_got table_defs 5 job_table refl, (has_got table_defs 6 batch_table refl, (has_got table_defs 9 lot_table refl, (has_got table_defs 15 recall_table refl, (has_got table_defs 3 recipe_table refl, (has_got table_defs 11 movement_table refl, (has_got table_defs 5 job_table refl, (has_got table_defs 14 receipt_table refl, tt))))))))))
+    (has_got table_defs 16 mark_table refl, (has_got table_defs 2 definition_table refl, (has_got table_defs 5 job_table refl, (has_got table_defs 6 batch_table refl, (has_got table_defs 9 lot_table refl, (has_got table_defs 15 recall_table refl, (has_got table_defs 3 recipe_table refl, (has_got table_defs 11 movement_table refl, (has_got table_defs 5 job_table refl, (has_got table_defs 14 receipt_table refl, (has_got table_defs 10 sublot_table refl, tt)))))))))))
 
 pub indexes_of_desk : AreOf desk_indexes desk_table_defs
 indexes_of_desk = let second = second_of (later_table_defs 2) in (second.0, (second.1.0, (second.1.1.0, (second.1.1.1.0, indexes_of_fourth))))

@@ -3,7 +3,7 @@ use Rattle.std.specs.Prelude.{◌≡◌, ℕ, ◌==◌, nat_le, if◌then◌else
 use Rattle.sqlite.specs.Schema.{Schema}
 use Rattle.plant_base.specs.{newest_schema}
 use Rattle.sql_tables.specs.{IndexDef, HasIndex}
-use Rattle.plant_tables.specs.DeskTableDefs.{definition_table, recipe_table, job_table, batch_table, batch_event_table, lot_table, movement_table, edge_table, receipt_table, recall_table, mark_table}
+use Rattle.plant_tables.specs.DeskTableDefs.{definition_table, recipe_table, job_table, batch_table, batch_event_table, lot_table, sublot_table, movement_table, edge_table, receipt_table, recall_table, mark_table}
 
 abbrev pub batch_event_by_batch : IndexDef
 batch_event_by_batch = record { name = codes "batch_event_by_batch"; table = batch_event_table; column_indexes = 2 ∷ [] }
@@ -47,13 +47,16 @@ job_by_due = record { name = codes "job_by_due"; table = job_table; column_index
 abbrev pub receipt_by_seq : IndexDef
 receipt_by_seq = record { name = codes "receipt_by_seq"; table = receipt_table; column_indexes = 2 ∷ [] }
 
+abbrev pub sublot_by_stock : IndexDef
+sublot_by_stock = record { name = codes "sublot_by_stock"; table = sublot_table; column_indexes = 4 ∷ 1 ∷ 2 ∷ [] }
+
 -- those that the second schema adds
 abbrev pub second_indexes : List IndexDef
 second_indexes = batch_event_by_batch ∷ movement_by_lot ∷ movement_by_batch ∷ edge_by_end ∷ []
 
 -- those that the fourth adds
 abbrev pub fourth_indexes : List IndexDef
-fourth_indexes = mark_by_node ∷ definition_by_class ∷ job_by_state ∷ batch_by_closed ∷ lot_by_def ∷ recall_by_state ∷ recipe_by_state ∷ movement_by_lot2 ∷ job_by_due ∷ receipt_by_seq ∷ []
+fourth_indexes = mark_by_node ∷ definition_by_class ∷ job_by_state ∷ batch_by_closed ∷ lot_by_def ∷ recall_by_state ∷ recipe_by_state ∷ movement_by_lot2 ∷ job_by_due ∷ receipt_by_seq ∷ sublot_by_stock ∷ []
 
 -- those of a schema: the first has none, and the third those of the second
 abbrev pub indexes_of : ℕ → List IndexDef

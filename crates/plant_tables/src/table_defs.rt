@@ -238,6 +238,10 @@ pub const SUBLOT: TableDef<'static> = TableDef {
 pub(crate) const CREATE_SUBLOT: &str =
     "CREATE TABLE sublot (lot TEXT NOT NULL, no INTEGER NOT NULL, place TEXT NOT NULL, stock INTEGER NOT NULL, UNIQUE (lot, no)) STRICT";
 
+/// The index that finds the sublots that have stock, by how much.
+pub(crate) const CREATE_SUBLOT_BY_STOCK: &str =
+    "CREATE INDEX sublot_by_stock ON sublot (stock, lot, no)";
+
 /// Adds a sublot of a lot that is added with it.
 pub(crate) const ADD_SUBLOT: &str =
     "INSERT INTO sublot (lot, no, place, stock) VALUES (?1, ?2, ?3, ?4)";
@@ -437,7 +441,7 @@ macro_rules! index {
 }
 
 /// The indexes of the newest schema, each with the text that makes it.
-pub(crate) const DESK_INDEXES: [CreateIndexStatement<'static>; 14] = [
+pub(crate) const DESK_INDEXES: [CreateIndexStatement<'static>; 15] = [
     index!(b"batch_event_by_batch", CREATE_BATCH_EVENT_BY_BATCH),
     index!(b"movement_by_lot", CREATE_MOVEMENT_BY_LOT),
     index!(b"movement_by_batch", CREATE_MOVEMENT_BY_BATCH),
@@ -452,6 +456,7 @@ pub(crate) const DESK_INDEXES: [CreateIndexStatement<'static>; 14] = [
     index!(b"movement_by_lot2", CREATE_MOVEMENT_BY_LOT2),
     index!(b"job_by_due", CREATE_JOB_BY_DUE),
     index!(b"receipt_by_seq", CREATE_RECEIPT_BY_SEQ),
+    index!(b"sublot_by_stock", CREATE_SUBLOT_BY_STOCK),
 ];
 
 /// How many of the tables, from the first on, are those of a schema.
@@ -475,10 +480,10 @@ pub fn tables_in(schema: u64) -> usize
 pub(crate) fn indexes_in(schema: u64) -> usize
     ensures own { take result desk_indexes ≡ indexes_of schema }
     ensures later { drop result desk_indexes ≡ later_indexes schema }
-    ensures few { result ≤ 14 }
+    ensures few { result ≤ 15 }
 {
     if schema >= 4 {
-        14
+        15
     } else if schema >= 2 {
         4
     } else {

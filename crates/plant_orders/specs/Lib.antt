@@ -4,6 +4,7 @@ pub mod Orders
 pub mod ReaderPosition
 pub mod FaultsOfFiles
 pub mod EveryFault
+pub mod Law
 pub use Importing.{import}
 unfoldable pub use Numbers.{bounded}
 pub use Orders.{FailsAs, Gives, due_of, fault, file_of, id_of, is_header, kind_name, rows_of, ◌>>=◌}

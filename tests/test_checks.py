@@ -172,6 +172,8 @@ class OrderCheck(CheckTests, ProgramTestCase):
         rows = b"".join(b"O-%d,CAKE,1,500,2027-03-01,0\n" % it for it in range(1000))
         told = b"".join(b"csv row %d Priority: priority is not a whole number from 1 to 9; it is 0\n" % it for it in range(1, 1001))
         self.check_tells("a fault in each of a thousand rows", ORDER_HEAD + rows, 1, told)
+        status, output, errors = self.program.run(told=ORDER_HEAD + b"o,c,0,0,0,0\n" * 1000)
+        self.check("six faults in each of a thousand rows", (status, len(output.splitlines()), errors), (1, 6000, b""))
         self.check_tells("one row more", ORDER_HEAD + rows + b"O\n", 1, told + b"csv row 1001 TooManyRows: the file has more than 1000 orders\n")
 
     def test_first_fault_is_the_one_of_an_import(self) -> None:
@@ -250,7 +252,7 @@ class LineCheck(CheckTests, ProgramTestCase):
 
     def test_more_than_a_million_lines_are_read_and_numbered(self) -> None:
         self.check_tells("a million empty lines and a bad one", b"\n" * MANY + b"{}\n", 1, b"line %d: neither do nor ask is there\n" % (MANY + 1))
-        self.check_tells("a million questions", b'{"ask":"desk"}\n' * MANY, 0, b"0 commands, %d questions\n" % MANY)
+        self.check_tells("a million questions of 50 MB", (b'{"ask":"desk"}' + b" " * 35 + b"\n") * MANY, 0, b"0 commands, %d questions\n" % MANY)
         self.check_tells("a million bad lines", b"x\n" * MANY, 1, b"".join(b"line %d: not a JSON text\n" % it for it in range(1, MANY + 1)))
 
     def test_line_that_is_too_long_is_told(self) -> None:

@@ -99,6 +99,31 @@ FORETOLD = [
 ]
 
 
+# Lots and their amounts that make the longest merge.
+PARTS = [(f"M-{it}", 0, 1) for it in range(1, 17)]
+
+
+def longest_recipe(last: str) -> str:
+    """Returns a new recipe of 128 lines, of which the last is this input."""
+    values = [{"kind": "par", "name": f"P-{it}", "value": "1"} for it in range(125)]
+    output, phase = {"kind": "out", "def": "DOUGH", "qty": 1}, {"kind": "phase", "unit": "U", "oper": "O", "phase": "P"}
+    lines = [output, phase, *values, {"kind": "in", "def": last, "qty": 1}]
+    return recipe("DOUGH").partition('"lines":')[0] + f'"lines":{compact(lines)}'
+
+
+# The longest lists of each kind, whole, and wrong in their last item.
+LARGEST = [
+    (imported(*(order(f"O-{it}") for it in range(2, 1002))), ACCEPTED),
+    (imported(*(order(f"O-{it}") for it in range(2, 1001)), order("O-1001", recipe="PIE")), refused("UnknownRecipe", 6, item=1000)),
+    (imported(*(order(f"O-{it}") for it in range(2, 1001)), order("O-1001", size=99)), refused("SizeOutOfRange", 18, item=1000)),
+    (longest_recipe("FLOUR"), ACCEPTED),
+    (longest_recipe("SALT"), refused("UnknownDefinition", 5, item=128)),
+    (merge(PARTS), ACCEPTED),
+    (merge([*PARTS[:15], ("M-17", 0, 1)]), refused("UnknownLot", 9, item=16)),
+    (merge([*PARTS[:15], ("M-16", 0, 101)]), refused("TooLittle", 13, item=16)),
+]
+
+
 def reply_foretold(reply: bytes) -> dict[str, Json]:
     """Returns what a check has to say of a command that is answered so: but for the item and the reason."""
     told = json.loads(reply)
@@ -189,6 +214,13 @@ class Answers(DeskTestCase):
             for command, (body, text) in zip(commands, FORETOLD):
                 self.check(body, server.answered(posted("/v1/check", command)), answer(text))
             self.check("the server", server.end(), (0, b"", b""))
+
+    def test_last_item_of_the_longest_lists_is_named(self) -> None:
+        session = Session("largest").accepted(*STOCK, *(receive(lot, 100, "FLOUR") for lot, _, _ in PARTS))
+        asked, wanted = b"".join(check_line(line(body)) for body, _ in LARGEST), "".join(f"{it}\n" for _, it in LARGEST).encode()
+        self.check("in memory", self.desk.run(told=session.told + asked), (0, session.wanted + wanted, b""))
+        self.keep(self.folder, "largest", session)
+        self.check("over a file", self.desk.run("run", "largest.db", told=asked), (0, wanted, b""))
 
     def test_command_is_answered_as_its_check_said_over_a_file(self) -> None:
         for number, (body, text) in enumerate(FORETOLD):

@@ -17,7 +17,7 @@ from tests.support.commands import (
 )
 from tests.support.http import answer, got, posted
 from tests.support.large import LimitTestCase, consumed_row, received_row, scrapped_row, split_row
-from tests.support.program import SECONDS
+from tests.support.program import SECONDS, Program
 from tests.support.scenarios import lots_told, traced
 from tests.support.sessions import LINE_LIMIT
 from tests.support.sqlite import Row
@@ -30,11 +30,14 @@ STAMP = f'"at":200,"by":"{LONG}","note":"{LONG}"'
 BOOKINGS = 5_000
 
 # How many lots stand behind the first of a chain, and of a fan, and how many lots of the greatest amount a batch consumes.
-NODES = 20_000
+NODES = 32_000
 
 # How many lots of a large desk are received, each to be scrapped nine times, and how many movements it has at least.
-LARGE_LOTS = 12_800
-LARGE = 150_000
+LARGE_LOTS = 22_000
+LARGE = 250_000
+
+# How many commands are given while the log is looked at.
+SCRAPS = 5000
 
 # How many bookings a batch of a large desk has.
 LARGE_BOOKINGS = 2000
@@ -212,7 +215,7 @@ class Bookings(LimitTestCase):
 
 
 class Chains(LimitTestCase):
-    """A lot that was split into a chain of 20,000 more."""
+    """A lot that was split into a chain of 32,000 more."""
 
     def chain(self, file: str, nodes: int) -> int:
         """Makes the file of a chain of so many lots behind the first, and returns the number of its last command."""
@@ -251,7 +254,9 @@ class Chains(LimitTestCase):
 
 
 class LargeDesk(LimitTestCase):
-    """A desk of 150,000 movements and 20,000 edges, many of one lot and of one batch."""
+    """A desk of 250,000 movements and 32,000 edges, many of one lot and of one batch."""
+
+    PROGRAMS = ("desk", "desk_check")
 
     def test_large_desk_is_verified_traced_and_migrated_from_the_first_schema(self) -> None:
         file, fan = "large.db", [f"T-{it}" for it in range(NODES)]
@@ -261,6 +266,7 @@ class LargeDesk(LimitTestCase):
         [(movements,)] = sqlite.rows(self.path(file), "SELECT count(*) FROM movement")
         self.check_true(f"a large desk has so many movements, {movements}", movements >= LARGE)
         self.check_good("a large desk", file, seq)
+        self.check("a large desk, looked into", Program("desk_check", self.folder).run(file, timeout=SECONDS).status, 0)
         text = "".join(f"lot {it}\n" for it in sorted(fan))
         self.check_run("a large fan", ["trace", file, "forward", "T"], (0, text.encode(), b""))
         self.check_genealogies(file)
@@ -330,3 +336,25 @@ class Reads(LimitTestCase):
             self.check("a run that was counted", run.wait(timeout=SECONDS), 0)
         # a pipe gives less than a piece at a time only where the writer is slow
         self.check_true(f"a run reads by the piece, {reads}", reads[1] - reads[0] < len(question) * count // 100)
+
+
+class Log(LimitTestCase):
+    """The log of a file that a run has open."""
+
+    IN_MEMORY = False
+
+    def test_log_stays_within_4_mb_and_a_command(self) -> None:
+        """Books until several times as much was written, and looks at the log's size after each few commands."""
+        self.send("log.db", *GOODS, receive("L-1", SCRAPS))
+        sizes, few = [], 100
+        with self.desk.start("run", "log.db", stdin=subprocess.PIPE) as run:
+            for _ in range(SCRAPS // few):
+                run.stdin.write(line(scrap("L-1", 1)) * few)
+                run.stdin.flush()
+                for _ in range(few):
+                    run.stdout.readline()
+                sizes.append((self.folder / "log.db-wal").stat().st_size)
+            run.stdin.close()
+            self.check("a run of many commands", run.wait(timeout=SECONDS), 0)
+        self.check_true(f"the log stays within 4 MB and a command, {max(sizes)}", 2 << 20 < max(sizes) < 5 << 20)
+        self.check_good("the file behind it", "log.db", 3 + SCRAPS)

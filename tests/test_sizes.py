@@ -20,8 +20,8 @@ from tests.support.program import Program
 from tests.support.scenarios import Item, lots_told
 from tests.support.sessions import lines_of
 
-# How many lots stand behind the first of a chain and of a fan, and before and behind a batch: their genealogies are told in more than 10^6 bytes.
-NODES = 8_000
+# How many lots stand behind the first of a chain and of a fan, and before and behind a batch: their genealogies are told in more than 2*10^6 bytes.
+NODES = 16_000
 
 # How many lots a recall reaches that the check of a file looks at.
 MARKED = 1_500
@@ -95,19 +95,19 @@ class Around(LimitTestCase):
         text = compact({"lots": lots})
         self.check_alike(file, [(f"{case}, where they stand", compact({"ask": "stands", kind: name}), f"/v1/{paths[kind]}/{name}/stands", text)])
 
-    def test_8000_lots_in_a_chain_are_told_with_their_edges_and_where_they_stand(self) -> None:
+    def test_16000_lots_in_a_chain_are_told_with_their_edges_and_where_they_stand(self) -> None:
         file, seq = "chain.db", self.send("chain.db", *GOODS)
         lots = [f"C-{it:05}" for it in range(NODES + 1)]
         sqlite.filled(self.path(file), chain_tables(seq + 1, lots), seq + 1 + NODES)
         nodes = [node_told(it, 1) for it in lots]
         edges = [edge_told(("lot", first), ("lot", second), NODES - at) for at, (first, second) in enumerate(zip(lots, lots[1:]))]
         size = self.check_around(file, "a chain", ("lot", lots[0]), "forward", nodes, edges)
-        self.check_true(f"an answer of more than a million bytes, {size}", size > 10**6)
+        self.check_true(f"an answer of more than two million bytes, {size}", size > 2 * 10**6)
         self.check_around(file, "a chain", ("lot", lots[-1]), "back", nodes, edges)
         self.check_stands(file, "a chain", ("lot", lots[0]), [lot_told(it, 1) for it in lots])
         self.check_stands(file, "the end of a chain", ("lot", lots[-1]), [lot_told(lots[-1], 1)])
 
-    def test_8000_lots_split_off_one_are_told_with_their_edges_and_where_they_stand(self) -> None:
+    def test_16000_lots_split_off_one_are_told_with_their_edges_and_where_they_stand(self) -> None:
         file, seq = "fan.db", self.send("fan.db", *GOODS)
         lots = [f"T-{it:05}" for it in range(NODES)]
         sqlite.filled(self.path(file), fan_tables(seq + 1, "T", lots, 5, 2), seq + 1 + NODES)
@@ -117,7 +117,7 @@ class Around(LimitTestCase):
         self.check_stands(file, "a fan", ("lot", "T"), [lot_told("T", 5), *(lot_told(it, 2) for it in lots)])
         self.check_good("a fan", file, seq + 1 + NODES)
 
-    def test_batch_of_8000_lots_before_and_behind_it_is_told_with_its_edges(self) -> None:
+    def test_batch_of_16000_lots_before_and_behind_it_is_told_with_its_edges(self) -> None:
         file, seq = "batch.db", self.send("batch.db", *PLANNED, *begin_batch("B-1", 1))
         sources, products = ([f"{name}-{it:05}" for it in range(NODES)] for name in "FP")
         made: dict[str, list[sqlite.Row]] = {"lot": [], "sublot": [], "movement": [], "edge": []}

@@ -25,7 +25,7 @@ PAGE, SOURCES = TOP / "page", TOP / "crates/desk_page/src"
 # The modules of each script. Those of the first line are pure: they touch neither the page nor the desk.
 SCRIPTS = {
     "desk.js": (
-        "texts", "amounts", "moments", "ids", "addresses", "csv", "cursors", "recipes", "records", "words", "scans", "barcode", "taking", "sorting", "figures", "groups", "balances",
+        "texts", "amounts", "moments", "ids", "addresses", "csv", "cursors", "recipes", "records", "words", "scans", "barcode", "taking", "sorting", "figures", "groups", "balances", "names",
         "elements", "store", "language", "typed", "who", "focus", "scanner", "parts", "questions", "frame", "saved", "lots", "forms", "paper", "label", "book",
     ),
     "views.js": ("plots", "alarm", "help", "today", "genealogy", "record", "sheet", "inputs", "balance", "stands", "release", "planner", "shift",

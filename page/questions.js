@@ -195,6 +195,13 @@ export const desk = {
     return first || (await list(`stocks/${known.class}`, 1, idBefore(def))).find(isMeant) || null;
   },
 
+  // The materials of each class with their names, of a class with more than a page of them its first page.
+  async named() {
+    const all = [];
+    for (const { class: id } of await list("classes", PAGE)) all.push(...await list("definitions/" + id, PAGE));
+    return all;
+  },
+
   // All materials, each with its class and what there is of it.
   async materials() {
     const all = [];

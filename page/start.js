@@ -14,13 +14,16 @@ import { desk, whyNot } from "./questions.js";
 import { VIEWS, isDayOver, isDrawnBefore, place, show, tellStatus } from "./frame.js";
 import { focusBehind, openForm } from "./forms.js";
 import { drawWaiting, sending } from "./book.js";
-import { offerBegun } from "./finder.js";
+import { namedSo, offerBegun } from "./finder.js";
 import { help } from "./help.js";
 import { board, today } from "./today.js";
 import { chosenOrders, planner } from "./planner.js";
 import { focusNextPhase, scanAtBatch, shift } from "./shift.js";
 import { chosen, warehouse } from "./warehouse.js";
 import { quality } from "./quality.js";
+
+// How many materials of one name are said.
+const MOST_NAMED = 10;
 
 // Finds a lot, a batch, an order, a recall or a material by its id, a supplier's code being that of a lot, and shows it where the role looks at such
 // things. Says whether it did.
@@ -31,6 +34,16 @@ async function find(code) {
   return miss(t`There is no lot, no batch, no order, no recall and no material ${id}.`);
 }
 function miss(why) { notice("bad", why); return false; }
+
+// Finds what is typed: by its id, or the one material whose name has these words; of several they are said.
+async function findTyped(typed) {
+  const { lot: id } = lotOf(typed);
+  if (id && await showFound(id)) return;
+  const named = await namedSo(typed);
+  if (named.length === 1) go("warehouse", named[0].def);
+  else if (named.length > 1) miss(t`Several materials are named so: ${named.slice(0, MOST_NAMED).map((it) => it.def).join(", ")}${named.length > MOST_NAMED ? " .." : ""}`);
+  else await find(typed);
+}
 async function showFound(id) {
   const [name] = place();
   const lot = await desk.foundLot(id);
@@ -45,7 +58,7 @@ at("find").addEventListener("input", offerBegun);
 at("finder").addEventListener("submit", async (event) => {
   event.preventDefault();
   notice();
-  try { await find(at("find").value); } catch (error) { miss(whyNot(error)); }
+  try { await findTyped(at("find").value); } catch (error) { miss(whyNot(error)); }
 });
 
 // What was scanned goes to the form that is open, else to the batch that is shown, else it is found.

@@ -103,6 +103,21 @@ class Views(BrowserTestCase):
         tab.key("Enter")
         tab.until("location.hash === '#warehouse/BREAD'", "the material")
 
+    def test_materials_are_found_by_words_of_their_names(self) -> None:
+        self.serve()
+        self.served.told(**{"at": self.now(), "by": "ben", "do": "add_definition", "def": "WF550", "class": "RAW", "name": "Wheat flour 550", "unit": "kg"})
+        tab = self.open("planner")
+        offered = "[...document.getElementById('begun').options].map((it) => it.label)"
+        for text, offers in {"wheat": "WF550: Wheat flour 550", "flour": "FLOUR: material,WF550: Wheat flour 550", "fl 55": "WF550: Wheat flour 550", "rye": ""}.items():
+            tab.fill("find", text)
+            tab.until(f"{offered}.join() === '{offers}'", f"what is named {text}")
+        tab.fill("find", "flou")
+        tab.key("Enter")
+        tab.has("Several materials are named so: FLOUR, WF550")
+        tab.fill("find", "wheat")
+        tab.key("Enter")
+        tab.until("location.hash === '#warehouse/WF550'", "the material")
+
     def test_parts_of_which_nothing_is_left_are_not_shown(self) -> None:
         self.serve()
         lot = self.served.ask("/lots/F-1")["sublots"]

@@ -265,6 +265,7 @@ pub const GERMAN: &[u8] = br##"{
 "Back to the lots of {0}":"Zur\u00fcck zu den Losen von {0}",
 "An id has {0}.":"Eine Kennung hat {0}.",
 "letters, digits and -, a letter first, at most 24":"Buchstaben, Ziffern und -, einen Buchstaben zuerst, h\u00f6chstens 24",
+"Several materials are named so: {0}{1}":"Mehrere Materialien hei\u00dfen so: {0}{1}",
 "There is no lot, no batch, no order, no recall and no material {0}.":"Weder Los noch Charge, Auftrag, R\u00fcckruf oder Material {0} gibt es.",
 "{0} was scanned twice within two seconds.":"{0} wurde zweimal in zwei Sekunden gescannt.",
 "It is booked once you say so.":"Gebucht wird auf einen weiteren Druck.",
@@ -692,8 +693,8 @@ pub const GERMAN: &[u8] = br##"{
 "Operator":"Bediener",
 "your name":"Ihr Name",
 "Find":"Suchen",
-"Find by id":"Kennung",
-"Find a lot, a batch, an order, a recall or a material by its id":"Ein Los, eine Charge, einen Auftrag, einen R\u00fcckruf oder ein Material nach der Kennung suchen",
+"Find by id or name":"Kennung oder Name",
+"Find a lot, a batch, an order, a recall or a material by its id, a material also by its name":"Ein Los, eine Charge, einen Auftrag, einen R\u00fcckruf oder ein Material nach der Kennung suchen, ein Material auch nach dem Namen",
 "Amount":"Menge",
 "Amount or value":"Menge oder Wert",
 "Asked":"Soll",
@@ -826,4 +827,4 @@ pub const GERMAN: &[u8] = br##"{
 "##;
 
 /// Its entity tag.
-pub const GERMAN_TAG: &str = "\"133e006e7154511bd4af442111fef87e\"";
+pub const GERMAN_TAG: &str = "\"386cf397ec39fc5ea9df5ef22930389b\"";

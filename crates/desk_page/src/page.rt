@@ -19,8 +19,8 @@ pub const PAGE: &[u8] = br##"<!doctype html>
     <a href="#today">Today</a><a href="#planner">Planner</a><a href="#shift">Shift</a><a href="#warehouse">Warehouse</a><a href="#quality">Quality</a>
   </nav>
   <form id="finder" role="search">
-    <input id="find" data-id list="begun" maxlength="24" autocomplete="off" spellcheck="false" placeholder="Find by id"
-      aria-label="Find a lot, a batch, an order, a recall or a material by its id">
+    <input id="find" data-id list="begun" maxlength="24" autocomplete="off" spellcheck="false" placeholder="Find by id or name"
+      aria-label="Find a lot, a batch, an order, a recall or a material by its id, a material also by its name">
     <datalist id="begun"></datalist>
     <button>Find</button>
   </form>
@@ -45,4 +45,4 @@ pub const PAGE: &[u8] = br##"<!doctype html>
 "##;
 
 /// Its entity tag.
-pub const PAGE_TAG: &str = "\"8d511ea17cd820885020827fdad4c353\"";
+pub const PAGE_TAG: &str = "\"ed349dab693febe051d18ab1f7e4c379\"";

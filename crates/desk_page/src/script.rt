@@ -541,6 +541,11 @@ const rowsOfBalance = (lots) => [
   ...lots.map((it) => ({ def: it.def, lot: it.lot, unit: it.unit || "", stock: it.stock, held: it.held, recalled: it.recalled, ...flowsOf(it),
     where: wherever(placesOf([it])) })),
 ];
+const wordsIn = (text) => text.toLowerCase().match(/[\p{L}\p{N}]+/gu) || [];
+function isNamed(name, typed) {
+  const words = wordsIn(name), parts = wordsIn(typed);
+  return parts.length > 0 && parts.every((part) => words.some((it) => it.startsWith(part)));
+}
 function filled(element, attributes, children) {
   for (const [name, value] of Object.entries(attributes || {})) {
     if (value === false || value == null) continue;
@@ -927,6 +932,11 @@ const desk = {
     if (!known) return null;
     const first = (await this.stocks(known.class, PAGE)).find(isMeant);
     return first || (await list(`stocks/${known.class}`, 1, idBefore(def))).find(isMeant) || null;
+  },
+  async named() {
+    const all = [];
+    for (const { class: id } of await list("classes", PAGE)) all.push(...await list("definitions/" + id, PAGE));
+    return all;
   },
   async materials() {
     const all = [];
@@ -1586,4 +1596,4 @@ function bookingForm(title, fields, label, take, more) {
 "##;
 
 /// Its entity tag.
-pub const SCRIPT_TAG: &str = "\"401b8cf792bd5ddce403a7d14e6dd5bc\"";
+pub const SCRIPT_TAG: &str = "\"efc90628eaa82d24face04901d0d2726\"";

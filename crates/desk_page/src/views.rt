@@ -1395,22 +1395,32 @@ async function batchRecordCards(id) {
 }
 const KINDS = { lots: "lot", batches: "batch", orders: "order", recalls: "recall", definitions: "material" };
 const REST = 250;
+const option = (id, what) => h("option", { value: id, label: `${id}: ${what}` });
 function offersOf(found) {
   const all = new Map();
   for (const [kinds, kind] of Object.entries(KINDS)) for (const id of found[kinds]) all.set(id, [...(all.get(id) || []), kind]);
-  return [...all].map(([id, kinds]) => h("option", { value: id, label: `${id}: ${kinds.map(wordOf).join(", ")}` }));
+  return [...all].map(([id, kinds]) => option(id, kinds.map(wordOf).join(", ")));
+}
+async function namedSo(typed) {
+  return (await desk.named()).filter((it) => isNamed(it.name, typed));
+}
+async function offers(typed) {
+  const id = typed.toUpperCase(), begun = isId(id) ? offersOf(await desk.find(id)) : [];
+  const known = new Set(begun.map((it) => it.value));
+  return [...begun, ...(await namedSo(typed)).filter((it) => !known.has(it.def)).map((it) => option(it.def, it.name))];
 }
 let turns = 0;
 async function offerBegun() {
-  const id = at("find").value.trim().toUpperCase(), turn = ++turns;
+  const typed = at("find").value.trim(), turn = ++turns;
   await new Promise((done) => { setTimeout(done, REST); });
   if (turn !== turns) return;
-  if (!isId(id)) { at("begun").replaceChildren(); return; }
+  if (!typed) { at("begun").replaceChildren(); return; }
   try {
-    const found = await desk.find(id);
-    if (turn === turns) at("begun").replaceChildren(...offersOf(found));
+    const found = await offers(typed);
+    if (turn === turns) at("begun").replaceChildren(...found);
   } catch { at("begun").replaceChildren(); }
 }
+const MOST_NAMED = 10;
 async function find(code) {
   const { lot: id } = lotOf(code);
   if (!id) return miss(t`An id has ${t(ID_RULE)}.`);
@@ -1418,6 +1428,14 @@ async function find(code) {
   return miss(t`There is no lot, no batch, no order, no recall and no material ${id}.`);
 }
 function miss(why) { notice("bad", why); return false; }
+async function findTyped(typed) {
+  const { lot: id } = lotOf(typed);
+  if (id && await showFound(id)) return;
+  const named = await namedSo(typed);
+  if (named.length === 1) go("warehouse", named[0].def);
+  else if (named.length > 1) miss(t`Several materials are named so: ${named.slice(0, MOST_NAMED).map((it) => it.def).join(", ")}${named.length > MOST_NAMED ? " .." : ""}`);
+  else await find(typed);
+}
 async function showFound(id) {
   const [name] = place();
   const lot = await desk.foundLot(id);
@@ -1432,7 +1450,7 @@ at("find").addEventListener("input", offerBegun);
 at("finder").addEventListener("submit", async (event) => {
   event.preventDefault();
   notice();
-  try { await find(at("find").value); } catch (error) { miss(whyNot(error)); }
+  try { await findTyped(at("find").value); } catch (error) { miss(whyNot(error)); }
 });
 listenToScans(async (code, isAgain, from) => {
   if (openForm()) return openForm().scanned(code, isAgain, from);
@@ -1499,4 +1517,4 @@ begin();
 "##;
 
 /// Its entity tag.
-pub const VIEWS_TAG: &str = "\"7061c86ce7dbab29fee2ff0166b4d0d0\"";
+pub const VIEWS_TAG: &str = "\"d8f5a3ca36120d8a10680ade3060ba41\"";

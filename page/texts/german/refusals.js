@@ -101,6 +101,7 @@ export default {
   // Finding and scanning.
   "An id has {0}.": "Eine Kennung hat {0}.",
   "letters, digits and -, a letter first, at most 24": "Buchstaben, Ziffern und -, einen Buchstaben zuerst, höchstens 24",
+  "Several materials are named so: {0}{1}": "Mehrere Materialien heißen so: {0}{1}",
   "There is no lot, no batch, no order, no recall and no material {0}.": "Weder Los noch Charge, Auftrag, Rückruf oder Material {0} gibt es.",
   "{0} was scanned twice within two seconds.": "{0} wurde zweimal in zwei Sekunden gescannt.",
   "It is booked once you say so.": "Gebucht wird auf einen weiteren Druck.",

@@ -156,9 +156,9 @@ export default {
   "Operator": "Bediener",
   "your name": "Ihr Name",
   "Find": "Suchen",
-  "Find by id": "Kennung",
-  "Find a lot, a batch, an order, a recall or a material by its id":
-    "Ein Los, eine Charge, einen Auftrag, einen Rückruf oder ein Material nach der Kennung suchen",
+  "Find by id or name": "Kennung oder Name",
+  "Find a lot, a batch, an order, a recall or a material by its id, a material also by its name":
+    "Ein Los, eine Charge, einen Auftrag, einen Rückruf oder ein Material nach der Kennung suchen, ein Material auch nach dem Namen",
   // Heads of tables, names of columns and of figures.
   "Amount": "Menge",
   "Amount or value": "Menge oder Wert",

@@ -10,13 +10,13 @@ use Rattle.plant_base.specs.{Envelope, OrderRow}
 use Rattle.plant_orders.specs.{FailsAs, CsvFault, CsvKind, ImportMetadata}
 use Rattle.plant_orders.specs.declared.fault.CsvKind.TheVariants as csv
 use Rattle.plant_questions.specs.{Question}
-use Rattle.plant_text.specs.{asked_by, question_line, checked_by, kind_at, Line, line_says, kind_around, object_says, text_checked, value_in, value_says}
+use Rattle.plant_text.specs.{asked_by, question_line, checked_by, kind_at, Line, line_of, line_says, kind_around, object_says, text_checked, value_in, value_says}
 use Rattle.plant_text.specs.declared.LineFault.{LineFault}
 use Rattle.plant_text.specs.declared.read.Line.TheVariants as L
 use Rattle.plant_text.specs.declared.LineFault.TheVariants as line
 use Rattle.plant_http_requests.specs.declared.reading.HeadEnd.{HeadEnd}
 use Rattle.plant_http_requests.specs.declared.reading.HeadEnd.TheVariants as end
-use Rattle.plant_http_requests.specs.{end_of_head, field_lines, Parsed, fails, command_task, command_of, file_task, fault_task_of, body_says, is_of_body, Reads, EndTask, TaskOf, parsed_step, finish}
+use Rattle.plant_http_requests.specs.{end_of_head, field_lines, Parsed, fails, command_task, command_of, file_task, fault_task_of, is_of_body, Reads, EndTask, TaskOf, parsed_step, finish}
 use Rattle.plant_json_in.specs.{Around, AskedKind, Field, NodeKind, fields_of, node_in, question_in, FormatError, ShapeError, ◌>>=◌, object}
 use Rattle.plant_json_in.specs.declared.format_errors.FormatError.TheVariants as format_error
 use Rattle.plant_json_in.specs.declared.format_errors.ShapeError.TheVariants as shape_error
@@ -25,8 +25,7 @@ use Rattle.plant_json_in.specs.declared.question_tables.AskedKind.TheVariants as
 use Rattle.plant_json_in.specs.declared.question_tables.QuestionKind.TheVariants as q
 use Rattle.plant_json_in.specs.{check_of, checked_as, command_among, command_of as command_of_value, ToCheck}
 use Rattle.plant_json_in.specs.declared.checks.ToCheck.TheVariants as to_check
-use Rattle.plant_http_requests.specs.declared.task.BodyKind.TheVariants as content
-use Rattle.plant_http_requests.specs.declared.task.RequestTask.{RequestTask}
+use Rattle.plant_http_requests.specs.declared.task.ConditionalTask.{ConditionalTask}
 use Rattle.plant_http_requests.specs.declared.task.RequestTask.TheVariants as J
 use Rattle.plant_http_requests.specs.declared.task.HeadStep.{HeadStep}
 use Rattle.plant_http_requests.specs.declared.profile.Terms.{Terms}
@@ -110,7 +109,7 @@ by_reading : (r : Result Data FormatError) (e : Envelope) → Same (result_ok (r
 by_reading (Ok d) e = by_object (is_some (as_object d)) d e
 by_reading (Err p) e = no_command None p e refl
 
-pub alike : (body : List ℕ) (e : Envelope) → (body_says content.Command body ≡ J.Command e) ↔ (body_says content.Check body ≡ J.Check (to_check.Command e))
+pub alike : (body : List ℕ) (e : Envelope) → (command_task (line_of body) ≡ J.Command e) ↔ (J.Check (text_checked body) ≡ J.Check (to_check.Command e))
 unfolding line_says text_checked
 alike body e = by_reading (value_in body) e
 
@@ -129,7 +128,7 @@ one_step : (terms : Terms) (many : Bool) (head : List ℕ) (many_step a b : Head
 one_step terms true head many_step a b x y = x ∙ sym y
 one_step terms false head many_step a b x y = x.2 ∙ ap (parsed_step terms) (one_head head x.0 y.0 x.1 y.1) ∙ sym y.2
 
-one_at_end : (terms : Terms) (e : HeadEnd) (whole : List ℕ) (a b : Option RequestTask) → EndTask terms e whole a → EndTask terms e whole b → a ≡ b
+one_at_end : (terms : Terms) (e : HeadEnd) (whole : List ℕ) (a b : Option ConditionalTask) → EndTask terms e whole a → EndTask terms e whole b → a ≡ b
 one_at_end terms end.Nothing whole a b x y = x ∙ sym y
 one_at_end terms end.Early whole a b x y = x ∙ sym y
 one_at_end terms end.TooLong whole a b x y = x ∙ sym y
@@ -137,5 +136,5 @@ one_at_end terms (end.Found n) whole a b (i, x, (s, xs, xf)) (j, y, (t, yt, yf))
     let same = one_step terms (nat_lt 32 (field_lines (take n whole))) (take n whole) (fails HeadTooLarge false) s t xs yt in
     x ∙ ap Some (xf ∙ ap (λ step. finish terms step (drop n whole)) same ∙ sym yf) ∙ sym y
 
-pub one_task : (terms : Terms) (whole : List ℕ) (a b : Option RequestTask) → TaskOf terms whole a → TaskOf terms whole b → a ≡ b
+pub one_task : (terms : Terms) (whole : List ℕ) (a b : Option ConditionalTask) → TaskOf terms whole a → TaskOf terms whole b → a ≡ b
 one_task terms whole a b x y = one_at_end terms (end_of_head whole) whole a b x y

@@ -1,9 +1,11 @@
 -- What is judged of a command that a body says.
-use Rattle.std.proofs.Common.{◌≡◌, ◌⊎◌, inl, inr, ℕ, Bool, true, false, List, Option, Some, None, refl, subst, ◌↔◌}
+use Rattle.std.proofs.Common.{◌≡◌, ◌⊎◌, inl, inr, ℕ, Bool, true, false, List, Option, Some, None, refl, subst, ap, ◌∙◌, ◌↔◌}
 use Rattle.std.specs.Prelude.{if◌then◌else◌}
 use Rattle.plant_base.specs.{Envelope}
+use Rattle.plant_json_in.specs.{ToCheck}
 use Rattle.plant_json_in.specs.declared.checks.ToCheck.TheVariants as to_check
-use Rattle.plant_http_requests.specs.{ahead_or, body_task, body_says, in_time, is_of_body, is_of_other, lacks_needed, moment_of, of_sender, operator_of, overrun, Reads, Sender, with_reference}
+use Rattle.plant_text.specs.{line_of, text_checked}
+use Rattle.plant_http_requests.specs.{ahead_or, body_task, body_says, in_time, is_of_body, is_of_other, lacks_needed, moment_of, of_sender, operator_of, overrun, Reads, referred, Sender, with_given, with_reference, command_task}
 use Rattle.plant_http_requests.specs.declared.task.BodyKind.TheVariants as content
 use Rattle.plant_http_requests.specs.declared.task.RequestTask.{RequestTask}
 use Rattle.plant_http_requests.specs.declared.task.RequestTask.TheVariants as J
@@ -23,6 +25,38 @@ read_as J.NoReference said h = inr (h, subst (λ (s : RequestTask). Reads s s) h
 read_as (J.Ahead most) said h = inr (h, subst (λ (s : RequestTask). Reads s s) h refl)
 read_as J.BadForm said h = inr (h, subst (λ (s : RequestTask). Reads s s) h refl)
 read_as (J.BadFile f) said h = inr (h, subst (λ (s : RequestTask). Reads s s) h refl)
+
+-- a command that is given a reference is a command still
+referred_of_body : (given : Option (List ℕ)) (task : RequestTask) → is_of_body task ≡ true → is_of_body (referred given task) ≡ true
+referred_of_body given (J.Decided decision) h = h
+referred_of_body given (J.Command e) h = refl
+referred_of_body given (J.Check (to_check.Command e)) h = refl
+referred_of_body given (J.Check (to_check.BadForm p)) h = refl
+referred_of_body given J.OtherOperator h = refl
+referred_of_body given J.NoReference h = refl
+referred_of_body given (J.Ahead most) h = refl
+referred_of_body given J.BadForm h = refl
+referred_of_body given (J.BadFile f) h = refl
+referred_of_body given J.MemoryError h = h
+
+referred_itself : (given : Option (List ℕ)) (task : RequestTask) → Reads task task → Reads (referred given task) (referred given task)
+referred_itself given (J.Decided decision) h = refl
+referred_itself given (J.Command e) h = refl
+referred_itself given (J.Check (to_check.Command e)) h = refl
+referred_itself given (J.Check (to_check.BadForm p)) h = refl
+referred_itself given J.OtherOperator h = refl
+referred_itself given J.NoReference h = refl
+referred_itself given (J.Ahead most) h = refl
+referred_itself given J.BadForm h = refl
+referred_itself given (J.BadFile f) h = refl
+referred_itself given J.MemoryError h = h
+
+pub referred_reads : (given : Option (List ℕ)) (task said : RequestTask) → Reads task said → Reads (referred given task) (referred given said)
+referred_reads given task said h = by (read_as task said h)
+  where
+    by : ((task ≡ J.MemoryError) × (is_of_body said ≡ true)) ⊎ ((task ≡ said) × Reads said said) → Reads (referred given task) (referred given said)
+    by (inl (is, body)) = rw is (referred_of_body given said body)
+    by (inr (is, same)) = rw is (referred_itself given said same)
 
 -- a task that is judged is what it was, or is refused
 judged_of_body : (b : Bool) (refusal task : RequestTask) → is_of_body refusal ≡ true → is_of_body task ≡ true → is_of_body (if b then refusal else task) ≡ true
@@ -98,6 +132,38 @@ executed terms sender said e h =
       timely = rw referenced at timely;
     }
 
+-- ---- a body is checked as it is executed, under the same reference of its head
+
+-- the command that has become this one by its reference
+command_referred : (given : Option (List ℕ)) (task : RequestTask) (e : Envelope) → referred given task ≡ J.Command e
+    → (own : Envelope) × (task ≡ J.Command own) × (with_given given own ≡ e)
+command_referred given (J.Command own) e h = (own, refl, cc)
+command_referred given (J.Check (to_check.Command c)) e h = absurd (cc)
+command_referred given (J.Check (to_check.BadForm p)) e h = absurd (cc)
+command_referred given (J.Decided decision) e h = absurd (cc)
+command_referred given J.OtherOperator e h = absurd (cc)
+command_referred given J.NoReference e h = absurd (cc)
+command_referred given (J.Ahead most) e h = absurd (cc)
+command_referred given J.BadForm e h = absurd (cc)
+command_referred given (J.BadFile f) e h = absurd (cc)
+command_referred given J.MemoryError e h = absurd (cc)
+
+check_referred : (given : Option (List ℕ)) (c : ToCheck) (e : Envelope) → referred given (J.Check c) ≡ J.Check (to_check.Command e)
+    → (own : Envelope) × (J.Check c ≡ J.Check (to_check.Command own)) × (with_given given own ≡ e)
+check_referred given (to_check.Command own) e h = (own, refl, cc)
+check_referred given (to_check.BadForm p) e h = absurd (cc)
+
+alike_referred : (given : Option (List ℕ)) (body : List ℕ) (e : Envelope)
+    → (body_says (content.Command given) body ≡ J.Command e) ↔ (body_says (content.Check given) body ≡ J.Check (to_check.Command e))
+alike_referred given body e = (
+  λ h.
+      let (own, is, so) = command_referred given (command_task (line_of body)) e h in
+      ap (referred given) ((alike body own).0 is) ∙ ap (λ c. J.Check (to_check.Command c)) so,
+  λ h.
+      let (own, is, so) = check_referred given (text_checked body) e h in
+      ap (referred given) ((alike body own).1 is) ∙ ap J.Command so,
+)
+
 check_needs_none : (needed : Bool) (c : RequestTask) → lacks_needed true c ≡ false → with_reference needed c ≡ c
 check_needs_none true c h = rw h refl
 check_needs_none false c h = refl
@@ -112,14 +178,14 @@ checked terms sender said e h =
     let (is, may) = passed (is_of_other sender (operator_of said)) J.OtherOperator said (J.Check (to_check.Command e)) (λ other. cc) sent in
     (is, rw is at may, rw referenced at timely)
 
-pub checked_as_executed : (terms : Terms) (sender : Sender) (body : List ℕ) (e : Envelope)
-    → (body_task terms sender content.Command body ≡ J.Command e)
-    ↔ ((body_task terms sender content.Check body ≡ J.Check (to_check.Command e)) × (lacks_needed terms.needs_references (J.Command e) ≡ false))
-checked_as_executed terms sender body e = (
+pub checked_as_executed : (terms : Terms) (sender : Sender) (given : Option (List ℕ)) (body : List ℕ) (e : Envelope)
+    → (body_task terms sender (content.Command given) body ≡ J.Command e)
+    ↔ ((body_task terms sender (content.Check given) body ≡ J.Check (to_check.Command e)) × (lacks_needed terms.needs_references (J.Command e) ≡ false))
+checked_as_executed terms sender given body e = (
   λ h.
-      let it = executed terms sender (body_says content.Command body) e h in
-      (rw ((alike body e).0 it.is, it.may, check_needs_none terms.needs_references (J.Check (to_check.Command e)) refl, it.timely) refl, it.has),
+      let it = executed terms sender (body_says (content.Command given) body) e h in
+      (rw ((alike_referred given body e).0 it.is, it.may, check_needs_none terms.needs_references (J.Check (to_check.Command e)) refl, it.timely) refl, it.has),
   λ (h, has).
-      let (is, may, timely) = checked terms sender (body_says content.Check body) e h in
-      rw ((alike body e).1 is, may, has, timely) refl,
+      let (is, may, timely) = checked terms sender (body_says (content.Check given) body) e h in
+      rw ((alike_referred given body e).1 is, may, has, timely) refl,
 )

@@ -3,12 +3,13 @@ use Rattle.std.proofs.Common.{◌≡◌, ℕ, ◌+◌, ◌-◌, ◌<◌, ◌≤�
 use Rattle.std.specs.Io.KnownBytes.{Consumes, IsAtEnd}
 use Rattle.std.proofs.lemmas.Bool.Decides.{nat_tests}
 use Rattle.std.proofs.lemmas.List.{take-append-le, drop-append-le}
-use Rattle.plant_http_requests.specs.{end_of_head, Agrees, FindsHead, GoesOn, SpentAll, body_task, finish, EndTask, HeadTask, HeadAsksFor, AsksFor, Reads, ReadsSome, StepOf, refusal_of}
+use Rattle.plant_http_requests.specs.{end_of_head, Agrees, FindsHead, GoesOn, SpentAll, body_task, finish, EndTask, HeadTask, HeadAsksFor, AsksFor, Reads, ReadsAs, ReadsSome, StepOf, refused_task, under}
 use Rattle.plant_http_requests.specs.declared.reading.HeadEnd.{HeadEnd}
 use Rattle.plant_http_requests.specs.declared.reading.HeadEnd.TheVariants as end
 use Rattle.plant_http_requests.proofs.BodyIsOfInput.{gone_on}
 use Rattle.plant_http_requests.proofs.HeadEnds.{known_end}
-use Rattle.plant_http_requests.specs.declared.task.BodyKind.{BodyKind}
+use Rattle.plant_http_requests.specs.declared.task.BodyFields.{BodyFields}
+use Rattle.plant_http_requests.specs.declared.task.ConditionalTask.{ConditionalTask}
 use Rattle.plant_http_requests.specs.declared.task.Sender.{Sender}
 use Rattle.plant_http_requests.specs.declared.task.RequestTask.{RequestTask}
 use Rattle.plant_http_requests.specs.declared.task.HeadStep.{HeadStep}
@@ -38,31 +39,31 @@ body_short whole n len k h =
     grind (arith, nat_tests, b)
 
 -- a whole body was read
-pub whole_body : (terms : Terms) (start left : Option (List ℕ)) (old new : List ℕ) (n len : ℕ) (sender : Sender) (content : BodyKind) (step : HeadStep) (task : RequestTask) → StepOf terms (take n old) step → step ≡ Body len content sender
-    → GoesOn start left old new → n + len ≤ length new → Reads task (body_task terms sender content (slice_range new n (n + len)))
-    → (rest : List ℕ) × Agrees start rest × HeadAsksFor terms (take n old) (drop n (old ++ rest)) task
-whole_body terms start left old new n len sender content step task so is g h reads =
+pub whole_body : (terms : Terms) (start left : Option (List ℕ)) (old new : List ℕ) (n len : ℕ) (sender : Sender) (fields : BodyFields) (step : HeadStep) (task : RequestTask) → StepOf terms (take n old) step → step ≡ Body len fields sender
+    → GoesOn start left old new → n + len ≤ length new → Reads task (body_task terms sender fields.content (slice_range new n (n + len)))
+    → (rest : List ℕ) × Agrees start rest × HeadAsksFor terms (take n old) (drop n (old ++ rest)) (under fields.condition task)
+whole_body terms start left old new n len sender fields step task so is g h reads =
     let (rest, more, agrees, whole, ended) = gone_on start left old new g in
-    let asked = body_task terms sender content (slice_range new n (n + len)) in
-    (rest, agrees, (asked, (step, so, rw (is, whole, body_there new more n len h, body_part new more n len h) refl), reads))
+    let asked = under fields.condition (body_task terms sender fields.content (slice_range new n (n + len))) in
+    (rest, agrees, (asked, (step, so, rw (is, whole, body_there new more n len h, body_part new more n len h) refl), (refl, reads)))
 
 -- the input ended before the whole body
-pub cut_body : (terms : Terms) (start left : Option (List ℕ)) (old new : List ℕ) (n len : ℕ) (sender : Sender) (content : BodyKind) (step : HeadStep) (task : RequestTask) → StepOf terms (take n old) step → step ≡ Body len content sender
-    → GoesOn start left old new → length new < n + len → IsAtEnd left → n ≤ length old → task ≡ refusal_of BadRequest false
+pub cut_body : (terms : Terms) (start left : Option (List ℕ)) (old new : List ℕ) (n len : ℕ) (sender : Sender) (fields : BodyFields) (step : HeadStep) (task : ConditionalTask) → StepOf terms (take n old) step → step ≡ Body len fields sender
+    → GoesOn start left old new → length new < n + len → IsAtEnd left → n ≤ length old → task ≡ refused_task BadRequest false
     → (rest : List ℕ) × Agrees start rest × HeadAsksFor terms (take n old) (drop n (old ++ rest)) task
-cut_body terms start left old new n len sender content step task so is g short end h e =
+cut_body terms start left old new n len sender fields step task so is g short end h e =
     let (rest, more, agrees, whole, ended) = gone_on start left old new g in
     let all : old ++ rest ≡ new = rw (ended end) at whole ∙ append-nil new in
     let within : n ≤ length (old ++ rest) = omega (arith, h, length-append old rest) in
     let cut : length (old ++ rest) < n + len = rw all short in
-    (rest, agrees, (refusal_of BadRequest false, (step, so, rw (is, body_short (old ++ rest) n len within cut) refl), rw e refl))
+    (rest, agrees, (refused_task BadRequest false, (step, so, rw (is, body_short (old ++ rest) n len within cut) refl), rw e (refl, refl)))
 
 some_left : (start : Option (List ℕ)) → (left : List ℕ) × Agrees start left
 some_left None = ([], tt)
 some_left (Some left) = (left, refl)
 
 -- the head alone decides
-pub by_head : (terms : Terms) (start : Option (List ℕ)) (old : List ℕ) (n : ℕ) (step : HeadStep) (task : RequestTask) → StepOf terms (take n old) step → ((rest : List ℕ) → finish terms step rest ≡ task) → Reads task task
+pub by_head : (terms : Terms) (start : Option (List ℕ)) (old : List ℕ) (n : ℕ) (step : HeadStep) (task : ConditionalTask) → StepOf terms (take n old) step → ((rest : List ℕ) → finish terms step rest ≡ task) → ReadsAs task task
     → (rest : List ℕ) × Agrees start rest × HeadAsksFor terms (take n old) (drop n (old ++ rest)) task
 by_head terms start old n step task so is reads =
     let (rest, agrees) = some_left start in
@@ -71,8 +72,8 @@ by_head terms start old n step task so is reads =
 -- ---- inputs
 
 -- what was found of the head is so of an input, where the reader may have it
-pub from_end : (terms : Terms) (start : Option (List ℕ)) (e : HeadEnd) (task : Option RequestTask) → (whole : List ℕ) × Agrees start whole × (e ≡ end_of_head whole)
-    → ((whole : List ℕ) → (j : Option RequestTask) × EndTask terms e whole j × ReadsSome task j) → (whole : List ℕ) × Agrees start whole × AsksFor terms whole task
+pub from_end : (terms : Terms) (start : Option (List ℕ)) (e : HeadEnd) (task : Option ConditionalTask) → (whole : List ℕ) × Agrees start whole × (e ≡ end_of_head whole)
+    → ((whole : List ℕ) → (j : Option ConditionalTask) × EndTask terms e whole j × ReadsSome task j) → (whole : List ℕ) × Agrees start whole × AsksFor terms whole task
 from_end terms start e task (whole, agrees, h) f = let (j, at, reads) = f whole in (whole, agrees, (j, rw (sym h) at, reads))
 
 behind : (start left : Option (List ℕ)) (bytes rest : List ℕ) → Consumes start left bytes → Agrees left rest → Agrees start (bytes ++ rest)
@@ -81,7 +82,7 @@ behind (Some whole) None bytes rest c a = absurd c
 behind (Some whole) (Some known) bytes rest c a = ap (λ l. bytes ++ l) a ∙ sym c
 
 -- a head was found, with what it and the bytes after it ask for
-pub from_head : (terms : Terms) (start left : Option (List ℕ)) (bytes : List ℕ) (n : ℕ) (task : RequestTask) → n ≤ length bytes → Consumes start left bytes
+pub from_head : (terms : Terms) (start left : Option (List ℕ)) (bytes : List ℕ) (n : ℕ) (task : ConditionalTask) → n ≤ length bytes → Consumes start left bytes
     → FindsHead (end.Found n) bytes left → (rest : List ℕ) × Agrees left rest × HeadAsksFor terms (take n bytes) (drop n (bytes ++ rest)) task
     → (whole : List ℕ) × Agrees start whole × AsksFor terms whole (Some task)
 from_head terms start left bytes n task h c found (rest, agrees, (j, head, reads)) =

@@ -1,7 +1,7 @@
--- The fields of a request, and what they say of an order file in its body.
-use Rattle.std.specs.Prelude.{ℕ, ◌+◌, Bool, ◌==◌, List, [], ◌∷◌, map, codes, bytes_eq, Option, Some, None, option_map, option_and_then, if◌then◌else◌}
+-- The fields of a request, and what they say of its body.
+use Rattle.std.specs.Prelude.{ℕ, ◌+◌, Bool, ◌==◌, nat_le, List, [], ◌∷◌, map, codes, bytes_eq, Option, Some, None, option_map, option_and_then, if◌then◌else◌}
 use Rattle.std.specs.Char.{to_ascii_lowercase}
-use Rattle.plant_base.specs.{◌>>=◌, digits_of, is_id, is_moment, is_text, only, Stamp}
+use Rattle.plant_base.specs.{◌>>=◌, digits_of, greatest_seq, is_id, is_moment, is_text, only, Stamp}
 use Rattle.plant_orders.specs.{ImportMetadata}
 
 -- names and values, in their order
@@ -21,7 +21,26 @@ abbrev pub value_named : List ℕ → Fields → Option (List ℕ)
 value_named name [] = None
 value_named name (f ∷ fs) = if is_name name f.0 then Some f.1 else value_named name fs
 
--- ---- the moment, the operator and the reference of an order file
+-- ---- the number of accepted commands at which a body is to be done
+
+abbrev pub is_seq : ℕ → Bool
+is_seq n = nat_le n greatest_seq
+
+abbrev pub seq_in : List ℕ → Option ℕ
+seq_in text = option_and_then (only is_seq) (digits_of 16 text)
+
+-- the number that the first field Desk-Seq says
+abbrev pub seq_named : Fields → Option ℕ
+seq_named fs = option_and_then seq_in (value_named (codes "desk-seq") fs)
+
+-- at most one field Desk-Seq, in 1 to 16 digits; no condition where there is none
+unfoldable pub condition_in : Fields → Option (Option ℕ)
+condition_in fs =
+    if count_named (codes "desk-seq") fs == 0 then Some None
+    else if count_named (codes "desk-seq") fs == 1 then option_map Some (seq_named fs)
+    else None
+
+-- ---- the reference of a command, and the moment and the operator of an order file
 
 abbrev pub moment_in : List ℕ → Option ℕ
 moment_in text = option_and_then (only is_moment) (digits_of 12 text)

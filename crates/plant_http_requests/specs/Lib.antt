@@ -25,13 +25,14 @@ pub use PieceReading.{Agrees, FindsHead, GoesOn, SpentAll}
 pub use Fields.{count_named, value_named}
 pub use Origins.{is_further_host}
 pub use Heads.{Parsed, field_lines}
-pub use Steps.{fails, refusal_of, refused}
+pub use Steps.{fails, refusal_of, refused, refused_task, under}
 pub use Senders.{field_of, is_of_other, may_be, of_sender, operator_of, sender_in, sender_of}
-pub use References.{lacks_needed, lacks_reference, with_reference}
+pub use References.{lacks_needed, lacks_reference, own_or, referred, with_given, with_reference}
 pub use InTime.{ahead_or, in_time, moment_of, overrun}
-pub use Tasks.{AsksFor, EndTask, HeadAsksFor, HeadTask, TaskOf, Reads, ReadsSome, StepOf, body_task, body_says, command_task, command_of, fault_task_of, file_task, finish, is_of_body, most_reads, parsed_step}
+pub use Tasks.{AsksFor, EndTask, HeadAsksFor, HeadTask, TaskOf, Reads, ReadsAs, ReadsSome, StepOf, body_task, body_says, command_task, command_of, fault_task_of, file_task, finish, is_of_body, most_reads, parsed_step}
 pub use Progress.{HasCome, HasComeOfHead}
 pub use declared.progress.RequestProgress.{RequestProgress}
+pub use declared.task.ConditionalTask.{ConditionalTask}
 pub use declared.task.HeadDecision.{HeadDecision}
 pub use declared.task.RequestTask.{RequestTask}
 pub use declared.task.Sender.{Sender}

@@ -13,7 +13,7 @@ use Rattle.plant_http_requests.specs.declared.progress.RequestProgress.TheVarian
 -- a head of n bytes decides this, and so many bytes have come
 abbrev pub progress_after : HeadStep → ℕ → ℕ → RequestProgress
 progress_after (S.Decided decision) n came = Whole
-progress_after (S.Body size c sender) n came = if nat_le (n + size) came then Whole else LacksBody (n + size)
+progress_after (S.Body size fields sender) n came = if nat_le (n + size) came then Whole else LacksBody (n + size)
 
 -- the head has n of these bytes
 abbrev pub HasComeOfHead : Terms → ℕ → List ℕ → RequestProgress → Type 0

@@ -1,5 +1,5 @@
 -- What the head of a request decides.
-use Rattle.std.specs.Prelude.{ℕ, Bool, false, ◌||◌, List, codes, bytes_eq, Option, Some, None, Result, Ok, Err, if◌then◌else◌}
+use Rattle.std.specs.Prelude.{ℕ, Bool, false, ◌||◌, List, codes, bytes_eq, Option, Some, None, option_map, Result, Ok, Err, if◌then◌else◌}
 use Rattle.desk_page.specs.{Resource, resource_at, tag_of}
 use Rattle.plant_questions.specs.{Question}
 use Rattle.plant_http_requests.specs.Routes.{target_of}
@@ -8,7 +8,7 @@ use Rattle.plant_http_requests.specs.declared.routes.Post.{Post}
 use Rattle.plant_http_requests.specs.declared.routes.Target.{Target}
 use Rattle.plant_http_requests.specs.declared.routes.Post.TheVariants as post
 use Rattle.plant_http_requests.specs.declared.routes.Target.TheVariants as target
-use Rattle.plant_http_requests.specs.Fields.{Fields, import_metadata_in}
+use Rattle.plant_http_requests.specs.Fields.{Fields, condition_in, import_metadata_in, reference_in}
 use Rattle.plant_http_requests.specs.Framing.{framing}
 use Rattle.plant_http_requests.specs.Validators.{is_current}
 use Rattle.plant_http_requests.specs.declared.task.RequestTask.{RequestTask}
@@ -17,6 +17,8 @@ use Rattle.plant_http_requests.specs.declared.task.HeadDecision.{HeadDecision}
 use Rattle.plant_http_requests.specs.declared.task.HeadDecision.TheVariants as head
 use Rattle.plant_http_requests.specs.declared.task.BodyKind.{BodyKind}
 use Rattle.plant_http_requests.specs.declared.task.BodyKind.TheVariants as content
+use Rattle.plant_http_requests.specs.declared.task.BodyFields.{BodyFields}
+use Rattle.plant_http_requests.specs.declared.task.ConditionalTask.{ConditionalTask}
 use Rattle.plant_http_requests.specs.declared.task.HeadStep.{HeadStep}
 use Rattle.plant_http_requests.specs.declared.task.HeadStep.TheVariants as S
 use Rattle.plant_http_requests.specs.declared.profile.Profile.{Profile}
@@ -36,6 +38,13 @@ refused status silent = head.Refuse status allow.NoHeader silent
 abbrev pub refusal_of : Status → Bool → RequestTask
 refusal_of status silent = task.Decided (refused status silent)
 
+-- the task that is done at this number of accepted commands alone, or at any
+abbrev pub under : Option ℕ → RequestTask → ConditionalTask
+under condition task = record { condition = condition; task = task }
+
+abbrev pub refused_task : Status → Bool → ConditionalTask
+refused_task status silent = under None (refusal_of status silent)
+
 abbrev pub fails : Status → Bool → HeadStep
 fails status silent = S.Decided (refused status silent)
 
@@ -47,14 +56,14 @@ abbrev pub is_head : List ℕ → Bool
 is_head method = bytes_eq method (codes "HEAD")
 
 -- a POST has a length
-abbrev pub post_step : BodyKind → Sender → Option ℕ → HeadStep
-post_step c sender None = fails LengthRequired false
-post_step c sender (Some n) = S.Body n c sender
+abbrev pub post_step : BodyFields → Sender → Option ℕ → HeadStep
+post_step fields sender None = fails LengthRequired false
+post_step fields sender (Some n) = S.Body n fields sender
 
 -- a path that takes a body
-abbrev pub posted_step : BodyKind → Sender → List ℕ → Option ℕ → HeadStep
-posted_step c sender method length =
-    if bytes_eq method (codes "POST") then post_step c sender length else lacks_method allow.Post (is_head method)
+abbrev pub posted_step : BodyFields → Sender → List ℕ → Option ℕ → HeadStep
+posted_step fields sender method length =
+    if bytes_eq method (codes "POST") then post_step fields sender length else lacks_method allow.Post (is_head method)
 
 -- a path that is asked; a HEAD is answered as a GET, the body left out
 abbrev pub asked_step : Question → BodyFormat → List ℕ → HeadStep
@@ -62,15 +71,24 @@ asked_step question body_format method =
     if bytes_eq method (codes "GET") || is_head method then S.Decided (head.Ask question body_format (is_head method))
     else lacks_method allow.Get false
 
--- what a path brings by POST
-abbrev pub content_of : Post → Fields → BodyKind
-content_of post.Command fs = content.Command
-content_of post.Check fs = content.Check
-content_of post.Orders fs = content.Orders (import_metadata_in fs)
+-- what a path brings by POST, where the fields that it looks at obey their rules
+abbrev pub kind_in : Post → Fields → Option BodyKind
+kind_in post.Command fs = option_map content.Command (reference_in fs)
+kind_in post.Check fs = option_map content.Check (reference_in fs)
+kind_in post.Orders fs = option_map content.Orders (import_metadata_in fs)
+
+abbrev pub fields_where : Option (Option ℕ) → Option BodyKind → BodyFields
+fields_where None kind = record { content = content.BadFields; condition = None }
+fields_where (Some condition) None = record { content = content.BadFields; condition = None }
+fields_where (Some condition) (Some kind) = record { content = kind; condition = condition }
+
+-- what the fields of a head say of its body
+abbrev pub body_fields_in : Post → Fields → BodyFields
+body_fields_in post fs = fields_where (condition_in fs) (kind_in post fs)
 
 abbrev pub target_step : Terms → Target → List ℕ → Option ℕ → Fields → HeadStep
 target_step terms (target.Question question body_format) method length fs = asked_step question body_format method
-target_step terms (target.Post post) method length fs = posted_step (content_of post fs) (sender_in (field_of terms) fs) method length
+target_step terms (target.Post post) method length fs = posted_step (body_fields_in post fs) (sender_in (field_of terms) fs) method length
 
 abbrev pub found_step : Terms → Option Target → List ℕ → Option ℕ → Fields → HeadStep
 found_step terms None method length fs = fails NotFound (is_head method)

@@ -13,15 +13,17 @@ use Rattle.plant_http_requests.specs.HeadEnd.{end_of_head}
 use Rattle.plant_http_requests.specs.declared.reading.HeadEnd.{HeadEnd}
 use Rattle.plant_http_requests.specs.declared.reading.HeadEnd.TheVariants as end
 use Rattle.plant_http_requests.specs.Heads.{field_lines, Parsed}
-use Rattle.plant_http_requests.specs.Steps.{refusal_of, fails, request_step}
+use Rattle.plant_http_requests.specs.Steps.{refusal_of, refused_task, fails, request_step, under}
 use Rattle.plant_http_requests.specs.declared.task.RequestTask.{RequestTask}
 use Rattle.plant_http_requests.specs.declared.task.RequestTask.TheVariants.{Decided, Command, Check, OtherOperator, NoReference, Ahead, BadForm, BadFile, MemoryError}
 use Rattle.plant_http_requests.specs.declared.task.BodyKind.{BodyKind}
 use Rattle.plant_http_requests.specs.declared.task.BodyKind.TheVariants as content
+use Rattle.plant_http_requests.specs.declared.task.BodyFields.{BodyFields}
+use Rattle.plant_http_requests.specs.declared.task.ConditionalTask.{ConditionalTask}
 use Rattle.plant_http_requests.specs.declared.task.HeadStep.{HeadStep}
 use Rattle.plant_http_requests.specs.declared.task.HeadStep.TheVariants as S
 use Rattle.plant_http_requests.specs.Senders.{of_sender}
-use Rattle.plant_http_requests.specs.References.{with_reference}
+use Rattle.plant_http_requests.specs.References.{referred, with_reference}
 use Rattle.plant_http_requests.specs.InTime.{in_time}
 use Rattle.plant_http_requests.specs.declared.task.Sender.{Sender}
 use Rattle.plant_http_requests.specs.declared.profile.Terms.{Terms}
@@ -60,12 +62,12 @@ fault_task_of _ fault = BadFile fault
 abbrev pub fault_task : CsvFault → RequestTask
 fault_task fault = fault_task_of fault.kind fault
 
--- what a whole body says; the fields of an order file come before its text
+-- what a whole body says; the fields of the head that it needs come before its text
 abbrev pub body_says : BodyKind → List ℕ → RequestTask
-body_says content.Command body = command_task (line_of body)
-body_says content.Check body = Check (text_checked body)
-body_says (content.Orders None) body = refusal_of BadRequest false
-body_says (content.Orders (Some import_metadata)) body = file_task import_metadata (orders_of body)
+body_says (content.Command given) body = referred given (command_task (line_of body))
+body_says (content.Check given) body = referred given (Check (text_checked body))
+body_says (content.Orders import_metadata) body = file_task import_metadata (orders_of body)
+body_says content.BadFields body = refusal_of BadRequest false
 
 -- what it asks for: a command isn't taken that is another operator's, lacks a reference or is too far ahead of the machine's clock
 abbrev pub body_task : Terms → Sender → BodyKind → List ℕ → RequestTask
@@ -74,9 +76,10 @@ body_task terms sender c body = in_time terms (with_reference terms.needs_refere
 -- ---- heads
 
 -- what a head and the bytes after it ask for
-abbrev pub finish : Terms → HeadStep → List ℕ → RequestTask
-finish terms (S.Decided decision) rest = Decided decision
-finish terms (S.Body n c sender) rest = if nat_le n (length rest) then body_task terms sender c (take n rest) else refusal_of BadRequest false
+abbrev pub finish : Terms → HeadStep → List ℕ → ConditionalTask
+finish terms (S.Decided decision) rest = under None (Decided decision)
+finish terms (S.Body n fields sender) rest =
+    if nat_le n (length rest) then under fields.condition (body_task terms sender fields.content (take n rest)) else refused_task BadRequest false
 
 abbrev pub parsed_step : Terms → Option RequestHead → HeadStep
 parsed_step terms None = fails BadRequest false
@@ -88,19 +91,19 @@ StepOf terms head step =
     MatchBool (nat_lt 32 (field_lines head)) (step ≡ fails HeadTooLarge false)
     ((p : Option RequestHead) × Parsed head p × (step ≡ parsed_step terms p))
 
-abbrev pub HeadTask : Terms → List ℕ → List ℕ → RequestTask → Type 0
+abbrev pub HeadTask : Terms → List ℕ → List ℕ → ConditionalTask → Type 0
 HeadTask terms head rest task = (step : HeadStep) × StepOf terms head step × (task ≡ finish terms step rest)
 
 -- ---- inputs
 
-abbrev pub EndTask : Terms → HeadEnd → List ℕ → Option RequestTask → Type 0
+abbrev pub EndTask : Terms → HeadEnd → List ℕ → Option ConditionalTask → Type 0
 EndTask terms end.Nothing whole task = task ≡ None
-EndTask terms end.Early whole task = task ≡ Some (refusal_of BadRequest false)
-EndTask terms end.TooLong whole task = task ≡ Some (refusal_of HeadTooLarge false)
-EndTask terms (end.Found n) whole task = (j : RequestTask) × (task ≡ Some j) × HeadTask terms (take n whole) (drop n whole) j
+EndTask terms end.Early whole task = task ≡ Some (refused_task BadRequest false)
+EndTask terms end.TooLong whole task = task ≡ Some (refused_task HeadTooLarge false)
+EndTask terms (end.Found n) whole task = (j : ConditionalTask) × (task ≡ Some j) × HeadTask terms (take n whole) (drop n whole) j
 
--- what an input asks for by these terms: none where it has no byte
-abbrev pub TaskOf : Terms → List ℕ → Option RequestTask → Type 0
+-- what an input asks for by these terms, and under which condition: none where it has no byte
+abbrev pub TaskOf : Terms → List ℕ → Option ConditionalTask → Type 0
 TaskOf terms whole task = EndTask terms (end_of_head whole) whole task
 
 -- ---- want of memory
@@ -129,20 +132,24 @@ Reads (Ahead most) task = Ahead most ≡ task
 Reads BadForm task = BadForm ≡ task
 Reads (BadFile fault) task = BadFile fault ≡ task
 
+-- the same of a task under a condition, which is known in any case
+abbrev pub ReadsAs : ConditionalTask → ConditionalTask → Type 0
+ReadsAs read task = (read.condition ≡ task.condition) × Reads read.task task.task
+
 -- the head asks for a body of which so many bytes are too few
 abbrev pub LacksBody : Terms → List ℕ → ℕ → Type 0
-LacksBody terms head have = (size : ℕ) × (c : BodyKind) × (sender : Sender) × StepOf terms head (S.Body size c sender) × (have < size)
+LacksBody terms head have = (size : ℕ) × (fields : BodyFields) × (sender : Sender) × StepOf terms head (S.Body size fields sender) × (have < size)
 
 -- a head and the bytes after it ask for this, want of memory aside
-abbrev pub HeadAsksFor : Terms → List ℕ → List ℕ → RequestTask → Type 0
-HeadAsksFor terms head rest task = (j : RequestTask) × HeadTask terms head rest j × Reads task j
+abbrev pub HeadAsksFor : Terms → List ℕ → List ℕ → ConditionalTask → Type 0
+HeadAsksFor terms head rest task = (j : ConditionalTask) × HeadTask terms head rest j × ReadsAs task j
 
 -- the same of an option of tasks
-abbrev pub ReadsSome : Option RequestTask → Option RequestTask → Type 0
+abbrev pub ReadsSome : Option ConditionalTask → Option ConditionalTask → Type 0
 ReadsSome None task = task ≡ None
 ReadsSome (Some j) None = ⊥
-ReadsSome (Some j) (Some task) = Reads j task
+ReadsSome (Some j) (Some task) = ReadsAs j task
 
 -- the input asks for this, want of memory aside
-abbrev pub AsksFor : Terms → List ℕ → Option RequestTask → Type 0
-AsksFor terms whole task = (j : Option RequestTask) × TaskOf terms whole j × ReadsSome task j
+abbrev pub AsksFor : Terms → List ℕ → Option ConditionalTask → Type 0
+AsksFor terms whole task = (j : Option ConditionalTask) × TaskOf terms whole j × ReadsSome task j

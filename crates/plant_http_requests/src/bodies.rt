@@ -1,14 +1,14 @@
 //! What a body asks for.
 ghost use Rattle.std.specs.Prelude.{◌≡◌};
 ghost use Rattle.plant_orders.specs.{orders_of};
-ghost use Rattle.plant_text.specs.{line_of};
-ghost use Rattle.plant_http_requests.specs.declared.task.BodyKind.TheVariants as content;
+ghost use Rattle.plant_text.specs.{line_of, text_checked};
+ghost use Rattle.plant_http_requests.specs.declared.task.RequestTask.TheVariants as J;
 ghost use Rattle.plant_http_requests.specs.Tasks.{command_task, command_of};
 ghost use Rattle.plant_http_requests.specs.Tasks.{file_task, fault_task, body_task, body_says, Reads};
 
 use crate::in_time::in_time;
 use crate::profile::Terms;
-use crate::references::with_reference;
+use crate::references::{referred, with_reference};
 use crate::senders::of_sender;
 use crate::status::Status;
 use crate::steps::refusal_of;
@@ -36,7 +36,7 @@ fn command_task(alloc: Global, body: &[u8]) -> RequestTask
 }
 
 fn check_task(alloc: Global, body: &[u8]) -> RequestTask
-    ensures { Reads result (body_says content.Check body.now) }
+    ensures { Reads result (J.Check (text_checked body.now)) }
 {
     match read_to_check(alloc, body) {
         Ok(to_check) => RequestTask::Check(to_check),
@@ -63,14 +63,15 @@ fn file_task(alloc: Global, import_metadata: ImportMetadata, body: &[u8]) -> Req
 }
 
 /// What a body says that is there whole.
+#[tactic(auto, using(crate::proofs::JudgedCommands::referred_reads))]
 fn body_says(alloc: Global, content: BodyKind, body: &[u8]) -> RequestTask
     ensures { Reads result (body_says content body.now) }
 {
     match content {
-        BodyKind::Command => command_task(alloc, body),
-        BodyKind::Check => check_task(alloc, body),
-        BodyKind::Orders(Some(import_metadata)) => file_task(alloc, import_metadata, body),
-        BodyKind::Orders(None) => refusal_of(Status::BadRequest, false),
+        BodyKind::Command(given) => referred(given, command_task(alloc, body)),
+        BodyKind::Check(given) => referred(given, check_task(alloc, body)),
+        BodyKind::Orders(import_metadata) => file_task(alloc, import_metadata, body),
+        BodyKind::BadFields => refusal_of(Status::BadRequest, false),
     }
 }
 

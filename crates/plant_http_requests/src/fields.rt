@@ -1,13 +1,14 @@
-//! The fields of a request, and what they say of an order file in its body.
+//! The fields of a request, and what they say of its body.
 ghost use Rattle.std.specs.Prelude.{◌≡◌, ◌≤◌, map, length, All, option_map, IfOk, IfSome};
 ghost use Rattle.httparse.specs.Spans.{IsHeaderWithin, header_bytes};
 ghost use Rattle.plant_base.specs.{is_id, is_moment, is_text, only};
 ghost use Rattle.plant_http_requests.specs.Fields.{is_name, count_named, value_named, moment_in};
 ghost use Rattle.plant_http_requests.specs.Fields.{only_moment, operator_in, reference_in};
 ghost use Rattle.plant_http_requests.specs.Fields.{reference_named, stamp_in, import_metadata_in};
+ghost use Rattle.plant_http_requests.specs.Fields.{condition_in, seq_in, seq_named};
 
 use httparse::spans::HeaderSpan;
-use plant_base::{Id, Moment, Stamp, Text, read_digits};
+use plant_base::{GREATEST_SEQ, Id, Moment, Stamp, Text, read_digits};
 use plant_orders::ImportMetadata;
 
 /// Whether a field has this name; the case of letters doesn't count (RFC 9110, section 5.1).
@@ -46,6 +47,45 @@ pub(crate) fn value_named<'h>(
         }
     }
     None
+}
+
+/// The number of accepted commands that a text is.
+fn read_seq(text: &[u8]) -> Option<u64>
+    ensures { result ≡ seq_in text.now }
+{
+    let number = read_digits(text, 16)?;
+    if number > GREATEST_SEQ {
+        return None;
+    }
+    Some(number)
+}
+
+/// The number that the first field Desk-Seq says.
+fn seq_named(head: &[u8], fields: &[HeaderSpan]) -> Option<u64>
+    requires { All (IsHeaderWithin (length head.now)) fields.now }
+    ensures { result ≡ seq_named (map (header_bytes head.now) fields.now) }
+{
+    match value_named(head, fields, b"desk-seq") {
+        Some(text) => read_seq(text),
+        None => None,
+    }
+}
+
+/// The number of accepted commands at which alone the body is to be done, which may be left out. `None` where there are several fields
+/// Desk-Seq, or the one isn't 1 to 16 digits, or above 10^15.
+#[tactic(auto, unfolding(crate::specs::Fields::condition_in))]
+pub(crate) fn condition_in(head: &[u8], fields: &[HeaderSpan]) -> Option<Option<u64>>
+    requires { All (IsHeaderWithin (length head.now)) fields.now }
+    ensures { result ≡ condition_in (map (header_bytes head.now) fields.now) }
+{
+    let count = count_named(head, fields, b"desk-seq");
+    if count == 0 {
+        return Some(None);
+    }
+    if count != 1 {
+        return None;
+    }
+    Some(Some(seq_named(head, fields)?))
 }
 
 fn read_moment(text: &[u8]) -> Option<Moment>
@@ -92,7 +132,7 @@ fn reference_named(head: &[u8], fields: &[HeaderSpan]) -> Option<Id>
 
 /// The reference that the fields name, which may be left out. `None` where there are several or the one is no id.
 #[tactic(auto, unfolding(crate::specs::Fields::reference_in))]
-fn reference_in(head: &[u8], fields: &[HeaderSpan]) -> Option<Option<Id>>
+pub(crate) fn reference_in(head: &[u8], fields: &[HeaderSpan]) -> Option<Option<Id>>
     requires { All (IsHeaderWithin (length head.now)) fields.now }
     ensures { result ≡ reference_in (map (header_bytes head.now) fields.now) }
 {

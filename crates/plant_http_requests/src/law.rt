@@ -1,6 +1,7 @@
 //! The laws of tasks, as the contracts of functions that do nothing.
 ghost use Rattle.plant_http_requests.specs.Law.{AnInputAsksOneThing, ABodyIsCheckedAsItIsExecuted};
-ghost use Rattle.plant_http_requests.specs.Law.{AnExecutedCommandHasItsReference, AnExecutedCommandIsItsSenders};
+ghost use Rattle.plant_http_requests.specs.Law.{AnExecutedCommandHasItsCondition, AnExecutedCommandHasItsReference};
+ghost use Rattle.plant_http_requests.specs.Law.{AnExecutedCommandIsItsSenders};
 
 /// An input asks for one thing: what is said of its task isn't said of another.
 pub fn task_law()
@@ -20,4 +21,9 @@ pub fn reference_law()
 /// Where a field says whose commands a request may bring, the one that an input has executed is that operator's.
 pub fn sender_law()
     ensures { AnExecutedCommandIsItsSenders }
+{}
+
+/// A command that an input has executed is under the condition that the input's head says, and no condition is made where it says none.
+pub fn condition_law()
+    ensures { AnExecutedCommandHasItsCondition }
 {}

@@ -26,11 +26,11 @@ mod task;
 mod validators;
 
 pub use head_end::head_length;
-pub use law::{check_law, reference_law, sender_law, task_law};
+pub use law::{check_law, condition_law, reference_law, sender_law, task_law};
 pub use profile::{Profile, Terms};
 pub use progress::{RequestProgress, request_progress};
 pub use read::{MOST_READS, read_task};
 pub use reading::{HeadEnd, InputFault, LONGEST_HEAD, read_head, read_to};
 pub use routes::{BodyFormat, Post, Routes, RoutesFault, Target};
 pub use status::{Allow, Status};
-pub use task::{HeadDecision, RequestTask};
+pub use task::{ConditionalTask, HeadDecision, RequestTask};

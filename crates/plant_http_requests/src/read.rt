@@ -9,8 +9,8 @@ use crate::head::step_of_head;
 use crate::profile::Terms;
 use crate::routes::Routes;
 use crate::status::Status;
-use crate::steps::refusal_of;
-use crate::task::{HeadStep, RequestTask};
+use crate::steps::{refused_task, unconditional};
+use crate::task::{ConditionalTask, HeadStep, RequestTask};
 use crate::{HeadEnd, InputFault, read_head, read_to};
 use std::alloc::Global;
 use std::io::Read;
@@ -27,7 +27,7 @@ fn head_task<R: Read>(
     bytes: &mut Vec<u8>,
     reads: &mut u32,
     n: usize,
-) -> Result<RequestTask, InputFault>
+) -> Result<ConditionalTask, InputFault>
     requires within { n ≤ length bytes.old.items }
     requires small { length bytes.old.items ≤ 8192 }
     ensures asks { IfOk result (λ task. (left : List ℕ) × Agrees (R.remaining reader.old) left
@@ -41,29 +41,32 @@ fn head_task<R: Read>(
         step_of_head(terms, routes, head)
     };
     match step {
-        HeadStep::Decided(decision) => Ok(RequestTask::Decided(decision)),
+        HeadStep::Decided(decision) => Ok(unconditional(RequestTask::Decided(decision))),
         HeadStep::Body {
             size,
-            content,
+            fields,
             sender,
         } => {
             let want = n + size as usize;
             match read_to(reader, bytes, reads, want) {
-                Ok(true) => Ok(body_task(
-                    alloc,
-                    terms,
-                    sender,
-                    content,
-                    &bytes.as_slice()[n..want],
-                )),
-                Ok(false) => Ok(refusal_of(Status::BadRequest, false)),
+                Ok(true) => Ok(ConditionalTask {
+                    condition: fields.condition,
+                    task: body_task(
+                        alloc,
+                        terms,
+                        sender,
+                        fields.content,
+                        &bytes.as_slice()[n..want],
+                    ),
+                }),
+                Ok(false) => Ok(refused_task(Status::BadRequest, false)),
                 Err(fault) => Err(fault),
             }
         }
     }
 }
 
-/// What the input asks for, by these terms. `None` where it ended without a byte.
+/// What the input asks for, by these terms, and under which condition. `None` where it ended without a byte.
 ///
 /// The head ends at its first empty line, within 8,192 bytes. A body is read where the head asks for one, and not beyond its length;
 /// where the head alone decides, no read follows the one that ended it. The result depends on the bytes of the input and not on the pieces
@@ -76,7 +79,7 @@ pub fn read_task<R: Read>(
     routes: &Routes,
     terms: Terms<'_>,
     reader: &mut R,
-) -> Result<Option<RequestTask>, InputFault>
+) -> Result<Option<ConditionalTask>, InputFault>
     ensures asks { IfOk result (λ task. (whole : List ℕ) × Agrees (R.remaining reader.old) whole
         × AsksFor terms.entry whole task) }
     ensures endless { IsErrOf result InputFault.Endless → SpentAll most_reads
@@ -86,8 +89,8 @@ pub fn read_task<R: Read>(
     let mut reads = MOST_READS;
     match read_head(reader, &mut bytes, &mut reads) {
         Ok(HeadEnd::Nothing) => Ok(None),
-        Ok(HeadEnd::Early) => Ok(Some(refusal_of(Status::BadRequest, false))),
-        Ok(HeadEnd::TooLong) => Ok(Some(refusal_of(Status::HeadTooLarge, false))),
+        Ok(HeadEnd::Early) => Ok(Some(refused_task(Status::BadRequest, false))),
+        Ok(HeadEnd::TooLong) => Ok(Some(refused_task(Status::HeadTooLarge, false))),
         Ok(HeadEnd::Found(n)) => {
             match head_task(alloc, routes, terms, reader, &mut bytes, &mut reads, n) {
                 Ok(task) => Ok(Some(task)),

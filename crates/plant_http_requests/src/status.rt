@@ -17,6 +17,8 @@ pub enum Status {
     Conflict,
     /// 411 Length Required (section 15.5.12): a POST has no Content-Length.
     LengthRequired,
+    /// 412 Precondition Failed (section 15.5.13): the desk has accepted another number of commands than Desk-Seq says.
+    PreconditionFailed,
     /// 413 (section 15.5.14, there Content Too Large): Content-Length is above 262,144.
     PayloadTooLarge,
     /// 431 Request Header Fields Too Large (RFC 6585, section 5): the head is above 8,192 bytes or 32 lines of fields.

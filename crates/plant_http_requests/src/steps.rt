@@ -2,17 +2,19 @@
 ghost use Rattle.std.specs.Prelude.{◌≡◌, bytes_eq, length, map, option_copied, All};
 ghost use Rattle.httparse.specs.Spans.{IsHeaderWithin, IsWithin, header_bytes, span_bytes};
 ghost use Rattle.plant_http_requests.specs.Steps.{refused, refusal_of, fails, lacks_method, is_head, post_step};
-ghost use Rattle.plant_http_requests.specs.Steps.{posted_step, asked_step, content_of};
+ghost use Rattle.plant_http_requests.specs.Steps.{posted_step, asked_step, body_fields_in, kind_in, refused_task, under};
 ghost use Rattle.plant_http_requests.specs.Steps.{target_step, resource_for, resource_step};
 ghost use Rattle.plant_http_requests.specs.Steps.{routed_step, request_step, asks_operator, operator_step, unpaged_step};
 
-use crate::fields::import_metadata_in;
+use crate::fields::{condition_in, import_metadata_in, reference_in};
 use crate::framing::framing;
 use crate::profile::{Profile, Terms};
 use crate::routes::{BodyFormat, Post, Routes, Target};
 use crate::senders::sender_in;
 use crate::status::{Allow, Status};
-use crate::task::{BodyKind, HeadDecision, HeadStep, RequestTask, Sender};
+use crate::task::{
+    BodyFields, BodyKind, ConditionalTask, HeadDecision, HeadStep, RequestTask, Sender,
+};
 use crate::validators::is_current;
 use desk_page::{Resource, resource_at, tag_of};
 use http::Method;
@@ -35,6 +37,23 @@ pub(crate) fn refusal_of(status: Status, silent: bool) -> RequestTask
     ensures { result ≡ refusal_of status silent }
 {
     RequestTask::Decided(refused(status, silent))
+}
+
+/// The task that is done whatever number of commands was accepted.
+pub(crate) fn unconditional(task: RequestTask) -> ConditionalTask
+    ensures { result ≡ under None task }
+{
+    ConditionalTask {
+        condition: None,
+        task,
+    }
+}
+
+/// The same of a request that is answered by a status alone.
+pub(crate) fn refused_task(status: Status, silent: bool) -> ConditionalTask
+    ensures { result ≡ refused_task status silent }
+{
+    unconditional(refusal_of(status, silent))
 }
 
 /// The step of such a request.
@@ -71,14 +90,14 @@ fn is_head(method: &[u8]) -> bool
 
 /// A path that takes a body by POST.
 /// It has to name the body's length, or it is answered 411 (RFC 9112, section 6.3).
-fn posted_step(content: BodyKind, sender: Sender, method: &[u8], size: Option<u32>) -> HeadStep
-    ensures { result ≡ posted_step content sender method.now size }
+fn posted_step(fields: BodyFields, sender: Sender, method: &[u8], size: Option<u32>) -> HeadStep
+    ensures { result ≡ posted_step fields sender method.now size }
 {
     if is_method(method, &Method::POST) {
         return match size {
             Some(size) => HeadStep::Body {
                 size,
-                content,
+                fields,
                 sender,
             },
             None => fails(Status::LengthRequired, false),
@@ -102,16 +121,34 @@ fn asked_step(question: Question, body_format: BodyFormat, method: &[u8]) -> Hea
     lacks_method(Allow::Get, false)
 }
 
-/// What a path brings by POST.
-fn content_of(head: &[u8], fields: &[HeaderSpan], post: Post) -> BodyKind
+/// What a path brings by POST. `None` where a field that it looks at breaks its rule.
+fn kind_in(head: &[u8], fields: &[HeaderSpan], post: Post) -> Option<BodyKind>
     requires { All (IsHeaderWithin (length head.now)) fields.now }
-    ensures { result ≡ content_of post (map (header_bytes head.now) fields.now) }
+    ensures { result ≡ kind_in post (map (header_bytes head.now) fields.now) }
 {
     match post {
-        Post::Command => BodyKind::Command,
-        Post::Check => BodyKind::Check,
-        Post::Orders => BodyKind::Orders(import_metadata_in(head, fields)),
+        Post::Command => Some(BodyKind::Command(reference_in(head, fields)?)),
+        Post::Check => Some(BodyKind::Check(reference_in(head, fields)?)),
+        Post::Orders => Some(BodyKind::Orders(import_metadata_in(head, fields)?)),
     }
+}
+
+/// What the fields of a head say of the body that a path brings by POST.
+fn body_fields_in(head: &[u8], fields: &[HeaderSpan], post: Post) -> BodyFields
+    requires { All (IsHeaderWithin (length head.now)) fields.now }
+    ensures { result ≡ body_fields_in post (map (header_bytes head.now) fields.now) }
+{
+    let bad_fields = BodyFields {
+        content: BodyKind::BadFields,
+        condition: None,
+    };
+    let Some(condition) = condition_in(head, fields) else {
+        return bad_fields;
+    };
+    let Some(content) = kind_in(head, fields, post) else {
+        return bad_fields;
+    };
+    BodyFields { content, condition }
 }
 
 fn target_step(
@@ -128,7 +165,7 @@ fn target_step(
     match target {
         Target::Question(question, body_format) => asked_step(question, body_format, method),
         Target::Post(post) => posted_step(
-            content_of(head, fields, post),
+            body_fields_in(head, fields, post),
             sender_in(head, fields, terms.operator_field),
             method,
             size,

@@ -1,7 +1,7 @@
 use crate::routes::BodyFormat;
 use crate::status::{Allow, Status};
 use desk_page::Resource;
-use plant_base::{Envelope, Text};
+use plant_base::{Envelope, Id, Text};
 use plant_orders::{CsvFault, ImportMetadata};
 use plant_questions::Question;
 use plant_text::ToCheck;
@@ -68,16 +68,35 @@ pub enum RequestTask {
     MemoryError,
 }
 
+/// A task, and when it is done.
+#[derive(Drop)]
+pub struct ConditionalTask {
+    /// The number of accepted commands, at most 10^15, at which alone the task is done; `None` where it is done at any.
+    pub condition: Option<u64>,
+    /// The task.
+    pub task: RequestTask,
+}
+
 /// What a body is to be.
 #[derive(Clone, Copy, Debug, PartialEq, Eq)]
 pub(crate) enum BodyKind {
-    /// One command.
-    Command,
-    /// One command, which is to be checked.
-    Check,
-    /// An order file, to be taken with this moment and operator and under this reference; `None` where the fields of the
-    /// head don't name them as they should.
-    Orders(Option<ImportMetadata>),
+    /// One command, with this reference where it says none itself.
+    Command(Option<Id>),
+    /// One command, which is to be checked, with this reference where it says none itself.
+    Check(Option<Id>),
+    /// An order file, to be taken with this moment and operator and under this reference.
+    Orders(ImportMetadata),
+    /// A body whose fields in the head break their rules: it isn't looked at.
+    BadFields,
+}
+
+/// What the fields of a head say of its body.
+#[derive(Clone, Copy, Debug, PartialEq, Eq)]
+pub(crate) struct BodyFields {
+    /// What the body is to be.
+    pub(crate) content: BodyKind,
+    /// The number of accepted commands at which alone it is to be done; `None` where it is done at any.
+    pub(crate) condition: Option<u64>,
 }
 
 /// Whose commands a request may bring.
@@ -99,7 +118,7 @@ pub(crate) enum HeadStep {
     /// A body of so many bytes, at most 262,144, is to be read.
     Body {
         size: u32,
-        content: BodyKind,
+        fields: BodyFields,
         sender: Sender,
     },
 }

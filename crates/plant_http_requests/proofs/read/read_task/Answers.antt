@@ -1,20 +1,20 @@
 use Rattle.std.proofs.Common.{◌≡◌, Some, Err, false, refl, ap}
 use Rattle.plant_http_requests.specs.declared.reading.HeadEnd.TheVariants as end
 use Rattle.plant_http_requests.specs.declared.reading.InputFault.TheVariants as fault
-use Rattle.plant_http_requests.specs.{most_reads, refusal_of}
+use Rattle.plant_http_requests.specs.{most_reads, refused_task}
 use Rattle.plant_http_requests.specs.declared.status.Status.TheVariants as status
 use Rattle.plant_http_requests.proofs.WholeInput.{from_end, from_head, spent_more}
 use Rattle.plant_http_requests.proofs.read.read_task.Goals as goal
 
 pub returns-in-Ok-Early-clause-asks : goal.returns-in-Ok-Early-clause-asks
 returns-in-Ok-Early-clause-asks g c =
-    from_end _ _ end.Early (Some c.refusal_of.result) (rw c.in-Ok-Early.field-0-is at c.in-Ok-Early.ensures.end)
-    (λ whole. (Some (refusal_of status.BadRequest false), refl, rw c.refusal_of.ensures refl))
+    from_end _ _ end.Early (Some c.refused_task.result) (rw c.in-Ok-Early.field-0-is at c.in-Ok-Early.ensures.end)
+    (λ whole. (Some (refused_task status.BadRequest false), refl, rw c.refused_task.ensures (refl, refl)))
 
 pub returns-in-Ok-TooLong-clause-asks : goal.returns-in-Ok-TooLong-clause-asks
 returns-in-Ok-TooLong-clause-asks g c =
-    from_end _ _ end.TooLong (Some c.refusal_of-in-Ok-TooLong.result) (rw c.in-Ok-TooLong.field-0-is at c.in-Ok-TooLong.ensures.end)
-    (λ whole. (Some (refusal_of status.HeadTooLarge false), refl, rw c.refusal_of-in-Ok-TooLong.ensures refl))
+    from_end _ _ end.TooLong (Some c.refused_task-in-Ok-TooLong.result) (rw c.in-Ok-TooLong.field-0-is at c.in-Ok-TooLong.ensures.end)
+    (λ whole. (Some (refused_task status.HeadTooLarge false), refl, rw c.refused_task-in-Ok-TooLong.ensures (refl, refl)))
 
 pub returns-in-Ok-clause-asks : goal.returns-in-Ok-clause-asks
 returns-in-Ok-clause-asks g c =

@@ -1,3 +1,4 @@
 pub mod TaskPerforms
+pub mod ConditionPerforms
 pub mod RequestOfInput
 mod ShortTexts

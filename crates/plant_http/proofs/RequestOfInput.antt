@@ -5,7 +5,7 @@ use Rattle.std.specs.Io.KnownBytes.{Keeps}
 use Rattle.std.proofs.lemmas.Bool.Decides.{nat_tests}
 use Rattle.plant_base.specs.{State}
 use Rattle.plant_desk.specs.{States}
-use Rattle.plant_http_requests.specs.{end_of_head, end_where, Agrees, SpentAll, AsksFor, EndTask, InputFault, RequestTask, Terms}
+use Rattle.plant_http_requests.specs.{end_of_head, end_where, Agrees, SpentAll, AsksFor, ConditionalTask, EndTask, InputFault, Terms}
 use Rattle.plant_http_requests.specs.declared.reading.HeadEnd.{HeadEnd}
 use Rattle.plant_http_requests.specs.declared.reading.HeadEnd.TheVariants as head
 use Rattle.plant_http.specs.{Serves, ServesShut, AnswersTaskShut, dated, end_of}
@@ -16,7 +16,7 @@ use Rattle.plant_http.specs.declared.serve.Served.{Served}
 use Rattle.plant_http.specs.declared.serve.Served.TheVariants.{Answered, Nothing}
 use Rattle.plant_http.specs.declared.serve.ServeFault.{ServeFault}
 use Rattle.plant_http.specs.declared.serve.ServeFault.TheVariants as end
-use Rattle.plant_http.proofs.TaskPerforms.{reads_performs, reads_silent, reads_shut}
+use Rattle.plant_http.proofs.ConditionPerforms.{conditional_performs, conditional_silent, conditional_shut}
 
 pub known_kept : (a : Option (List ℕ)) → Keeps a a
 known_kept None = tt
@@ -80,7 +80,7 @@ fault_shut terms whole text input.Memory h = known_kept text
 
 -- ---- a task that is there
 
-pub serves_by_task : (terms : Terms) (k : ℕ) (s : State) (whole : List ℕ) (task : RequestTask) (old new : Option (List ℕ)) (represents : States) (shut : Bool) (crash_states : States → Type 0) (r : Result Served ServeFault)
+pub serves_by_task : (terms : Terms) (k : ℕ) (s : State) (whole : List ℕ) (task : ConditionalTask) (old new : Option (List ℕ)) (represents : States) (shut : Bool) (crash_states : States → Type 0) (r : Result Served ServeFault)
     → AsksFor terms whole (Some task) → Answers (dated terms) k s task old new represents shut crash_states r → Serves terms k s whole old new represents shut crash_states r
 serves_by_task terms k s whole task old new represents shut crash_states (Ok Nothing) a h = absurd h
 serves_by_task terms k s whole task old new represents shut crash_states (Err end.Read) a h = absurd h
@@ -89,11 +89,11 @@ serves_by_task terms k s whole task old new represents shut crash_states (Err en
 serves_by_task terms k s whole task old new represents shut crash_states (Ok (Answered code)) (None, is, reads) h = absurd reads
 serves_by_task terms k s whole task old new represents shut crash_states (Err end.Write) (None, is, reads) h = absurd reads
 serves_by_task terms k s whole task old new represents shut crash_states (Ok (Answered code)) (Some j, is, reads) (out, did, is_code, wrote) =
-    (j, is, out, reads_performs k s task j out represents shut crash_states reads did, (is_code, rw (sym (reads_silent task j reads)) wrote))
+    (j, is, out, conditional_performs k s task j out represents shut crash_states reads did, (is_code, rw (sym (conditional_silent task j reads)) wrote))
 serves_by_task terms k s whole task old new represents shut crash_states (Err end.Write) (Some j, is, reads) (out, did, wrote) =
-    (j, is, out, reads_performs k s task j out represents shut crash_states reads did, rw (sym (reads_silent task j reads)) wrote)
+    (j, is, out, conditional_performs k s task j out represents shut crash_states reads did, rw (sym (conditional_silent task j reads)) wrote)
 
-pub shut_by_task : (terms : Terms) (whole : List ℕ) (task : RequestTask) (old new : Option (List ℕ)) (r : Result Served ServeFault)
+pub shut_by_task : (terms : Terms) (whole : List ℕ) (task : ConditionalTask) (old new : Option (List ℕ)) (r : Result Served ServeFault)
     → AsksFor terms whole (Some task) → AnswersTaskShut (dated terms) task old new r → ServesShut terms whole old new r
 shut_by_task terms whole task old new (Ok Nothing) a h = absurd h
 shut_by_task terms whole task old new (Err end.Read) a h = absurd h
@@ -102,9 +102,9 @@ shut_by_task terms whole task old new (Err end.Memory) a h = absurd h
 shut_by_task terms whole task old new (Ok (Answered code)) (None, is, reads) h = absurd reads
 shut_by_task terms whole task old new (Err end.Write) (None, is, reads) h = absurd reads
 shut_by_task terms whole task old new (Ok (Answered code)) (Some j, is, reads) (out, done, is_code, wrote) =
-    (j, is, out, reads_shut task j out reads done, (is_code, rw (sym (reads_silent task j reads)) wrote))
+    (j, is, out, conditional_shut task j out reads done, (is_code, rw (sym (conditional_silent task j reads)) wrote))
 shut_by_task terms whole task old new (Err end.Write) (Some j, is, reads) (out, done, wrote) =
-    (j, is, out, reads_shut task j out reads done, rw (sym (reads_silent task j reads)) wrote)
+    (j, is, out, conditional_shut task j out reads done, rw (sym (conditional_silent task j reads)) wrote)
 
 -- ---- no task
 

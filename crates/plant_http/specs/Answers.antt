@@ -1,5 +1,5 @@
 -- What is answered to a task.
-use Rattle.std.specs.Prelude.{◌≡◌, ℕ, Bool, false, ◌||◌, List, [], ◌∷◌, ◌++◌, length, codes, decimal, string_bytes, if◌then◌else◌, ◌==◌, ◌⊎◌, Option, Some, None, Result, Ok, Err}
+use Rattle.std.specs.Prelude.{◌≡◌, ℕ, Bool, true, false, ◌||◌, List, [], ◌∷◌, ◌++◌, length, codes, decimal, string_bytes, if◌then◌else◌, ◌==◌, ◌⊎◌, Option, Some, None, Result, Ok, Err}
 use Rattle.httpdate.specs.Date.{date_text}
 use Rattle.httpdate.specs.declared.date.HttpDate.{HttpDate}
 use Rattle.desk_page.specs.{Resource, bytes_of, media_type_of, tag_of}
@@ -18,7 +18,7 @@ use Rattle.plant_text_answers.specs.{record_text}
 use Rattle.plant_text_answers.specs.{text_of_answer, reply_text, fault_text}
 use Rattle.plant_text_checks.specs.{check_text, check_answer, CheckAnswer}
 use Rattle.plant_text.specs.{check_when_shut}
-use Rattle.plant_http_requests.specs.{Allow, HeadDecision, RequestTask, Profile, Status, Terms}
+use Rattle.plant_http_requests.specs.{Allow, ConditionalTask, HeadDecision, RequestTask, Profile, Status, Terms}
 use Rattle.plant_http_requests.specs.declared.profile.Profile.TheVariants as profile
 use Rattle.plant_http_requests.specs.{BodyFormat}
 use Rattle.plant_http_requests.specs.declared.task.HeadDecision.TheVariants as head
@@ -43,6 +43,7 @@ code_of st.NotFound = 404
 code_of st.MethodNotAllowed = 405
 code_of st.Conflict = 409
 code_of st.LengthRequired = 411
+code_of st.PreconditionFailed = 412
 code_of st.PayloadTooLarge = 413
 code_of st.HeadTooLarge = 431
 code_of st.NotImplemented = 501
@@ -57,6 +58,7 @@ phrase_of st.NotFound = codes "Not Found"
 phrase_of st.MethodNotAllowed = codes "Method Not Allowed"
 phrase_of st.Conflict = codes "Conflict"
 phrase_of st.LengthRequired = codes "Length Required"
+phrase_of st.PreconditionFailed = codes "Precondition Failed"
 phrase_of st.PayloadTooLarge = codes "Payload Too Large"
 phrase_of st.HeadTooLarge = codes "Request Header Fields Too Large"
 phrase_of st.NotImplemented = codes "Not Implemented"
@@ -135,6 +137,10 @@ status_text status = codes "{\"status\":" ++ decimal (code_of status) ++ codes "
 abbrev pub ahead_text : ℕ → List ℕ
 ahead_text most = codes "{\"ahead\":" ++ decimal most ++ codes ",\"status\":400}"
 
+-- another number of accepted commands than was asked for
+abbrev pub seq_text : ℕ → List ℕ
+seq_text seq = codes "{\"seq\":" ++ decimal seq ++ codes ",\"status\":412}"
+
 -- a byte of a text as a string of JSON has it: a quotation mark and a backslash come after a backslash
 abbrev pub escaped_byte : ℕ → List ℕ
 escaped_byte b = if (b == 34) || (b == 92) then 92 ∷ b ∷ [] else b ∷ []
@@ -173,6 +179,9 @@ reference_out = json_out st.BadRequest reference_text
 
 abbrev pub ahead_out : ℕ → Out
 ahead_out most = json_out st.BadRequest (ahead_text most)
+
+abbrev pub seq_out : ℕ → Out
+seq_out seq = json_out st.PreconditionFailed (seq_text seq)
 
 abbrev pub csv_out : CsvFault → Out
 csv_out f = json_out st.BadRequest (csv_text f)
@@ -250,33 +259,55 @@ is_silent_decision (head.Operator operator silent) = silent
 is_silent_decision (head.Resource resource is_current silent) = is_current || silent
 
 -- what is answered to a task by a keeper of schema k that represents s
-abbrev pub out_of : ℕ → State → RequestTask → Out
-out_of k s (J.Decided decision) = decision_out k s decision
-out_of k s (J.Command e) = reply_out (reply s e)
-out_of k s (J.Check c) = check_out (check_answer s c)
-out_of k s J.OtherOperator = error_out st.Forbidden NoHeader
-out_of k s J.NoReference = reference_out
-out_of k s (J.Ahead most) = ahead_out most
-out_of k s J.BadForm = reply_out (Refused BadForm)
-out_of k s (J.BadFile f) = csv_out f
-out_of k s J.MemoryError = fault_out fault.Memory
+abbrev pub task_out : ℕ → State → RequestTask → Out
+task_out k s (J.Decided decision) = decision_out k s decision
+task_out k s (J.Command e) = reply_out (reply s e)
+task_out k s (J.Check c) = check_out (check_answer s c)
+task_out k s J.OtherOperator = error_out st.Forbidden NoHeader
+task_out k s J.NoReference = reference_out
+task_out k s (J.Ahead most) = ahead_out most
+task_out k s J.BadForm = reply_out (Refused BadForm)
+task_out k s (J.BadFile f) = csv_out f
+task_out k s J.MemoryError = fault_out fault.Memory
 
 -- what is answered to it by a keeper that is shut: the fault 3 where it is asked
-abbrev pub shut_out : RequestTask → Out
-shut_out (J.Decided decision) = decision_shut decision
-shut_out (J.Command e) = fault_out fault.Shut
-shut_out (J.Check c) = checked_out (check_when_shut c)
-shut_out J.OtherOperator = error_out st.Forbidden NoHeader
-shut_out J.NoReference = reference_out
-shut_out (J.Ahead most) = ahead_out most
-shut_out J.BadForm = reply_out (Refused BadForm)
-shut_out (J.BadFile f) = csv_out f
-shut_out J.MemoryError = fault_out fault.Memory
+abbrev pub task_shut : RequestTask → Out
+task_shut (J.Decided decision) = decision_shut decision
+task_shut (J.Command e) = fault_out fault.Shut
+task_shut (J.Check c) = checked_out (check_when_shut c)
+task_shut J.OtherOperator = error_out st.Forbidden NoHeader
+task_shut J.NoReference = reference_out
+task_shut (J.Ahead most) = ahead_out most
+task_shut J.BadForm = reply_out (Refused BadForm)
+task_shut (J.BadFile f) = csv_out f
+task_shut J.MemoryError = fault_out fault.Memory
 
 -- whether the body of a task's answer is left out
-abbrev pub is_silent : RequestTask → Bool
-is_silent (J.Decided decision) = is_silent_decision decision
-is_silent _ = false
+abbrev pub is_silent_task : RequestTask → Bool
+is_silent_task (J.Decided decision) = is_silent_decision decision
+is_silent_task _ = false
+
+-- ---- tasks under a condition
+
+-- so many commands were accepted, where a number is asked for
+abbrev pub is_met : Option ℕ → State → Bool
+is_met None s = true
+is_met (Some n) s = s.seq == n
+
+-- what is answered to a task under its condition: where that isn't met, the number of accepted commands
+abbrev pub out_of : ℕ → State → ConditionalTask → Out
+out_of k s t = if is_met t.condition s then task_out k s t.task else seq_out s.seq
+
+abbrev pub shut_under : Option ℕ → RequestTask → Out
+shut_under None task = task_shut task
+shut_under (Some n) task = fault_out fault.Shut
+
+-- what is answered to it by a keeper that is shut, which is asked for the number first
+abbrev pub shut_out : ConditionalTask → Out
+shut_out t = shut_under t.condition t.task
+
+abbrev pub is_silent : ConditionalTask → Bool
+is_silent t = is_silent_task t.task
 
 -- the time that an answer carries: with the page, that of the machine
 abbrev pub dated_by : Profile → Option HttpDate → Option HttpDate

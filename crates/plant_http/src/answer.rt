@@ -1,13 +1,13 @@
 //! Answers, before they are written.
 ghost use Rattle.std.specs.Prelude.{◌≡◌, ◌⊎◌, ◌||◌, false, IfOk, string_bytes};
 ghost use Rattle.plant_base.specs.{number_of};
-ghost use Rattle.plant_http.specs.Answers.{ahead_out, body_bytes, Is, error_out, fault_out, csv_out, operator_out, reference_out};
+ghost use Rattle.plant_http.specs.Answers.{ahead_out, body_bytes, Is, error_out, fault_out, csv_out, operator_out, reference_out, seq_out};
 ghost use Rattle.plant_http.specs.Answers.{reply_out, answer_out, text_in, refused_status};
 ghost use Rattle.plant_http.specs.Answers.{reply_status, answer_status, body_format_for, resource_status, resource_out};
 ghost use Rattle.plant_http.specs.Answers.{check_out};
 
 use crate::fixed_text::{
-    FixedText, ahead_text, csv_text, operator_text, reference_text, status_text,
+    FixedText, ahead_text, csv_text, operator_text, reference_text, seq_text, status_text,
 };
 use crate::media::{MediaType, media_of};
 use desk_page::{Resource, bytes_of};
@@ -136,6 +136,17 @@ pub(crate) fn ahead_answer(most: u32) -> Response
     ensures { Is (ahead_out most) false result }
 {
     json(Status::BadRequest, Body::Short(ahead_text(most)), false)
+}
+
+/// The number of accepted commands, where another one was asked for. It takes no memory.
+pub(crate) fn seq_answer(seq: u64, silent: bool) -> Response
+    ensures { Is (seq_out seq) silent result }
+{
+    json(
+        Status::PreconditionFailed,
+        Body::Short(seq_text(seq)),
+        silent,
+    )
 }
 
 /// The fault of an order file.

@@ -1,7 +1,7 @@
 //! Short texts in a room of fixed size.
 ghost use Rattle.std.specs.Prelude.{◌≡◌, ◌+◌, ◌*◌, ◌≤◌, ◌++◌, [], length, decimal};
 ghost use Rattle.plant_orders.specs.{kind_name};
-ghost use Rattle.plant_http.specs.Answers.{ahead_text, head_text, date_line, resource_lines, security_header_lines, validator_lines, status_text, csv_text, reference_text};
+ghost use Rattle.plant_http.specs.Answers.{ahead_text, head_text, date_line, resource_lines, security_header_lines, validator_lines, status_text, csv_text, reference_text, seq_text};
 ghost use Rattle.plant_http.specs.Answers.{escaped, escaped_byte, operator_text};
 
 use crate::media::{MediaType, policy, type_of};
@@ -222,6 +222,17 @@ pub(crate) fn ahead_text(most: u32) -> FixedText
     text.push("{\"ahead\":");
     text.push_number(u64::from(most));
     text.push(",\"status\":400}");
+    text
+}
+
+/// `{"seq":SEQ,"status":412}`
+pub(crate) fn seq_text(seq: u64) -> FixedText
+    ensures { result ≡ seq_text seq }
+{
+    let mut text = FixedText::new();
+    text.push("{\"seq\":");
+    text.push_number(seq);
+    text.push(",\"status\":412}");
     text
 }
 

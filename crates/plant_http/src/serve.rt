@@ -12,7 +12,7 @@ use crate::send::send;
 use crate::status::code_of;
 use httpdate::HttpDate;
 use plant_desk::Keeper;
-use plant_http_requests::{InputFault, Profile, RequestTask, Routes, Terms, read_task};
+use plant_http_requests::{ConditionalTask, InputFault, Profile, Routes, Terms, read_task};
 use std::alloc::Global;
 use std::io::{Read, Write};
 use thiserror::Error;
@@ -70,7 +70,7 @@ fn answer_task<W: Write, K: Keeper>(
     date: Option<HttpDate>,
     writer: &mut W,
     keeper: &mut K,
-    task: &RequestTask,
+    task: &ConditionalTask,
 ) -> Result<Served, ServeFault>
     ensures same { IsSameDesk K.honest K.schema K.foreign_tables keeper.old keeper.new }
     ensures answers { K.honest keeper.new → K.shut keeper.old ≡ false → (s : State) → K.represents keeper.old s
@@ -95,7 +95,8 @@ fn answer_task<W: Write, K: Keeper>(
 /// taken. Only a keeper's fault and want of memory for what a body says or for an answer's text are answered 503.
 ///
 /// The terms say which requests are served, whether the page is, whose commands a request may bring, whether they need references, and how far they
-/// may be ahead of the machine's clock: another one is answered 403 or 400 before the keeper is asked. No keeper is asked for a resource of the page: one that is shut serves it too.
+/// may be ahead of the machine's clock: another one is answered 403 or 400 before the keeper executes it, and where its head says a number of accepted
+/// commands, after the keeper was asked for it: at another one nothing is executed, and the answer is 412. No keeper is asked for a resource of the page: one that is shut serves it too.
 ///
 /// What is written depends on the bytes of the input and not on the pieces in which they come, but for `Endless`.
 ///

@@ -19,6 +19,7 @@ fn status_code(status: Status) -> StatusCode
         Status::MethodNotAllowed => StatusCode::METHOD_NOT_ALLOWED,
         Status::Conflict => StatusCode::CONFLICT,
         Status::LengthRequired => StatusCode::LENGTH_REQUIRED,
+        Status::PreconditionFailed => StatusCode::PRECONDITION_FAILED,
         Status::PayloadTooLarge => StatusCode::PAYLOAD_TOO_LARGE,
         Status::HeadTooLarge => StatusCode::REQUEST_HEADER_FIELDS_TOO_LARGE,
         Status::NotImplemented => StatusCode::NOT_IMPLEMENTED,

@@ -13,8 +13,8 @@ use Rattle.plant_questions.specs.declared.reply.DeskFault.TheVariants.{Store, Me
 use Rattle.plant_text.specs.{RepresentsDurably, Entry, nothing, bad, command, question, check, after, CrashStatesOfFault, CrashStatesOfStoreFault}
 use Rattle.plant_text.proofs.RunCrashStates.{CrashStateIsOwn}
 use Rattle.plant_http_requests.specs.{Terms}
-use Rattle.plant_http.specs.{entry_of, fault_out, Performs, Serves, ServeFault, Served}
-use Rattle.plant_http.specs.Serving.{may_fail}
+use Rattle.plant_http.specs.{entry_of, fault_out, FailsAt, Performs, Serves, ServeFault, Served}
+use Rattle.plant_http.proofs.ConditionPerforms.{command_at, fails_may}
 use Rattle.plant_http.specs.declared.serve.Served.TheVariants.{Answered, Nothing}
 use Rattle.plant_http.specs.declared.serve.ServeFault.TheVariants as end
 use Rattle.desk_server.specs.Traffic.{Traffic}
@@ -36,35 +36,35 @@ pub made_open : (terms : Terms) (k : ℕ) (s : State) (journal : List (Exchange 
 made_open terms k s journal represents false crash_states is_live made = made
 made_open terms k s journal represents true crash_states is_live made = absurd (cc)
 
--- a fault of the store at a task that was this to the keeper
-store_made : (terms : Terms) (k : ℕ) (s t : State) (journal : List (Exchange terms)) (x : Exchange terms) (e : Entry) → entry_of x.asked.task ≡ e → may_fail x.asked.task ≡ true → x.out ≡ fault_out Store
+-- a fault of the store at a task, or at the question for the number before it, that was this to the keeper
+store_made : (terms : Terms) (k : ℕ) (s t : State) (journal : List (Exchange terms)) (x : Exchange terms) (e : Entry) → FailsAt t x.asked.task e → x.out ≡ fault_out Store
     → (represents : States) (shut : Bool) (crash_states : States → Type 0) → CrashStateIsOwn represents shut crash_states → IsJournal k s journal t → Lacks x.number journal
     → represents t → CrashStatesOfStoreFault t e shut crash_states → HasMade terms k s (x ∷ journal) represents shut crash_states
-store_made terms k s t journal x nothing is may out represents shut crash_states law leads lacks same left = absurd left
-store_made terms k s t journal x bad is may out represents shut crash_states law leads lacks same left = absurd left
-store_made terms k s t journal x (command c) is may out represents true crash_states law leads lacks same (closed, either) = (t, leads, lacks, out, (same, rw is either))
-store_made terms k s t journal x (command c) is may out represents false crash_states law leads lacks same (closed, either) = absurd (cc)
-store_made terms k s t journal x (question q) is may out represents shut crash_states law leads lacks same is_live =
-    open_made terms k s t (x ∷ journal) represents shut crash_states is_live (t, leads, lacks, inr (Store, may, out, refl)) (same, law is_live t same)
-store_made terms k s t journal x (check c) is may out represents shut crash_states law leads lacks same (is_command, is_live) =
-    open_made terms k s t (x ∷ journal) represents shut crash_states is_live (t, leads, lacks, inr (Store, may, out, refl)) (same, law is_live t same)
+store_made terms k s t journal x nothing is out represents shut crash_states law leads lacks same left = absurd left
+store_made terms k s t journal x bad is out represents shut crash_states law leads lacks same left = absurd left
+store_made terms k s t journal x (command c) is out represents true crash_states law leads lacks same (closed, either) = (t, leads, lacks, out, (same, rw (command_at t x.asked.task c is) either))
+store_made terms k s t journal x (command c) is out represents false crash_states law leads lacks same (closed, either) = absurd (cc)
+store_made terms k s t journal x (question q) is out represents shut crash_states law leads lacks same is_live =
+    open_made terms k s t (x ∷ journal) represents shut crash_states is_live (t, leads, lacks, inr (Store, fails_may t x.asked.task (question q) is, out, refl)) (same, law is_live t same)
+store_made terms k s t journal x (check c) is out represents shut crash_states law leads lacks same (is_command, is_live) =
+    open_made terms k s t (x ∷ journal) represents shut crash_states is_live (t, leads, lacks, inr (Store, fails_may t x.asked.task (check c) is, out, refl)) (same, law is_live t same)
 
-fault_made : (terms : Terms) (k : ℕ) (s t : State) (journal : List (Exchange terms)) (x : Exchange terms) (f : DeskFault) → may_fail x.asked.task ≡ true → x.out ≡ fault_out f
+fault_made : (terms : Terms) (k : ℕ) (s t : State) (journal : List (Exchange terms)) (x : Exchange terms) (f : DeskFault) (e : Entry) → FailsAt t x.asked.task e → x.out ≡ fault_out f
     → (represents : States) (shut : Bool) (crash_states : States → Type 0) → CrashStateIsOwn represents shut crash_states → IsJournal k s journal t → Lacks x.number journal
-    → CrashStatesOfFault f t (entry_of x.asked.task) represents shut crash_states → HasMade terms k s (x ∷ journal) represents shut crash_states
-fault_made terms k s t journal x Store may out represents shut crash_states law leads lacks (same, left) =
-    store_made terms k s t journal x (entry_of x.asked.task) refl may out represents shut crash_states law leads lacks same left
-fault_made terms k s t journal x Memory may out represents shut crash_states law leads lacks (same, is_live) =
-    open_made terms k s t (x ∷ journal) represents shut crash_states is_live (t, leads, lacks, inr (Memory, may, out, refl)) (same, law is_live t same)
-fault_made terms k s t journal x Shut may out represents shut crash_states law leads lacks left = absurd left
+    → CrashStatesOfFault f t e represents shut crash_states → HasMade terms k s (x ∷ journal) represents shut crash_states
+fault_made terms k s t journal x Store e is out represents shut crash_states law leads lacks (same, left) =
+    store_made terms k s t journal x e is out represents shut crash_states law leads lacks same left
+fault_made terms k s t journal x Memory e is out represents shut crash_states law leads lacks (same, is_live) =
+    open_made terms k s t (x ∷ journal) represents shut crash_states is_live (t, leads, lacks, inr (Memory, fails_may t x.asked.task e is, out, refl)) (same, law is_live t same)
+fault_made terms k s t journal x Shut e is out represents shut crash_states law leads lacks left = absurd left
 
 task_made : (terms : Terms) (k : ℕ) (s t : State) (journal : List (Exchange terms)) (x : Exchange terms) (represents : States) (shut : Bool) (crash_states : States → Type 0)
     → CrashStateIsOwn represents shut crash_states → IsJournal k s journal t → Lacks x.number journal → Performs k t x.asked.task x.out represents shut crash_states
     → HasMade terms k s (x ∷ journal) represents shut crash_states
 task_made terms k s t journal x represents shut crash_states law leads lacks (inl (is, alone, is_live)) =
-    open_made terms k s (after t (entry_of x.asked.task)) (x ∷ journal) represents shut crash_states is_live (t, leads, lacks, inl (is, refl)) alone
-task_made terms k s t journal x represents shut crash_states law leads lacks (inr (f, may, is, left, at_fault)) =
-    fault_made terms k s t journal x f may is represents shut crash_states law leads lacks left
+    open_made terms k s (after t (entry_of t x.asked.task)) (x ∷ journal) represents shut crash_states is_live (t, leads, lacks, inl (is, refl)) alone
+task_made terms k s t journal x represents shut crash_states law leads lacks (inr (f, e, at, is, left, at_fault)) =
+    fault_made terms k s t journal x f e at is represents shut crash_states law leads lacks left
 
 -- the answer that came back, where one did, is what was written
 abbrev pub ComesBack : Option Reply → Option (List ℕ) → Result Served ServeFault → Type 0

@@ -9,42 +9,43 @@ use Rattle.plant_desk.specs.{States}
 use Rattle.plant_desk.proofs.SameDesk.{same_after}
 use Rattle.plant_questions.specs.{DeskFault}
 use Rattle.plant_questions.specs.declared.reply.DeskFault.TheVariants.{Store, Memory, Shut}
-use Rattle.plant_text.specs.{RepresentsDurably, Entry, nothing, bad, command, question, check, after, fold, CrashStatesOfFault, CrashStatesOfStoreFault}
+use Rattle.plant_text.specs.{RepresentsDurably, Entry, nothing, bad, command, question, check, after, CrashStatesOfFault, CrashStatesOfStoreFault}
 use Rattle.plant_text.proofs.RunCrashStates.{CrashStateIsOwn}
 use Rattle.plant_http_requests.specs.{Terms}
-use Rattle.plant_http.specs.{Out, entry_of, Performs, Serves, ServeFault, Served}
+use Rattle.plant_http.specs.{Out, entry_of, FailsAt, Performs, Serves, ServeFault, Served}
+use Rattle.plant_http.proofs.ConditionPerforms.{command_at}
 use Rattle.plant_http.specs.declared.serve.Served.TheVariants.{Answered, Nothing}
 use Rattle.plant_http.specs.declared.serve.ServeFault.TheVariants as end
-use Rattle.desk_server.specs.{Asked, entries, HasServed, ServesAtMost, IsSameStore}
+use Rattle.desk_server.specs.{Asked, after_tasks, HasServed, ServesAtMost, IsSameStore}
 use Rattle.desk_server.specs.Serving.{status_of}
 
 -- ---- one connection
 
 pub open_served : (terms : Terms) (most : ℕ) (s : State) (represents : States) (shut : Bool) (crash_states : States → Type 0) (tasks : List (Asked terms)) → shut ≡ false → length tasks ≤ most
-    → RepresentsDurably represents crash_states (fold s (entries tasks)) → HasServed terms most s represents shut crash_states
+    → RepresentsDurably represents crash_states (after_tasks s tasks) → HasServed terms most s represents shut crash_states
 open_served terms most s represents false crash_states tasks is_live few alone = (tasks, few, alone)
 open_served terms most s represents true crash_states tasks is_live few alone = absurd (cc)
 
--- a fault of the store at a task that was this to the keeper
-store_served : (terms : Terms) (s : State) (a : Asked terms) (e : Entry) → entry_of a.task ≡ e → (represents : States) (shut : Bool) (crash_states : States → Type 0) → CrashStateIsOwn represents shut crash_states
+-- a fault of the store at a task, or at the question for the number before it, that was this to the keeper
+store_served : (terms : Terms) (s : State) (a : Asked terms) (e : Entry) → FailsAt s a.task e → (represents : States) (shut : Bool) (crash_states : States → Type 0) → CrashStateIsOwn represents shut crash_states
     → represents s → CrashStatesOfStoreFault s e shut crash_states → HasServed terms 1 s represents shut crash_states
 store_served terms s a nothing is represents shut crash_states law same left = absurd left
 store_served terms s a bad is represents shut crash_states law same left = absurd left
-store_served terms s a (command c) is represents true crash_states law same (closed, either) = ([], a, omega arith, (same, rw is either))
+store_served terms s a (command c) is represents true crash_states law same (closed, either) = ([], a, omega arith, (same, rw (command_at s a.task c is) either))
 store_served terms s a (command c) is represents false crash_states law same (closed, either) = absurd (cc)
 store_served terms s a (question q) is represents shut crash_states law same is_live = open_served terms 1 s represents shut crash_states [] is_live (omega arith) (same, law is_live s same)
 store_served terms s a (check c) is represents shut crash_states law same (is_command, is_live) = open_served terms 1 s represents shut crash_states [] is_live (omega arith) (same, law is_live s same)
 
-fault_served : (terms : Terms) (f : DeskFault) (s : State) (a : Asked terms) (represents : States) (shut : Bool) (crash_states : States → Type 0) → CrashStateIsOwn represents shut crash_states
-    → CrashStatesOfFault f s (entry_of a.task) represents shut crash_states → HasServed terms 1 s represents shut crash_states
-fault_served terms Store s a represents shut crash_states law (same, left) = store_served terms s a (entry_of a.task) refl represents shut crash_states law same left
-fault_served terms Memory s a represents shut crash_states law (same, is_live) = open_served terms 1 s represents shut crash_states [] is_live (omega arith) (same, law is_live s same)
-fault_served terms Shut s a represents shut crash_states law left = absurd left
+fault_served : (terms : Terms) (f : DeskFault) (s : State) (a : Asked terms) (e : Entry) → FailsAt s a.task e → (represents : States) (shut : Bool) (crash_states : States → Type 0) → CrashStateIsOwn represents shut crash_states
+    → CrashStatesOfFault f s e represents shut crash_states → HasServed terms 1 s represents shut crash_states
+fault_served terms Store s a e is represents shut crash_states law (same, left) = store_served terms s a e is represents shut crash_states law same left
+fault_served terms Memory s a e is represents shut crash_states law (same, is_live) = open_served terms 1 s represents shut crash_states [] is_live (omega arith) (same, law is_live s same)
+fault_served terms Shut s a e is represents shut crash_states law left = absurd left
 
 task_served : (terms : Terms) (k : ℕ) (s : State) (a : Asked terms) (out : Out) (represents : States) (shut : Bool) (crash_states : States → Type 0) → CrashStateIsOwn represents shut crash_states
     → Performs k s a.task out represents shut crash_states → HasServed terms 1 s represents shut crash_states
 task_served terms k s a out represents shut crash_states law (inl (is, alone, is_live)) = open_served terms 1 s represents shut crash_states (a ∷ []) is_live (omega arith) alone
-task_served terms k s a out represents shut crash_states law (inr (f, may, is, left, at_fault)) = fault_served terms f s a represents shut crash_states law left
+task_served terms k s a out represents shut crash_states law (inr (f, e, at, is, left, at_fault)) = fault_served terms f s a e at represents shut crash_states law left
 
 pub one_served : (terms : Terms) (now : Option HttpDate) (k : ℕ) (s : State) (whole : List ℕ) (old new : Option (List ℕ)) (represents : States) (shut : Bool) (crash_states : States → Type 0) (r : Result Served ServeFault)
     → CrashStateIsOwn represents shut crash_states → Serves (record terms { now = now }) k s whole old new represents shut crash_states r → HasServed terms 1 s represents shut crash_states
@@ -75,12 +76,12 @@ one_answered terms k s request whole before text represents shut crash_states r 
 
 -- ---- one connection more
 
-fold_more : (terms : Terms) (tasks : List (Asked terms)) (s : State) (more : List (Asked terms)) → fold s (entries (tasks ++ more)) ≡ fold (fold s (entries tasks)) (entries more)
+fold_more : (terms : Terms) (tasks : List (Asked terms)) (s : State) (more : List (Asked terms)) → after_tasks s (tasks ++ more) ≡ after_tasks (after_tasks s tasks) more
 fold_more terms [] s more = refl
-fold_more terms (a ∷ tasks) s more = fold_more terms tasks (after s (entry_of a.task)) more
+fold_more terms (a ∷ tasks) s more = fold_more terms tasks (after s (entry_of s a.task)) more
 
 pub more_served : (terms : Terms) (made n most : ℕ) (s : State) (tasks : List (Asked terms)) (represents : States) (shut : Bool) (crash_states : States → Type 0) → length tasks ≤ made → made + n ≤ most
-    → HasServed terms n (fold s (entries tasks)) represents shut crash_states → HasServed terms most s represents shut crash_states
+    → HasServed terms n (after_tasks s tasks) represents shut crash_states → HasServed terms most s represents shut crash_states
 more_served terms made n most s tasks represents false crash_states few room (more, one, alone) =
     (tasks ++ more, omega (arith, few, room, one, length-append tasks more), rw (fold_more terms tasks s more) alone)
 more_served terms made n most s tasks represents true crash_states few room (more, last, one, either) =
@@ -90,7 +91,7 @@ more_served terms made n most s tasks represents true crash_states few room (mor
 pub then_served : (terms : Terms) (made n most : ℕ) (s : State) (represents now : States) (before shut : Bool) (crash_states left : States → Type 0) → before ≡ false → made + n ≤ most
     → HasServed terms made s represents before crash_states → ((t : State) → represents t → HasServed terms n t now shut left) → HasServed terms most s now shut left
 then_served terms made n most s represents now false shut crash_states left is_live room (tasks, few, alone) one =
-    more_served terms made n most s tasks now shut left few room (one (fold s (entries tasks)) alone.0)
+    more_served terms made n most s tasks now shut left few room (one (after_tasks s tasks) alone.0)
 then_served terms made n most s represents now true shut crash_states left is_live room h one = absurd (cc)
 
 fewer_served : (terms : Terms) (made most : ℕ) (s : State) (represents : States) (shut : Bool) (crash_states : States → Type 0) → made ≤ most → HasServed terms made s represents shut crash_states → HasServed terms most s represents shut crash_states

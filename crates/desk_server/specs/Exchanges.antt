@@ -46,7 +46,7 @@ Lacks {terms} n journal = AllByRecursion (λ (e : Exchange terms). e.number ≢ 
 -- In the first state its answer is the definitions', and the second is the state after its task; or a fault is answered to a task that may
 -- have one, and the state stays.
 abbrev pub Leads : {terms : Terms} → ℕ → State → Exchange terms → State → Type 0
-Leads k s e t = ((e.out ≡ out_of k s e.asked.task) × (t ≡ after s (entry_of e.asked.task)))
+Leads k s e t = ((e.out ≡ out_of k s e.asked.task) × (t ≡ after s (entry_of s e.asked.task)))
     ⊎ ((f : DeskFault) × (may_fail e.asked.task ≡ true) × (e.out ≡ fault_out f) × (t ≡ s))
 
 -- The exchanges, the newest first, lead from the first state to the second, one at most of each connection.
@@ -61,7 +61,7 @@ HasMade terms k s journal represents false crash_states = (t : State) × IsJourn
 HasMade terms k s [] represents true crash_states = ⊥
 HasMade terms k s (last ∷ before) represents true crash_states =
     (t : State) × IsJournal k s before t × Lacks last.number before × (last.out ≡ fault_out fault.Store)
-    × RepresentsEither represents crash_states t (entry_of last.asked.task)
+    × RepresentsEither represents crash_states t (entry_of t last.asked.task)
 
 -- the same of a desk over a store
 abbrev pub HasDeskMade : {S : Type 0} (g : Ghosts S) (terms : Terms) → State → List (Exchange terms) → Desk S g → Type 0

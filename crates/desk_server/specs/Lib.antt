@@ -7,7 +7,7 @@ pub mod Queue
 pub mod Reply
 pub mod Receiving
 pub mod Deadline
-pub use Serving.{Asked, EndsServing, HasServed, IsSameStore, ServesAtMost, entries}
+pub use Serving.{Asked, EndsServing, HasServed, IsSameStore, ServesAtMost, after_tasks}
 pub use Queue.{marked, waits_for}
 pub use Exchanges.{AreExchangedOn, Exchange, HasMade, IsExchangedOn, IsJournal, Leads, ServesOver, text_of}
 pub use declared.fault.ServingFault.{ServingFault}

@@ -1,5 +1,5 @@
 -- The outcome of serving connections, and how it ends.
-use Rattle.std.specs.Prelude.{◌≡◌, ℕ, ◌≤◌, ◌<◌, List, length, map, Bool, true, false, Option, Some, None, Result, Ok, Err}
+use Rattle.std.specs.Prelude.{◌≡◌, ℕ, ◌≤◌, ◌<◌, List, [], ◌∷◌, length, Bool, true, false, Option, Some, None, Result, Ok, Err}
 use Rattle.sqlite.specs.Effect.{Database}
 use Rattle.sqlite.specs.Held.{state}
 use Rattle.sqlite.specs.State.{HasCleanDisk}
@@ -7,9 +7,9 @@ use Rattle.sqlite_trees.specs.declared.store.Store.{Ghosts}
 use Rattle.plant_base.specs.{State, newest_schema}
 use Rattle.plant_desk.specs.{States, IsSameDesk}
 use Rattle.plant_desk_store.specs.{Represents, HasCrashStates, HasForeignTables, Desk}
-use Rattle.plant_text.specs.{RepresentsDurably, RepresentsEither, Entry, fold}
+use Rattle.plant_text.specs.{RepresentsDurably, RepresentsEither, after}
 use Rattle.httpdate.specs.declared.date.HttpDate.{HttpDate}
-use Rattle.plant_http_requests.specs.{TaskOf, RequestTask, Terms}
+use Rattle.plant_http_requests.specs.{ConditionalTask, TaskOf, Terms}
 use Rattle.plant_http.specs.{entry_of, ServeFault, Served}
 use Rattle.plant_http.specs.declared.serve.Served.TheVariants.{Answered, Nothing}
 use Rattle.desk_server.specs.declared.fault.ServingFault.{ServingFault}
@@ -25,19 +25,21 @@ status_of (Err f) = None
 pub record Asked (terms : Terms) : Type 0 where
   pub now : Option HttpDate
   pub input : List ℕ
-  pub task : RequestTask
+  pub task : ConditionalTask
   pub asks : TaskOf (record terms { now = now }) input (Some task)
 
-abbrev pub entries : {terms : Terms} → List (Asked terms) → List Entry
-entries {terms} tasks = map (λ (a : Asked terms). entry_of a.task) tasks
+-- where the tasks lead, each done in the state after those before it
+abbrev pub after_tasks : {terms : Terms} → State → List (Asked terms) → State
+after_tasks s [] = s
+after_tasks s (a ∷ tasks) = after_tasks (after s (entry_of s a.task)) tasks
 
 -- A keeper that represented s has served at most so many connections, as these terms say. It represents where the tasks lead that it has done, each
 -- once and in their order, and a stop leaves that state and no other; tasks for which a fault was answered are not among them.
 -- Where it is shut, a fault of its store came at a further task: a stop leaves the state before it or the state after it.
 abbrev pub HasServed : Terms → ℕ → State → States → Bool → (States → Type 0) → Type 0
-HasServed terms most s represents false crash_states = (tasks : List (Asked terms)) × (length tasks ≤ most) × RepresentsDurably represents crash_states (fold s (entries tasks))
+HasServed terms most s represents false crash_states = (tasks : List (Asked terms)) × (length tasks ≤ most) × RepresentsDurably represents crash_states (after_tasks s tasks)
 HasServed terms most s represents true crash_states =
-    (tasks : List (Asked terms)) × (last : Asked terms) × (length tasks < most) × RepresentsEither represents crash_states (fold s (entries tasks)) (entry_of last.task)
+    (tasks : List (Asked terms)) × (last : Asked terms) × (length tasks < most) × RepresentsEither represents crash_states (after_tasks s tasks) (entry_of (after_tasks s tasks) last.task)
 
 -- the same of a desk over a store that has kept its specification, of each state that it represented
 abbrev pub ServesAtMost : {S : Type 0} (g : Ghosts S) → Terms → ℕ → Desk S g → Desk S g → Type 0

@@ -184,6 +184,7 @@ def replies() -> dict[str, Schema]:
         "reply": one_of(ref("accepted"), ref("refusal"), ref("fault")),
         "status": exact(status=words(400, 403, 404, 405, 411, 413, 431, 501)),
         "ahead": exact(ahead=number(1, 1_000_000), status=words(400)),
+        "another_seq": exact(seq=number(0, MOST_COMMANDS), status=words(412)),
         "no_reference": exact(reference=words("missing"), status=words(400)),
         "operator": exact(operator=TEXT),
         "csv_fault": exact(csv=words(*CSV_FAULTS), row=number(0, 1001)),
@@ -238,6 +239,7 @@ CAUSES = {
     405: "The path has other methods, which Allow names",
     409: "The desk refuses the command or the import",
     411: "No Content-Length",
+    412: "Desk-Seq is another number than that of accepted commands",
     413: "A Content-Length above 262,144",
     431: "The head doesn't end in 8,192 bytes, or has more than 32 fields",
     501: "A Transfer-Encoding",
@@ -255,11 +257,15 @@ TEXTS: Schema = {"type": "object"}
 # Where a client asks who it is, with --operator-field alone.
 OPERATOR = "/v1/operator"
 
-# Fields of the head of an import.
+# Fields of the head of a command or check, and those of an import.
 FIELDS: list[tuple[str, bool, str, Schema]] = [
+    ("Desk-Ref", False, "the reference, where the body says none", ID),
+    ("Desk-Seq", False, "the number of accepted commands at which alone it is done", {"type": "string", "pattern": "^[0-9]{1,16}$"}),
+]
+FIELDS_OF_IMPORTS: list[tuple[str, bool, str, Schema]] = [
     ("Desk-At", True, "the moment of the import", {"type": "string", "pattern": "^[0-9]{1,12}$"}),
     ("Desk-By", False, "who gives it", TEXT),
-    ("Desk-Ref", False, "its reference", ID),
+    *FIELDS,
 ]
 
 
@@ -298,7 +304,7 @@ def responses() -> dict[str, Schema]:
     """The responses that several paths have, by their names: the status, and of what it is where there is more than one of it."""
     found: dict[str, Schema] = {}
     for it in CAUSES:
-        schema = {409: ref("refusal"), 503: ref("fault")}.get(it, ref("status"))
+        schema = {409: ref("refusal"), 412: ref("another_seq"), 503: ref("fault")}.get(it, ref("status"))
         found.update(refusing(it, f"of_{it}", schema))
     found.update(refusing(400, "of_400_command", one_of(ref("status"), ref("ahead"), ref("no_reference"), ref("refusal"))))
     found.update(refusing(400, "of_400_check", one_of(ref("status"), ref("ahead"))))
@@ -348,13 +354,13 @@ def resource(path: str, kind: str, defs: Mapping[str, Schema]) -> Schema:
 
 def posted(
     name: str, about: str, taken: Schema, answered: Schema,
-    parameters: Sequence[Schema] = (), conflicts: Iterable[int] = (409,), **names: str,
+    fields: Sequence[tuple[str, bool, str, Schema]] = FIELDS, conflicts: Iterable[int] = (409,), **names: str,
 ) -> Schema:
-    """A path to which a body is posted."""
-    statuses = sorted({400, 403, 404, 405, *conflicts, 411, 413, 431, 501, 503})
-    given: Schema = {"parameters": list(parameters)} if parameters else {}
+    """A path to which a body is posted, with these fields of the head."""
+    statuses = sorted({400, 403, 404, 405, *conflicts, 411, 412, 413, 431, 501, 503})
+    given = [{"name": it, "in": "header", "required": needed, "description": what, "schema": schema} for it, needed, what, schema in fields]
     answers = {"200": {"description": about, **body(answered)}, **others(statuses, **names)}
-    return {"post": {"operationId": f"post_{name}", **given, "requestBody": {"required": True, **taken}, "responses": answers}}
+    return {"post": {"operationId": f"post_{name}", "parameters": given, "requestBody": {"required": True, **taken}, "responses": answers}}
 
 
 def paths_of(defs: Mapping[str, Schema]) -> dict[str, Schema]:
@@ -365,11 +371,10 @@ def paths_of(defs: Mapping[str, Schema]) -> dict[str, Schema]:
     found["/v1/batches/{batch}/record"] = asked("/v1/batches/{batch}/record", "batch", defs, text, "text/plain")
     found[OPERATOR] = asked(OPERATOR, "desk", defs, ref("operator"))
     found.update({path: resource(path, kind, defs) for path, kind in RESOURCES.items()})
-    fields = [{"name": name, "in": "header", "required": needed, "description": about, "schema": schema} for name, needed, about, schema in FIELDS]
     found["/v1/commands"] = posted("commands", "The command was accepted", body(ref("command")), ref("accepted"), of_400="of_400_command")
     found["/v1/check"] = posted("check", "What would become of it", body({"type": "object"}), ref("answer_check"), conflicts=(), of_400="of_400_check")
     file = body({"type": "string", "maxLength": 262144}, "text/csv")
-    found["/v1/orders"] = posted("orders", "The orders were imported", file, ref("accepted"), fields, of_400="of_400_orders")
+    found["/v1/orders"] = posted("orders", "The orders were imported", file, ref("accepted"), FIELDS_OF_IMPORTS, of_400="of_400_orders")
     return dict(sorted(found.items()))
 
 

@@ -317,6 +317,11 @@ class Http(DeskTestCase):
                 ("/v1/orders", head + row.replace(b"CAKE", b"PIE"), at[:1], "409"),
                 ("/v1/orders", head + row[:9], at, "400"),
                 ("/v1/orders", head + row, (), "400"),
+                ("/v1/commands", good, ("Desk-Seq: 1",), "412"),
+                ("/v1/check", b"", ("Desk-Seq: 1",), "412"),
+                ("/v1/orders", head, (*at, "Desk-Seq: 1"), "412"),
+                ("/v1/check", good, ("Desk-Seq: x",), "400"),
+                ("/v1/commands", good, ("Desk-Ref: K-3",), "409"),
             ]:
                 case, answer = f"{path}, {text[:80]!r}", server.answered(posted(path, text, *fields))
                 status, _ = self.check_answer(case, path, "post", answer)

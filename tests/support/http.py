@@ -30,6 +30,7 @@ PHRASES = {
     404: "Not Found",
     409: "Conflict",
     411: "Length Required",
+    412: "Precondition Failed",
     413: "Payload Too Large",
     431: "Request Header Fields Too Large",
     501: "Not Implemented",

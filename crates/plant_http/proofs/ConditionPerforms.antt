@@ -1,5 +1,5 @@
 -- A task under a condition is the task where the condition is met, and nothing where it isn't.
-use Rattle.std.proofs.Common.{◌≡◌, ◌⊎◌, ◌==◌, ℕ, Bool, true, false, Option, Some, None, Result, Ok, Err, refl, sym, ap, inl, inr}
+use Rattle.std.proofs.Common.{◌≡◌, ℕ, Bool, true, false, Option, Some, None, Ok, Err, refl, sym, ap, inl, inr}
 use Rattle.std.specs.Prelude.{◌||◌, is_some, if◌then◌else◌}
 use Rattle.plant_base.specs.{State, Envelope}
 use Rattle.plant_answers.specs.{answer}

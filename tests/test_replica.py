@@ -56,6 +56,9 @@ class Entries(CountedTestCase):
         self.check("an order file", Entry("A-1", ORDERS, {"Desk-At": "7"}, b"x").request(), (b"x", {"Desk-Ref": "LOG-A-1", "Desk-At": "7"}))
         own = Entry("A-1", ORDERS, {"Desk-Ref": "X"}, b"x")
         self.check("an order file with its own", (own.request(), own.reference()), ((b"x", {"Desk-Ref": "X"}), "X"))
+        for body, wanted, reference in [(b'{"at":1}', b'{"ref":"X","at":1}', "X"), (b'{"ref":"Y"}', b'{"ref":"X","ref":"Y"}', "Y")]:
+            told = Entry("A-1", COMMANDS, {"Desk-Ref": "X"}, body)
+            self.check(f"{body!r} with one in the head", (told.request(), told.reference()), ((wanted, {}), reference))
 
     def test_reference_is_the_last_of_equal_members(self) -> None:
         for body, wanted in [
@@ -286,7 +289,7 @@ class Nodes(MachinesTestCase):
         first.stop_node()
         self.check("a booking", second.book("receive", lot="L-1", def_="FLOUR", amount=10, place="A")[0], 200)
         entry = self.log.read(3, 1)[0][1]
-        self.check("what the desk answers it", Desk(first.port).give(entry), mock.ANY)
+        self.check("what the desk answers it", Desk(first.port).give(entry, 2), mock.ANY)
         first.start_node()
         self.check("the next one", first.book("scrap", lot="L-1", sub=0, amount=1), (200, {"ok": 4}))
         self.check_equal(first, second)
@@ -363,6 +366,23 @@ class Nodes(MachinesTestCase):
         self.check("a booking at the other", second.book("add_class", class_="Y", name=""), (200, {"ok": 3}))
         self.check_halts(first, "something else books at this desk")
         self.check("the other goes on", second.book("add_class", class_="Z", name=""), (200, {"ok": 4}))
+
+    def test_entry_is_kept_off_where_something_else_booked_after_the_question(self) -> None:
+        """A booking past the node, between its question for the desk's number and the entry: the entry isn't executed at another number."""
+        [first, second] = self.started(2)
+        self.level(first, second)
+        give, foreign = Desk.give, command("add_class", class_="X", name="")
+
+        def late(desk: Desk, entry: Entry, seq: int) -> Reply | None:
+            if desk.port == first.port and seq == 2:
+                Asked(first.port).ask("POST", COMMANDS, foreign)
+            return give(desk, entry, seq)
+
+        with mock.patch.object(Desk, "give", late):
+            self.check("a booking", second.book("receive", lot="L-1", def_="FLOUR", amount=10, place="A")[0], 200)
+            self.check_halts(first, "something else books at this desk")
+        self.check("the lot", Asked(first.port).ask("GET", "/v1/lots/L-1")[0], 404)
+        self.check("the desk", Asked(first.port).ask("GET", "/v1/desk"), (200, b'{"schema":4,"seq":3}'))
 
     def test_desks_that_part_are_found(self) -> None:
         first, second = self.started(2)
@@ -497,6 +517,8 @@ class Gateways(MachinesTestCase):
             ("UTF-16", COMMANDS, "{}".encode("utf-16"), {}, 400, form), ("a deep one", COMMANDS, b"[" * 100_000, {}, 400, form),
             ("one of the log's references", COMMANDS, b'{"ref":"LOG-1"}', {}, 400, bare), ("the same, escaped", COMMANDS, b'{"r\\u0065f":"L\\u004fG-1"}', {}, 400, bare),
             ("one in the head", ORDERS, order_file("O-1"), {"Desk-At": "7", "Desk-Ref": " LOG-1"}, 400, bare),
+            ("one in the head of a command", COMMANDS, b"{}", {"Desk-Ref": "LOG-1"}, 400, bare), ("no reference", COMMANDS, b"{}", {"Desk-Ref": "x"}, 400, bare),
+            ("a number", COMMANDS, b"{}", {"Desk-Seq": "0"}, 400, bare), ("an import's", ORDERS, order_file("O-1"), {"Desk-At": "7", "Desk-Seq": "0"}, 400, bare),
             ("too large", COMMANDS, b" " * (desk_replica.LARGEST - desk_replica.ROOM + 1), {}, 413, {"status": 413}),
             ("another site's page", COMMANDS, b"{}", {"Origin": "http://elsewhere"}, 403, {"status": 403}),
             ("another host", COMMANDS, b"{}", {"Host": "elsewhere"}, 403, {"status": 403}),

@@ -38,6 +38,9 @@ LARGEST, ROOM = 262_144, 40
 # How long a client waits until its command is applied here, and a question until the log is; how many questions the desk is asked at once.
 COMMAND_SECONDS, FRESH_SECONDS, AT_ONCE = 60, 30, 16
 
+# An id, as a reference is one.
+ID = "[A-Z][-A-Z0-9]{0,23}"
+
 # The fields of a head that are of a connection and aren't passed on.
 OF_A_CONNECTION = {"connection", "keep-alive", "transfer-encoding", "te", "trailer", "upgrade", "expect", "content-length", "desk-fresh"}
 
@@ -151,15 +154,22 @@ class Handler(http.server.BaseHTTPRequestHandler):
         return body
 
     def replicated(self, body: bytes) -> Reply:
-        """Has a command executed by all desks, and returns what the desk beside this gateway answers."""
+        """Has a command executed by all desks, and returns what the desk beside this gateway answers. At which number is the log's own to say."""
+        if self.fields("Desk-Seq"):
+            raise Wrong(400)
         head = self.judged_import() if self.path == ORDERS else self.judged_command(body)
         return self.node.replicate(self.path, head, body, COMMAND_SECONDS) or Wrong(503).reply
 
     def judged_command(self, body: bytes) -> dict[str, str]:
-        """Judges a command, which has no field of its own in the head."""
+        """Judges a command; returns its reference in the head, where it has one."""
+        found = self.fields("Desk-Ref")
+        if len(found) > 1 or not all(re.fullmatch(ID, it) for it in found):
+            raise Wrong(400)
+        head = {"Desk-Ref": it for it in found}
+        check_reference(head.get("Desk-Ref"))
         told = command_of(body)
         self.rules.judge(told.get("at"), told.get("by"), self.fields(self.rules.operator_field or ""))
-        return {}
+        return head
 
     def judged_import(self) -> dict[str, str]:
         """Judges an order file by its head; returns the fields of it that are for the desk."""

@@ -34,6 +34,9 @@ AHEAD, KEPT = 64, 10_000
 # How long an idle thread waits before it looks again, and how long something is waited for before it is tried again.
 IDLE, AGAIN = 0.25, 0.05
 
+# The greatest number of a command, after which a desk takes none.
+LAST_SEQ = 10**15
+
 # How often it is asked which entry got the desk's number, where another node may be about to say so.
 PLACE_TRIES = 100
 
@@ -51,7 +54,7 @@ class NoAnswer(Exception):
 
 
 class Entry(NamedTuple):
-    """A command of the log: its id, which is unlike all others; its route; the fields Desk-At, Desk-By and Desk-Ref of an order file; its bytes.
+    """A command of the log: its id, which is unlike all others; its route; the fields Desk-At, Desk-By and Desk-Ref that it came with; its bytes.
 
     The desk gets each under a reference, the client's or one that is made of the id. So an entry that is sent again acts once.
     """
@@ -76,20 +79,24 @@ class Entry(NamedTuple):
         """The reference that the log gives."""
         return OWN + self.id
 
+    def given(self) -> str:
+        """The reference that counts unless the body has its own: that of the head, or the log's."""
+        return self.head.get("Desk-Ref", self.own())
+
     def reference(self) -> str:
         """The reference under which the desk gets it."""
-        found = self.head.get("Desk-Ref") if self.path == ORDERS else (members_of(self.body) or {}).get("ref")
-        return found if isinstance(found, str) else self.own()
+        found = None if self.path == ORDERS else (members_of(self.body) or {}).get("ref")
+        return found if isinstance(found, str) else self.given()
 
     def request(self) -> tuple[bytes, dict[str, str]]:
         """The body and the fields that the desk gets. No byte of the client's is changed: of equal keys the desk takes the last, so the client's
         own reference counts where there is one."""
         if self.path == ORDERS:
-            return self.body, {"Desk-Ref": self.own(), **self.head}
+            return self.body, {**self.head, "Desk-Ref": self.given()}
         at = self.body.index(b"{") + 1
         rest = self.body[at:]
         comma = b"" if rest.lstrip().startswith(b"}") else b","
-        return self.body[:at] + f'"ref":"{self.own()}"'.encode() + comma + rest, {}
+        return self.body[:at] + f'"ref":"{self.given()}"'.encode() + comma + rest, {}
 
 
 def members_of(body: bytes) -> dict[str, Any] | None:
@@ -277,26 +284,33 @@ class Desk:
             while found & self.unanswered():
                 time.sleep(AGAIN / 10)
 
-    def check_terms(self) -> None:
-        """Sees that the desk refuses nothing by the machine's clock or the head of a request: desks would then part."""
+    def checked(self, head: Mapping[str, str]) -> Reply:
+        """What the desk answers to a check of a command that is far ahead of the machine's clock."""
         body = b'{"at":253402300799,"by":"","do":"add_class","class":"A","name":""}'
         while True:
             with contextlib.suppress(Lost):
-                reply = self.ask("POST", "/v1/check", body)
-                if reply.status == 200:
-                    return
+                reply = self.ask("POST", "/v1/check", body, head)
                 if reply.status != 503:
-                    raise Halt(f"the desk answers a check with {reply.body.decode(errors='replace')}: serve it with --ahead 0 and no --operator-field")
+                    return reply
             time.sleep(AGAIN)
 
-    def give(self, entry: Entry) -> Reply | None:
-        """Gives the desk an entry once; none where that left it open whether the desk took it."""
+    def check_terms(self) -> None:
+        """Sees that the desk refuses nothing by the machine's clock or the head of a request, since desks would then part, but by its number."""
+        reply = self.checked({})
+        if reply.status != 200:
+            raise Halt(f"the desk answers a check with {reply.body.decode(errors='replace')}: serve it with --ahead 0 and no --operator-field")
+        reply = self.checked({"Desk-Seq": str(LAST_SEQ)})
+        if reply.status != 412:
+            raise Halt(f"the desk answers a check at number {LAST_SEQ} with {reply.status}: its version doesn't know Desk-Seq")
+
+    def give(self, entry: Entry, seq: int) -> Reply | None:
+        """Gives the desk an entry once, to be done at this number alone; none where the desk has another, or it is open whether it took the entry."""
         body, head = entry.request()
         try:
-            reply = self.ask("POST", entry.path, body, head)
+            reply = self.ask("POST", entry.path, body, {**head, "Desk-Seq": str(seq)})
         except Lost:
             return None
-        if reply.status == 503:
+        if reply.status in (412, 503):
             return None
         if not is_decided(entry, reply):
             raise Halt(f"the desk answers entry {entry.id} with {reply.status} {reply.body.decode(errors='replace')}, which isn't of its records alone")
@@ -420,12 +434,13 @@ class Node:
     # ---- from the log to the desk
 
     def apply_next(self) -> None:
-        """Gives the desk its next entry, where one is there and the desk is where it is supposed to be."""
+        """Gives the desk its next entry, where one is there and the desk is where it is supposed to be, and is so still as it takes the entry."""
         entry = self.next_entry()
         if entry is None and self.is_ready:
             return
-        if self.is_in_place(entry) and entry is not None:
-            reply = self.desk.give(entry)
+        seq = self.desk.seq()
+        if self.is_in_place(entry, seq) and entry is not None:
+            reply = self.desk.give(entry, seq)
             if reply is None:
                 time.sleep(AGAIN)  # the desk is asked for its seq before the entry is sent again
             else:
@@ -448,9 +463,8 @@ class Node:
         with self.changed:
             self.entries.update(found)
 
-    def is_in_place(self, entry: Entry | None) -> bool:
-        """Whether the desk has what it had after the last entry, or this next one besides; else its place in the log is found anew."""
-        seq = self.desk.seq()
+    def is_in_place(self, entry: Entry | None, seq: int) -> bool:
+        """Whether the desk of this seq has what it had after the last entry, or this next one besides; else its place in the log is found anew."""
         if seq == self.at.seq:
             self.is_ready = True
             return True

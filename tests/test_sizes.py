@@ -15,7 +15,7 @@ from tests.support.commands import (
     GOODS, PLANNED, add_recipe, approve, begin_batch, compact, import_orders, line, recall, receive, release, replies, say,
 )
 from tests.support.http import ACCEPTED, ASK, answer, desk_answer, got, posted
-from tests.support.large import LimitTestCase, chain_tables, consumed_row, fan_tables, merged_rows, produced_row, received_row, split_row
+from tests.support.large import LimitTestCase, chain_tables, consumed_row, fan_tables, merged_rows, produced_row, received_row, scrapped_row, split_row
 from tests.support.program import Program
 from tests.support.scenarios import Item, lots_told
 from tests.support.sessions import lines_of
@@ -387,7 +387,7 @@ class UsedUp(LimitTestCase):
             "movement": [*movements, *(received_row(seq + at, it, 5) for at, it in enumerate(lots))],
         }, seq + STOCKED - 1)
 
-    def seconds(self, file: str, question: str, answer: dict[str, Item]) -> float:
+    def seconds(self, file: str, question: str, answer: Item) -> float:
         """Asks a question again and again; returns the processor time of the answers, without that of the opening."""
         spent = []
         for times in 0, TIMES:

@@ -118,9 +118,9 @@ LARGEST = [
     (imported(*(order(f"O-{it}") for it in range(2, 1001)), order("O-1001", size=99)), refused("SizeOutOfRange", 18, item=1000)),
     (longest_recipe("FLOUR"), ACCEPTED),
     (longest_recipe("SALT"), refused("UnknownDefinition", 5, item=128)),
-    (merge(PARTS), ACCEPTED),
-    (merge([*PARTS[:15], ("M-17", 0, 1)]), refused("UnknownLot", 9, item=16)),
-    (merge([*PARTS[:15], ("M-16", 0, 101)]), refused("TooLittle", 13, item=16)),
+    (merge(PARTS, "N-1"), ACCEPTED),
+    (merge([*PARTS[:15], ("M-17", 0, 1)], "N-1"), refused("UnknownLot", 9, item=16)),
+    (merge([*PARTS[:15], ("M-16", 0, 101)], "N-1"), refused("TooLittle", 13, item=16)),
 ]
 
 

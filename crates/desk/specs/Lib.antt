@@ -1,3 +1,2 @@
 pub mod Served
 pub mod WorkContracts
-pub use WorkContracts.{exit_status}

@@ -1,8 +1,6 @@
 -- The outcome of the work that the arguments name, over a store that was opened.
-use Rattle.std.specs.Prelude.{◌≡◌, ◌≢◌, ◌⊎◌, ℕ, Bool, true, false, Option, None, Some, Result, Ok, Err, ⊤}
+use Rattle.std.specs.Prelude.{◌≡◌, ◌⊎◌, ℕ, List, Bool, Option, None, Some, Result, Err, ⊤}
 use Rattle.sqlite.specs.declared.error.Error.{Error}
-use Rattle.sqlite.specs.declared.error.Error.TheVariants.{SqliteFailure}
-use Rattle.sqlite.specs.declared.error.ErrorCode.TheVariants.{OutOfMemory}
 use Rattle.sqlite_trees.specs.declared.store.Store.{Ghosts}
 use Rattle.sqlite.specs.State as store
 use Rattle.sqlite.specs.State.{HasCleanDisk}
@@ -10,11 +8,12 @@ use Rattle.plant_base.specs.{State}
 use Rattle.plant_desk_store.specs.{HasCrashStates, IsDurablyAt, Represents}
 use Rattle.plant_http_requests.specs.{field_of, Profile, Terms}
 use Rattle.plant_http_requests.specs.declared.profile.Profile.TheVariants as profile
-use Rattle.desk_file.specs.{WasDone}
+use Rattle.desk_file.specs.{IsOutOfMemory, Opens, WasDone}
 use Rattle.desk_cli.specs.{names_of, Serving, Work}
 use Rattle.desk_cli.specs.declared.hosts.Hosts.{Hosts}
 use Rattle.desk_cli.specs.declared.meaning.Work.TheVariants as work
-use Rattle.desk_program.specs.{status_of, after_closing, AdoptedIfHonest, WasRefused, TaskGives, ProgramFault}
+use Rattle.desk_program.specs.{after_closing, AdoptedIfHonest, Exits, WasRefused, TaskGives, ProgramFault}
+use Rattle.desk_program.specs.declared.fault.ProgramFault.TheVariants as fault
 use Rattle.desk_server.specs.{EndsServing, HasServed, ServingFault}
 use Rattle.desk.specs.Served.{outcome_of}
 
@@ -60,22 +59,25 @@ WorkGives (work.Serve serving) before done after = ServingGives serving before a
 
 -- ---- the exit status
 
-abbrev pub exit_status : Result Bool ProgramFault → ℕ
-exit_status (Ok false) = 0
-exit_status (Ok true) = 1
-exit_status (Err f) = status_of f
-
--- the exit status where the work was done over a store of this kind, which had just been opened, and which was closed after it or couldn't be
-pub record ExitsDone {S : Type 0} (g : Ghosts S) (work : Work) (status : ℕ) : Type 0 where
+-- The exit status, and what is on standard error, where the work was done over the store that was opened for it and closed after it, or couldn't
+-- be. `opens`, `gives` and `closes` are what the opening, the work and the closing promise.
+pub record ExitsDone {S : Type 0} (g : Ghosts S) (opens : Opens S) (gives : store.State → Result Bool ProgramFault → store.State → Type 0) (closes : S → Bool → Type 0) (old new : Option (List ℕ)) (status : ℕ) : Type 0 where
   pub outcome : Result Bool ProgramFault
   pub is_closed : Bool
-  pub was_done : WasDone g (WorkGives work) outcome
-  pub exits : status ≡ exit_status (after_closing outcome is_closed)
+  pub was_done : WasDone g opens gives closes outcome is_closed
+  pub exits : Exits old new status (after_closing outcome is_closed)
 
--- the exit status where no store opened: 4 for want of memory, and 3 for any other error
-abbrev pub ExitsUnopened : ℕ → Type 0
-ExitsUnopened status = (error : Error) × (error ≡ SqliteFailure OutOfMemory → status ≡ 4) × ((error ≢ SqliteFailure OutOfMemory) → status ≡ 3)
+-- the same where the store didn't open: a fault of memory where the opening says so, and of the store at any other error
+pub record ExitsUnopened {S : Type 0} (opens : Opens S) (old new : Option (List ℕ)) (status : ℕ) : Type 0 where
+  pub error : Error
+  pub unopened : opens (Err error)
+  pub memory : IsOutOfMemory error → Exits old new status (Err fault.Memory)
+  pub store : (IsOutOfMemory error → ⊥) → Exits old new status (Err fault.Store)
 
 -- the one or the other
-abbrev pub ExitsOver : {S : Type 0} (g : Ghosts S) → Work → ℕ → Type 0
-ExitsOver g work status = ExitsDone g work status ⊎ ExitsUnopened status
+abbrev pub ExitsOver : {S : Type 0} (g : Ghosts S) → Opens S → (store.State → Result Bool ProgramFault → store.State → Type 0) → (S → Bool → Type 0) → Option (List ℕ) → Option (List ℕ) → ℕ → Type 0
+ExitsOver g opens gives closes old new status = ExitsDone g opens gives closes old new status ⊎ ExitsUnopened opens old new status
+
+-- the exit status alone, whatever is on standard error
+abbrev pub ExitsBy : {S : Type 0} (g : Ghosts S) → Opens S → Work → (S → Bool → Type 0) → ℕ → Type 0
+ExitsBy g opens work closes status = (old : Option (List ℕ)) × (new : Option (List ℕ)) × ExitsOver g opens (WorkGives work) closes old new status

@@ -7,7 +7,7 @@ mod working;
 
 use desk_cli::{WordsFault, read_arguments, read_words, texts_of};
 use desk_program::write_words_fault;
-use opening::perform_over;
+use opening::perform_at;
 use sqlite::Wary;
 use std::io;
 use std::process::ExitCode;
@@ -26,5 +26,5 @@ fn perform_words(rt: &HostRuntime) -> Result<u8, WordsFault> {
     let texts = texts_of(rt.alloc(), arguments.as_slice())?;
     let words = read_words(rt.alloc(), texts.as_slice())?;
     // A write that a stop tears may leave any bytes.
-    Ok(perform_over(rt, &words, Wary))
+    Ok(perform_at(rt, &words, Wary))
 }

@@ -1,5 +1,16 @@
-use Rattle.std.proofs.Common.{◌≡◌, false, true}
 use Rattle.desk_file.proofs.working.work_over.Goals as goal
 
-pub returns-in-Ok-open_file-clause-memory : goal.returns-in-Ok-open_file-clause-memory
-returns-in-Ok-open_file-clause-memory g c = λ named. let e : false ≡ true = rw c.if-is_in_memory.false at (c.is_in_memory.ensures.1 named) in absurd cc
+pub returns-in-Ok-clause-done : goal.returns-in-Ok-clause-done
+returns-in-Ok-clause-done g c =
+    let worked = c.work_and_close.ensures in
+    record {
+      before = c.in-Ok.connection;
+      after = worked.0;
+      store = worked.1;
+      opened = c.in-Ok.ensures.opens;
+      just = c.in-Ok.ensures.just;
+      given = worked.2;
+      honest = worked.3;
+      undone = worked.4;
+      closed = worked.5;
+    }

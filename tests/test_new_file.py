@@ -127,6 +127,15 @@ class Pages(NewFileTestCase):
             self.check(f"{word}, its mode", self.file.stat().st_mode & 0o777, 0o644)
             self.check_true(f"{word}, nothing beside it", not self.new.exists())
 
+    def test_page_is_synced_before_the_file_gets_its_name(self) -> None:
+        for word, *others in WORDS:
+            self.clear()
+            notes = self.folder / "notes"
+            orders = b"order,recipe,version,size,due,priority\n"
+            self.desk.run(word, "plant.db", *others, told=orders if word == "import" else b"", env=faults.noted_calls(notes))
+            first, *_ = notes.read_text().partition("link plant.db\n")
+            self.check(f"{word}, before the name", first.splitlines(), ["write plant.db-new", "sync plant.db-new"])
+
     def test_first_page_is_that_of_an_empty_database(self) -> None:
         page = self.whole_page()
         self.check("how long it is", len(page), SMALL)

@@ -326,6 +326,38 @@ class NoIndexes(CourseTests, ChangedFileTestCase):
     STATEMENTS = "".join(f"DROP INDEX {it};" for it in sqlite.INDEXES)
 
 
+class Syncs(DeskTestCase):
+    """What is synced before a reply, over files of the system."""
+
+    IN_MEMORY = True
+
+    def calls_before_replies(self, told: bytes, status: int) -> list[list[str]]:
+        """Runs a desk over these lines, and returns for each line of its output the calls about its files since the one before it."""
+        notes = self.folder / "notes"
+        notes.unlink(missing_ok=True)
+        ended = self.desk.run("run", "plant.db", told=told, env=faults.noted_calls(notes))
+        self.check("how it ends", (ended.status, ended.errors), (status, b""))
+        found = [it.splitlines() for it in notes.read_text().split("reply\n")][:-1]
+        self.check("how many replies", len(found), ended.output.count(b"\n"))
+        return found
+
+    def test_each_commit_syncs_its_log_twice_before_its_reply(self) -> None:
+        self.desk.run("init", "plant.db")
+        commands = each_command(are_referred=True)
+        replies = self.calls_before_replies(commands.told, 0)
+        # What comes before the first reply is also of the opening.
+        for number, calls in enumerate(replies[1:], 2):
+            of_log = [it for it, _ in itertools.groupby(calls)]
+            wanted = ["write plant.db-wal", "sync plant.db-wal"] * 2
+            self.check(f"command {number}", of_log, wanted)
+
+    def test_refusal_and_question_write_nothing(self) -> None:
+        self.desk.run("run", "plant.db", told=each_command(are_referred=True).told)
+        lines = b'{"at":1,"by":"","do":"add_class","class":"LATE","name":""}\n{"ask":"lot","lot":"L-1"}\n'
+        for number, calls in enumerate(self.calls_before_replies(lines * 3, 1)[1:], 2):
+            self.check(f"line {number}", calls, [])
+
+
 class Backup(DeskTestCase):
     """A copy of a desk that was served."""
 

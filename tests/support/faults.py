@@ -68,6 +68,11 @@ def met_call(number: int, sent: signal.Signals, mark: pathlib.Path) -> dict[str,
     return preloaded("at_call", AT_NAME=".db", AT_OPEN="-new", AT_CALL=number, AT_SIGNAL=int(sent), AT_MET=mark)
 
 
+def noted_calls(notes: pathlib.Path) -> dict[str, str]:
+    """The writes and syncs of the desk's files, the names that files get, and what is written to standard output are noted in this file."""
+    return preloaded("noted", NOTED=notes, NOTED_NAME=".db")
+
+
 def refused_memory(number: int, mark: pathlib.Path | None = None) -> dict[str, str]:
     """The allocation of this number is refused, and then the file `mark` is made."""
     return preloaded("refuse", REFUSE=number, **({"REFUSED": mark} if mark else {}))

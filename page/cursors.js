@@ -10,6 +10,7 @@ const LISTS = {
   recalls: ["recalls", (it) => it.recall],
   lifted_recalls: ["recalls", (it) => it.recall],
   classes: ["classes", (it) => it.class],
+  definitions: ["definitions", (it) => it.def],
   recipes: ["recipes", (it) => `${it.recipe}.${it.version}`],
   movements: ["movements", (it) => `${it.seq}.${it.line}`],
 };

@@ -12,6 +12,7 @@ test("a list goes on behind the key of its last item", () => {
     closed_batches: [{ batches: [{ batch: "B-1" }, { batch: "B-2" }] }, "B-2"],
     lifted_recalls: [{ recalls: [{ recall: "R-1" }] }, "R-1"],
     "stocks/RAW": [{ stocks: [{ def: "FLOUR" }, { def: "YEAST" }] }, "YEAST"],
+    "definitions/RAW": [{ definitions: [{ def: "FLOUR" }, { def: "YEAST" }] }, "YEAST"],
   };
   for (const [path, [page, last]] of Object.entries(keys)) {
     assert.equal(readPage(path, { ...page, more: true }).last, last, path);

@@ -149,6 +149,7 @@ const LISTS = {
   recalls: ["recalls", (it) => it.recall],
   lifted_recalls: ["recalls", (it) => it.recall],
   classes: ["classes", (it) => it.class],
+  definitions: ["definitions", (it) => it.def],
   recipes: ["recipes", (it) => `${it.recipe}.${it.version}`],
   movements: ["movements", (it) => `${it.seq}.${it.line}`],
 };
@@ -1596,4 +1597,4 @@ function bookingForm(title, fields, label, take, more) {
 "##;
 
 /// Its entity tag.
-pub const SCRIPT_TAG: &str = "\"efc90628eaa82d24face04901d0d2726\"";
+pub const SCRIPT_TAG: &str = "\"0810f1ac067ff5191597fc273cca7d49\"";

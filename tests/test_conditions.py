@@ -5,15 +5,14 @@ import concurrent.futures
 import json
 
 from tests.support.cases import DeskTestCase
-from tests.support.http import ASK, Server, answer, answered, desk_answer, posted, status_answer
+from tests.support.http import ASK, ORDERS, Server, answer, answered, booked, checked, command, desk_answer, imported, posted, status_answer
 
 BAD = status_answer(400)
 BAD_FORM = answer('{"name":"BadForm","refused":1}', 400)
 MISSING = answer('{"reference":"missing","status":400}', 400)
 MOMENT_BACK = answer('{"name":"MomentBack","refused":2}', 409)
 
-# An order file, and one with a fault.
-ORDERS = b"order,recipe,version,size,due,priority\nO-1,R-1,1,1,2027-01-01,1\n"
+# An order file with a fault.
 NO_ORDERS = b"order\n"
 
 # Values that break the rule of Desk-Seq.
@@ -32,23 +31,6 @@ FIELD = "X-Operator"
 def at_another(seq: int) -> bytes:
     """Returns what is answered where the desk has accepted so many commands, and another number was asked for."""
     return answer('{"seq":%d,"status":412}' % seq, 412)
-
-
-def command(name: str = "RAW", at: int = 100, by: str = "anna", **more: str) -> bytes:
-    """Returns a command that a new desk accepts."""
-    return json.dumps({"at": at, "by": by, "do": "add_class", "class": name, "name": "", **more}, separators=(",", ":")).encode()
-
-
-def booked(body: bytes, *fields: str) -> bytes:
-    return posted("/v1/commands", body, *fields)
-
-
-def checked(body: bytes, *fields: str) -> bytes:
-    return posted("/v1/check", body, *fields)
-
-
-def imported(*fields: str, file: bytes = ORDERS) -> bytes:
-    return posted("/v1/orders", file, "Desk-At: 100", *fields)
 
 
 def status_of(it: bytes) -> int:
@@ -87,7 +69,7 @@ class Numbers(DeskTestCase):
             with Server(self.desk, ":memory:", 2) as server:
                 name = ("Desk-Seq", "desk-seq", "DESK-SEQ")[place]
                 self.check(value, answered(server.port, booked(command(), f"{name}: {value}")), answer('{"ok":1}'))
-                self.check(f"{value} again", answered(server.port, booked(command("B"), f"{name}: {value}")), at_another(1))
+                self.check(f"{value} again", answered(server.port, booked(command(name="B"), f"{name}: {value}")), at_another(1))
 
     def test_value_that_breaks_the_rule_is_a_bad_request(self) -> None:
         heads = [[f"Desk-Seq: {it}"] for it in NO_NUMBERS] + [["Desk-Seq: 0", "Desk-Seq: 0"], ["Desk-Seq: 0", "desk-seq: 1"]]
@@ -101,9 +83,9 @@ class Numbers(DeskTestCase):
         other = "Desk-Seq: 5"
         asks = {
             "no JSON": booked(b"?", other), "no command": booked(b"{}", other), "a check of none": checked(b"{}", other), "no order file": imported(other, file=NO_ORDERS),
-            "no reference": booked(command("B", by="bob"), other), "another operator": booked(command("B", by="eve", ref="R-9"), f"{FIELD}: bob", other),
-            "no operator": booked(command("B", ref="R-9"), other), "ahead": booked(command("B", at=200_000_000_000, ref="R-9"), f"{FIELD}: anna", other),
-            "an older moment": booked(command("B", at=1, ref="R-9"), f"{FIELD}: anna", other), "a repeat": booked(command(ref="R-1"), f"{FIELD}: anna", other),
+            "no reference": booked(command(name="B", by="bob"), other), "another operator": booked(command(name="B", by="eve", ref="R-9"), f"{FIELD}: bob", other),
+            "no operator": booked(command(name="B", ref="R-9"), other), "ahead": booked(command(name="B", at=200_000_000_000, ref="R-9"), f"{FIELD}: anna", other),
+            "an older moment": booked(command(name="B", at=1, ref="R-9"), f"{FIELD}: anna", other), "a repeat": booked(command(ref="R-1"), f"{FIELD}: anna", other),
             "an import without a reference": imported(other), "an empty body": booked(b"", other),
         }
         with Server(self.desk, "plant.db", len(asks) + 2, "--references", "--operator-field", FIELD, "--ahead", "60") as server:
@@ -133,7 +115,7 @@ class Numbers(DeskTestCase):
 
     def test_of_many_at_one_number_one_is_executed(self) -> None:
         with Server(self.desk, "plant.db", 33) as server, concurrent.futures.ThreadPoolExecutor(16) as pool:
-            asks = [booked(command(f"C-{place}"), "Desk-Seq: 0") for place in range(32)]
+            asks = [booked(command(name=f"C-{place}"), "Desk-Seq: 0") for place in range(32)]
             said = list(pool.map(lambda it: answered(server.port, it), asks))
             self.check("accepted", said.count(answer('{"ok":1}')), 1)
             self.check("refused with the number", said.count(at_another(1)), 31)
@@ -143,12 +125,12 @@ class Numbers(DeskTestCase):
     def test_log_of_commands_is_replayed_at_its_numbers_and_stops_at_a_foreign_booking(self) -> None:
         with Server(self.desk, ":memory:", 8) as server:
             for seq in range(3):
-                self.check(f"command {seq + 1}", answered(server.port, booked(command(f"C-{seq}"), f"Desk-Seq: {seq}")), answer('{"ok":%d}' % (seq + 1)))
-            self.check("one that the desk refuses", answered(server.port, booked(command("D", at=1), "Desk-Seq: 3")), MOMENT_BACK)
-            self.check("and the next, at the same number", answered(server.port, booked(command("D"), "Desk-Seq: 3")), answer('{"ok":4}'))
-            self.check("a foreign booking", answered(server.port, booked(command("E"))), answer('{"ok":5}'))
-            self.check("the next", answered(server.port, booked(command("F"), "Desk-Seq: 4")), at_another(5))
-            self.check("its check", answered(server.port, checked(command("F"), "Desk-Seq: 4")), at_another(5))
+                self.check(f"command {seq + 1}", answered(server.port, booked(command(name=f"C-{seq}"), f"Desk-Seq: {seq}")), answer('{"ok":%d}' % (seq + 1)))
+            self.check("one that the desk refuses", answered(server.port, booked(command(name="D", at=1), "Desk-Seq: 3")), MOMENT_BACK)
+            self.check("and the next, at the same number", answered(server.port, booked(command(name="D"), "Desk-Seq: 3")), answer('{"ok":4}'))
+            self.check("a foreign booking", answered(server.port, booked(command(name="E"))), answer('{"ok":5}'))
+            self.check("the next", answered(server.port, booked(command(name="F"), "Desk-Seq: 4")), at_another(5))
+            self.check("its check", answered(server.port, checked(command(name="F"), "Desk-Seq: 4")), at_another(5))
 
 
 class References(DeskTestCase):
@@ -166,14 +148,14 @@ class References(DeskTestCase):
     def test_reference_of_the_body_counts_first(self) -> None:
         with Server(self.desk, ":memory:", 3) as server:
             self.check("both", answered(server.port, booked(command(ref="R-1"), "Desk-Ref: R-2")), answer('{"ok":1}'))
-            self.check("another under that of the head", answered(server.port, booked(command("B"), "Desk-Ref: R-2")), answer('{"ok":2}'))
+            self.check("another under that of the head", answered(server.port, booked(command(name="B"), "Desk-Ref: R-2")), answer('{"ok":2}'))
             self.check("the receipts", sorted(references(answered(server.port, b"GET /v1/lists/commands HTTP/1.0\r\n\r\n"))), [(1, "R-1"), (2, "R-2")])
 
     def test_reference_of_the_head_is_one_that_is_needed(self) -> None:
         with Server(self.desk, ":memory:", 3, "--references") as server:
             self.check("none", answered(server.port, booked(command())), MISSING)
             self.check("that of the head", answered(server.port, booked(command(), "Desk-Ref: R-1")), answer('{"ok":1}'))
-            self.check("and at its number", answered(server.port, booked(command("B"), "Desk-Ref: R-2", "Desk-Seq: 1")), answer('{"ok":2}'))
+            self.check("and at its number", answered(server.port, booked(command(name="B"), "Desk-Ref: R-2", "Desk-Seq: 1")), answer('{"ok":2}'))
 
     def test_check_is_made_under_the_same_reference(self) -> None:
         with Server(self.desk, ":memory:", 3) as server:

@@ -14,7 +14,9 @@ import subprocess
 import time
 
 from tests.support.cases import DeskTestCase
-from tests.support.http import DATE, Server, answer, answered, connected, desk_answer, free_port, listens, posted, status_answer
+from tests.support.http import (
+    DATE, ORDERS, Server, answer, answered, booked, checked, command, connected, desk_answer, free_port, imported, listens, posted, status_answer,
+)
 from tests.support.program import SECONDS
 
 MISSING = answer('{"reference":"missing","status":400}', 400)
@@ -25,8 +27,7 @@ AHEAD = answer('{"ahead":60,"status":400}', 400)
 # The field that a proxy sets from its login.
 FIELD = "X-Operator"
 
-# An order file, and one with a fault.
-ORDERS = b"order,recipe,version,size,due,priority\nO-1,R-1,1,1,2027-01-01,1\n"
+# An order file with a fault.
 NO_ORDERS = b"order\n"
 
 # A moment that no clock reaches.
@@ -51,23 +52,6 @@ WRONG_HEADS: list[tuple[str, list[str]]] = [
     ("an underscore", ["X_Operator: anna"]),
     ("Desk-By alone", ["Desk-By: anna"]),
 ]
-
-
-def command(by: str = "anna", at: int = 100, name: str = "RAW", **more: str) -> bytes:
-    """Returns a command that a new desk accepts."""
-    return json.dumps({"at": at, "by": by, "do": "add_class", "class": name, "name": "", **more}, separators=(",", ":")).encode()
-
-
-def booked(body: bytes, *fields: str) -> bytes:
-    return posted("/v1/commands", body, *fields)
-
-
-def checked(body: bytes, *fields: str) -> bytes:
-    return posted("/v1/check", body, *fields)
-
-
-def imported(*fields: str, file: bytes = ORDERS) -> bytes:
-    return posted("/v1/orders", file, "Desk-At: 100", *fields)
 
 
 def asked(path: str, *fields: str, method: str = "GET") -> bytes:

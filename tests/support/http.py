@@ -1,6 +1,7 @@
 """HTTP: requests and answers, connections, and servers of the desk."""
 from __future__ import annotations
 
+import json
 import pathlib
 import random
 import re
@@ -63,6 +64,30 @@ def posted(path: str, body: bytes, *fields: str) -> bytes:
     """Returns a request that posts a body."""
     lines = [f"POST {path} HTTP/1.1", "Host: a", f"Content-Length: {len(body)}", *fields, "", ""]
     return "\r\n".join(lines).encode() + body
+
+
+# An order file.
+ORDERS = b"order,recipe,version,size,due,priority\nO-1,R-1,1,1,2027-01-01,1\n"
+
+
+def command(by: str = "anna", at: int = 100, name: str = "RAW", **more: str) -> bytes:
+    """Returns a command that a new desk accepts."""
+    return json.dumps({"at": at, "by": by, "do": "add_class", "class": name, "name": "", **more}, separators=(",", ":")).encode()
+
+
+def booked(body: bytes, *fields: str) -> bytes:
+    """Returns a request to book a command."""
+    return posted("/v1/commands", body, *fields)
+
+
+def checked(body: bytes, *fields: str) -> bytes:
+    """Returns a request to check a command."""
+    return posted("/v1/check", body, *fields)
+
+
+def imported(*fields: str, file: bytes = ORDERS) -> bytes:
+    """Returns a request to import an order file."""
+    return posted("/v1/orders", file, "Desk-At: 100", *fields)
 
 
 # A question, and a command, with what a new desk answers.

@@ -1,7 +1,7 @@
 -- What a page finds among the tables of a valid state.
 use Rattle.std.proofs.Common.{◌≡◌, ◌∙◌, ℕ, zero, suc, ◌+◌, Bool, true, false, ◌&&◌, ◌==◌, if◌then◌else◌, arith, ◌<◌, nat_lt, List, [], ◌∷◌, Option, Some, None, refl, sym, ap, ap₂, codes, pos, is_eq, is_gt, nat_cmp, Ordering, Less, Equal, Greater}
-use Rattle.std.specs.Cmp.{IsTotalOrder, ranks, unsigned_ties}
-use Rattle.std.specs.Ordering.{ordering_then, MatchOrdering}
+use Rattle.std.specs.Cmp.{IsTotalOrder, unsigned_ties}
+use Rattle.std.specs.Ordering.{ordering_then}
 use Rattle.std.specs.Float.Ieee
 use Rattle.std.proofs.lemmas.Bool.Decides.{nat_tests}
 use Rattle.std.proofs.lemmas.Cmp.{nat_cmp_total, on_total}

@@ -12,6 +12,6 @@ abbrev pub orders_or_fault : List RecordFault → List NumberedOrder → Result 
 orders_or_fault [] orders = Ok (map (λ o. o.order) orders)
 orders_or_fault (f ∷ faults) orders = Err f.fault
 
--- an import takes a file exactly where its examination finds no fault, with the orders that this finds, and else reports the first fault of these
+-- an import reads a file exactly where its examination finds no fault, with the orders that this finds, and else reports the first of these faults
 abbrev pub AnImportAgreesWithTheExamination : Type 0
 AnImportAgreesWithTheExamination = (text : List ℕ) → orders_of text ≡ orders_or_fault (faults_of text) (numbered_orders_of text)

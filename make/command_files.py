@@ -130,7 +130,7 @@ HOMES = [
     ("plant_base.specs", "Command", "plant_json_in/specs"),
     ("std.specs.Prelude", r"decimal|IsTrue|◌\^◌|option_and_then|slice_get", ""),
     ("std.specs.List", "list_any", ""),
-    ("plant_base.specs.Values", r"is_(id|text|unit|amount)|greatest_sublot", ""),
+    ("plant_values.specs", r"is_(id|text|unit|amount)|greatest_sublot", ""),
     ("plant_base.specs.Words", "word_name", ""),
     ("plant_base.specs.PlantState", "same", ""),
     ("plant_base.specs.WellFormedCommands", "is_(version|phase_number|command_word)|is_well_formed_(merge|add_recipe|import_orders)", ""),

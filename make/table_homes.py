@@ -8,7 +8,7 @@ ROWS = "(?!Type$)[A-Z][a-z]+([A-Z][a-z]+)*"
 HOMES = [
     ("plant_base.specs.StateRows", "State", "plant_base/specs"),
     ("plant_base.specs.PlantState", "id_cmp|same", "plant_base/specs"),
-    ("plant_base.specs.Values", r"is_\w+", "plant_base/specs"),
+    ("plant_values.specs", r"is_\w+", "plant_base/specs"),
     ("std.specs.declared.cmp.Ordering", "Ordering", "plant_base/specs"),
     ("plant_base.specs.declared.rows.*", ROWS, "plant_base/specs"),
     ("plant_view.specs.KeptColumns", r"\w+_of_row|(batch|sublot)_row(_order)?|position_of|edges_in|sublot_order|without_hold", "plant_view/specs"),

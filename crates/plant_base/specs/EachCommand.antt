@@ -20,7 +20,7 @@ use Rattle.plant_base.specs.declared.command.Settle.{Settle}
 use Rattle.plant_base.specs.declared.command.Split.{Split}
 use Rattle.plant_base.specs.declared.command.UnholdLot.{UnholdLot}
 use Rattle.plant_base.specs.declared.command.Withdraw.{Withdraw}
-use Rattle.plant_base.specs.Values.{greatest_sublot, is_amount, is_id, is_text, is_unit}
+use Rattle.plant_values.specs.{greatest_sublot, is_amount, is_id, is_text, is_unit}
 use Rattle.plant_base.specs.Words.{word_name}
 use Rattle.plant_base.specs.WellFormedCommands.{HasAddRecipeValues, HasImportOrdersValues, HasMergeValues, is_command_word, is_phase_number, is_version, is_well_formed_add_recipe, is_well_formed_import_orders, is_well_formed_merge}
 use Rattle.plant_base.specs.ContentLines.{HasAddRecipeNumbers, HasImportOrdersNumbers, HasMergeNumbers, add_recipe_lines, import_orders_lines, merge_lines}

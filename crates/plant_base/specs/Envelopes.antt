@@ -1,6 +1,6 @@
 -- What holds of the values of an envelope.
 use Rattle.std.specs.Prelude.{IfSome, IsTrue}
-use Rattle.plant_base.specs.Values.{is_id, is_text, is_moment}
+use Rattle.plant_values.specs.{is_id, is_text, is_moment}
 use Rattle.plant_base.specs.declared.commands.Command.TheVariants as body
 use Rattle.plant_base.specs.declared.command.Envelope.{Envelope}
 use Rattle.plant_base.specs.declared.command.Stamp.{Stamp}

@@ -2,7 +2,7 @@
 use Rattle.std.specs.Prelude.{List, Option, find, true, ℕ, ◌≡◌}
 use Rattle.plant_base.specs.StateRows.{State}
 use Rattle.plant_base.specs.PlantState.{id_cmp, same}
-use Rattle.plant_base.specs.Values.{is_id, is_text, is_unit}
+use Rattle.plant_values.specs.{is_id, is_text, is_unit}
 use Rattle.std.specs.declared.cmp.Ordering.{Ordering}
 use Rattle.plant_base.specs.declared.rows.Class.{Class}
 use Rattle.plant_base.specs.declared.rows.Definition.{Definition}

@@ -1,8 +1,8 @@
 -- Which lists and numbers of commands are well formed, and what holds of the values of lists.
 use Rattle.std.specs.Prelude.{ℕ, Bool, true, false, ◌&&◌, ◌==◌, not, nat_le, List, [], ◌∷◌, length, IsTrue, All}
 use Rattle.std.specs.List.{list_all, list_any}
-use Rattle.plant_base.specs.Values.{is_id, is_text, is_amount, greatest_sublot, greatest_version, greatest_priority, greatest_phase}
-use Rattle.plant_base.specs.Dates.{is_due}
+use Rattle.plant_values.specs.{is_id, is_text, is_amount, greatest_sublot, greatest_version, greatest_priority, greatest_phase}
+use Rattle.plant_values.specs.{is_due}
 use Rattle.plant_base.specs.PlantState.{same}
 use Rattle.plant_base.specs.declared.states.Word.{Word}
 use Rattle.plant_base.specs.declared.states.Word.TheVariants.{Done}

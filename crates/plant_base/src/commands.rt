@@ -8,7 +8,7 @@ use crate::command::{
     Release, Scrap, Settle, Split, UnholdLot, Withdraw, is_command_word, is_phase_number,
     is_version, show_amount, show_goods, show_id, show_ids, show_number, show_phase, show_text,
 };
-use crate::values::GREATEST_SUBLOT;
+use plant_values::GREATEST_SUBLOT;
 
 /// One command of the desk.
 #[derive(Drop)]

@@ -1,0 +1,3 @@
+pub mod Ascii
+pub mod BytesCompareAsNumbers
+pub mod PaddedTextsCompare

@@ -1,0 +1,7 @@
+-- what is left decides
+use Rattle.std.proofs.Common.{◌≡◌, ◌*◌, drop, nat_cmp}
+use Rattle.std.specs.Cmp.Lexicographic.{slice_cmp}
+use Rattle.plant_values.proofs.short.order.Given as goal
+
+abbrev pub invariant-loop-i : goal.invariant-loop-i
+invariant-loop-i l = slice_cmp nat_cmp l.a l.b ≡ slice_cmp nat_cmp (drop (8 * l.i) l.a) (drop (8 * l.i) l.b)

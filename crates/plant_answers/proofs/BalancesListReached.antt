@@ -7,11 +7,12 @@ use Rattle.plant_view.specs.DecisionInvariant.{DecisionInvariant}
 use Rattle.plant_trace.specs.{node_cmp, Node}
 use Rattle.plant_trace.specs.declared.direction.Direction.TheVariants.{Forward}
 use Rattle.plant_trace.specs.declared.node.Node.TheVariants as node
-use Rattle.plant_answers.specs.{nodes_around, balance_if, balance_at, balances_around, entered_in_all, left_in_all, lot_balance, BalancedFrom, IsAround, balance_order}
+use Rattle.plant_answers_genealogy.specs.{nodes_around, balance_if, balance_at, balances_around, entered_in_all, left_in_all, lot_balance, IsAround}
+use Rattle.plant_answers.specs.{BalancedFrom, balance_order}
 use Rattle.plant_questions.specs.{LotBalance}
-use Rattle.plant_answers.proofs.BalancesClose.{closes}
-use Rattle.plant_answers.proofs.FilterKeepsOrder.{picked_in, picked_from, picked_sorted}
-use Rattle.plant_answers.proofs.GoodsAreReached.{around_lists}
+use Rattle.plant_answers_genealogy.proofs.BalancesClose.{closes}
+use Rattle.plant_answers_genealogy.proofs.FilterKeepsOrder.{picked_in, picked_from, picked_sorted}
+use Rattle.plant_answers_genealogy.proofs.GoodsAreReached.{around_lists}
 
 -- a lot that is reported is there
 lot_there : (s : State) (id : List ℕ) (b : LotBalance) (o : Option Lot) → lot_at s id ≡ o → balance_if s o ≡ Some b → (l : Lot) × ((lot_at s id ≡ Some l) × ((b.standing.known.lot ≡ id) × (b ≡ lot_balance s l)))

@@ -10,10 +10,11 @@ use Rattle.plant_trace.proofs.LeadsIsReach.{none_in}
 use Rattle.plant_trace.proofs.NodeOrder.{node_eq_exact, node_eq_itself}
 use Rattle.plant_view.specs.{edge_row_of, edge_rows, ends_of}
 use Rattle.plant_view.proofs.Membership.{all_in, filter_in, filter_from, map_in, map_from, map_sorted, put_all_from, sorted_put_all}
-use Rattle.plant_answers.specs.{nodes_around, booked_edge, edges_between, is_among, is_between, IsBooked, booked_order}
+use Rattle.plant_answers_genealogy.specs.{nodes_around, booked_edge, edges_between, is_among, is_between}
+use Rattle.plant_answers.specs.{IsBooked, booked_order}
 use Rattle.plant_questions.specs.{BookedEdge}
-use Rattle.plant_answers.proofs.GoodsAreReached.{around_lists}
-use Rattle.plant_answers.proofs.FilterKeepsOrder.{picked_in, picked_from}
+use Rattle.plant_answers_genealogy.proofs.GoodsAreReached.{around_lists}
+use Rattle.plant_answers_genealogy.proofs.FilterKeepsOrder.{picked_in, picked_from}
 use Rattle.std.proofs.lemmas.Bool.{and_parts, and_from}
 
 pub among_in : (nodes : List Node) (y : Node) → is_among nodes y ≡ true → Contains nodes y

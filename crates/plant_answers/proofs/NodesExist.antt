@@ -15,11 +15,11 @@ use Rattle.plant_trace.proofs.AddingKeepsAcyclic.{first_edge, last_edge}
 use Rattle.plant_view.specs.{edge_by, edge_of, edges_of, refuse, IsThere}
 use Rattle.plant_view.specs.DecisionInvariant.{DecisionInvariant}
 use Rattle.plant_view.proofs.Membership.{all_at, all_from}
-use Rattle.plant_answers.specs.{nodes_around, lot_node, named, node_answer, node_if, IsAround, missing}
+use Rattle.plant_answers_genealogy.specs.{nodes_around, lot_node, named, node_answer, node_if, IsAround, missing}
 use Rattle.plant_questions.specs.{NodeAnswer}
 use Rattle.plant_questions.specs.declared.genealogy.NodeAnswer.TheVariants as known
-use Rattle.plant_answers.proofs.GoodsAreReached.{around_lists}
-use Rattle.plant_answers.proofs.FilterKeepsOrder.{picked_from}
+use Rattle.plant_answers_genealogy.proofs.GoodsAreReached.{around_lists}
+use Rattle.plant_answers_genealogy.proofs.FilterKeepsOrder.{picked_from}
 
 module _ (s : State) (sound : DecisionInvariant s) where
   -- the lot is there, if the node is one

@@ -1,5 +1,5 @@
 -- What a reader looks for in the answers and tables of a state.
-use Rattle.std.specs.Prelude.{◌≡◌, ◌<◌, ◌↔◌, ◌⊎◌, ◌+◌, ℕ, true, false, List, [], pos, Some, None, map, Contains}
+use Rattle.std.specs.Prelude.{◌≡◌, ◌↔◌, ◌+◌, ℕ, true, false, List, [], pos, Some, None, map, Contains}
 use Rattle.std.specs.List.Sorted.{IsStrictlySortedBy}
 use Rattle.std.specs.declared.cmp.Ordering.{Ordering}
 use Rattle.plant_base.specs.{edge_order, is_open, mark_order, State, newest_schema, id_cmp, lot_at, recall_at, Lot, Mark, Movement, Place, Recall}
@@ -10,10 +10,7 @@ use Rattle.plant_trace.specs.declared.node.Node.TheVariants as node
 use Rattle.plant_view.specs.{edge_row_of, edges_of, ends_of, Reaches, node_of, state_without_kept, tables_of, IsWholeIn, sublot_row}
 use Rattle.plant_view.specs.DecisionInvariant.{DecisionInvariant}
 use Rattle.plant_answers.specs.Answers.{answer}
-use Rattle.plant_answers.specs.Balances.{entered_in_all, left_in_all, lot_balance}
-use Rattle.plant_answers.specs.Genealogy.{amount_of, named}
-use Rattle.plant_answers.specs.Traces.{missing}
-use Rattle.plant_answers.specs.ListAnswers.{standing_lot}
+use Rattle.plant_answers_genealogy.specs.{IsAround, StandsFrom, amount_of, entered_in_all, left_in_all, lot_balance, missing, named, standing_order}
 use Rattle.plant_questions.specs.{BookedEdge, Genealogy, LotBalance, RecallAnswer, StandingLot}
 use Rattle.plant_questions.specs.declared.question.Question.TheVariants as Q
 use Rattle.plant_questions.specs.declared.question.Answer.TheVariants as A
@@ -22,21 +19,6 @@ use Rattle.plant_questions.specs.declared.question.Answer.TheVariants as A
 abbrev pub TracesListReached : Type 0
 TracesListReached = (k : ℕ) (s : State) (direction : Direction) (start : Node) → missing s start ≡ None
     → (nodes : List Node) × (answer k s (Q.Trace direction start) ≡ A.Trace nodes) × Lists (IsReached direction (edges_of s) start) nodes
-
--- the node is the start, or the least relation reaches it from there
-abbrev pub IsAround : State → Direction → Node → Node → Type 0
-IsAround s direction start y = (y ≡ start) ⊎ IsReached direction (edges_of s) start y
-
--- what is known of a lot that is there, that the start is or leads to, and that has stock
-pub record StandsFrom (s : State) (start : Node) (a : StandingLot) : Type 0 where
-  pub lot : Lot
-  pub reached : IsAround s Forward start (node.Lot a.known.lot)
-  pub there : lot_at s a.known.lot ≡ Some lot
-  pub reported : a ≡ standing_lot s lot
-  pub stocked : 0 < a.known.stock
-
-abbrev pub standing_order : StandingLot → StandingLot → Ordering
-standing_order a b = id_cmp a.known.lot b.known.lot
 
 -- Where the goods of a lot or batch are that is there: the answer lists just such lots, ascending, each once, and no other.
 abbrev pub StandsListReached : Type 0

@@ -1,19 +1,14 @@
 -- What is found for an answer about a batch.
-use Rattle.std.specs.Prelude.{◌≡◌, ℕ, List, map, filter_map}
+use Rattle.std.specs.Prelude.{◌≡◌, ℕ, List, map}
 use Rattle.plant_base.specs.{State, control_lines_of, BatchRow}
 use Rattle.plant_view.specs.{batch_row, events_of}
-use Rattle.plant_answers.specs.BatchViews.{measured_line, consumption, production}
+use Rattle.plant_answers.specs.BatchViews.{measured_line}
 use Rattle.plant_answers.specs.declared.batch_answers.FoundBatch.{FoundBatch}
-use Rattle.plant_answers.specs.declared.bookings.BatchBookings.{BatchBookings}
+use Rattle.plant_answers_genealogy.specs.{AreBookingsOf}
 
 -- the row's columns are the fold of the events of its batch
 abbrev pub IsRowOf : State → BatchRow → Type 0
 IsRowOf s r = r ≡ batch_row s.control_lines s.events r.batch
-
--- what the batch of this id took and brought
-pub record AreBookingsOf (s : State) (batch : List ℕ) (found : BatchBookings) : Type 0 where
-  pub consumed : found.consumed.items ≡ filter_map (consumption s batch) s.movements
-  pub produced : found.produced.items ≡ filter_map (production s batch) s.movements
 
 -- what the other tables have of the batch of this id
 pub record IsFoundOf (s : State) (batch : List ℕ) (found : FoundBatch) : Type 0 where

@@ -2,17 +2,11 @@
 use Rattle.std.specs.Prelude.{ℕ, List, Option, Some, None, option_map}
 use Rattle.plant_base.specs.{State, definition_at, recipe_at, lot_at, job_at, batch_at, batch_of, recall_at, Job}
 use Rattle.plant_base.specs.declared.refusal.Refusal.TheVariants.{UnknownOrder}
-use Rattle.plant_answers.specs.Balances.{answer_balance}
-use Rattle.plant_answers.specs.Surroundings.{answer_stands}
+use Rattle.plant_answers_genealogy.specs.{answer_balance, answer_stands, answer_edges, answer_lot, answer_recall, missing, answer_trace}
 use Rattle.plant_answers.specs.BatchLines.{answer_batch_lines}
 use Rattle.plant_answers.specs.BatchViews.{answer_batch}
-use Rattle.plant_answers.specs.Finding.{found_ids}
-use Rattle.plant_answers.specs.Genealogy.{answer_edges}
-use Rattle.plant_answers.specs.LotAnswers.{answer_lot}
+use Rattle.plant_answers_pages.specs.{found_ids, answer_definition, answer_recipe}
 use Rattle.plant_answers.specs.Needs.{answer_needs}
-use Rattle.plant_answers.specs.RecallAnswers.{answer_recall}
-use Rattle.plant_answers.specs.RecipeAnswers.{answer_definition, answer_recipe}
-use Rattle.plant_answers.specs.Traces.{missing, answer_trace}
 use Rattle.plant_answers.specs.ListAnswers.{answer_list}
 use Rattle.plant_questions.specs.{Answer, OrderAnswer, Question}
 use Rattle.plant_questions.specs.declared.question.Question.TheVariants as Q

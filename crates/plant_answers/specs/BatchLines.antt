@@ -1,15 +1,12 @@
 -- The control recipe of a batch, and what was booked of each line.
-use Rattle.std.specs.Prelude.{ℕ, ◌-◌, ◌^◌, min, List, Option, Some, None, map, filter_map}
+use Rattle.std.specs.Prelude.{ℕ, List, Option, Some, None, map, filter_map}
 use Rattle.plant_base.specs.{State, control_lines_of, Batch, RecipeLine}
 use Rattle.plant_base.specs.declared.refusal.Refusal.TheVariants.{UnknownBatch}
 use Rattle.plant_base.specs.declared.rows.RecipeLine.TheVariants.{In, Out, Parameter, Phase}
-use Rattle.plant_answers.specs.BatchViews.{consumption, measured_line, production}
+use Rattle.plant_answers_genealogy.specs.{consumption, in_64_bits, production}
+use Rattle.plant_answers.specs.BatchViews.{measured_line}
 use Rattle.plant_questions.specs.{booked_of, Answer, BatchLines, BookedLine, Booking, MeasuredLine}
 use Rattle.plant_questions.specs.declared.question.Answer.TheVariants as A
-
--- a number, as far as 64 bits hold it
-abbrev pub in_64_bits : ℕ → ℕ
-in_64_bits n = min n (2 ^ 64 - 1)
 
 -- of an input what was consumed of its definition, of an output what was produced
 abbrev pub booked_in : List Booking → List Booking → RecipeLine → ℕ

@@ -1,31 +1,15 @@
 -- What is answered of a list.
-use Rattle.std.specs.Prelude.{ℕ, ◌-◌, true, false, List, Option, Some, None, length, map, option_map, slice_get, filter_map}
-use Rattle.plant_base.specs.{State, class_at, definition_at, lot_at, Lot, Receipt, Refusal}
+use Rattle.std.specs.Prelude.{true, false, Option, Some, None}
+use Rattle.plant_base.specs.{State, class_at, definition_at, lot_at, Refusal}
 use Rattle.plant_base.specs.declared.refusal.Refusal.TheVariants.{UnknownClass, UnknownDefinition, UnknownLot}
-use Rattle.plant_questions.specs.{page_of, orders_in, orders_by_due, receipts_by_number, batches_in, lots_of, holds_on, recalls_in, classes_after, definitions_in, recipes_in, ledger_of, all_holds, ListQuestion, Page}
+use Rattle.plant_questions.specs.{page_of, orders_in, orders_by_due, receipts_by_number, batches_in, lots_of, holds_on, recalls_in, classes_after, definitions_in, recipes_in, ledger_of, all_holds, ListQuestion}
 use Rattle.plant_questions.specs.declared.list_question.ListQuestion.TheVariants as list
-use Rattle.plant_answers.specs.CommandHeads.{head_of}
-pub use Rattle.plant_answers.specs.StandingLots.{if_stocked, standing_lot, stocked_lot}
+use Rattle.plant_answers_genealogy.specs.{lot_page}
+use Rattle.plant_answers_pages.specs.{batch_page, command_page}
 use Rattle.plant_answers.specs.Stock.{stock_page, stocks_page}
-use Rattle.plant_answers.specs.OpenBatches.{batch_page}
-use Rattle.plant_questions.specs.{Answer, BookedCommand, Listed, LotPage}
+use Rattle.plant_questions.specs.{Answer, Listed}
 use Rattle.plant_questions.specs.declared.listed.Listed.TheVariants as listed
 use Rattle.plant_questions.specs.declared.question.Answer.TheVariants as A
-
--- ---- lots
-
-abbrev pub lot_page : State → Page Lot → LotPage
-lot_page s page = record { lots = filter_map (stocked_lot s) page.rows; last = option_map (λ l. l.id) (slice_get page.rows (length page.rows - 1)); has_more = page.has_more }
-
--- ---- commands
-
-abbrev pub booked_command : Receipt → BookedCommand
-booked_command r = record { seq = r.seq; reference = r.reference; head = head_of r.content }
-
-abbrev pub command_page : Page Receipt → Page BookedCommand
-command_page page = record { rows = map booked_command page.rows; has_more = page.has_more }
-
--- ---- answers
 
 -- the refusal where this isn't there
 abbrev pub unless_there : {A : Type 0} → Option A → Refusal → Option Refusal

@@ -4,8 +4,8 @@ use Rattle.plant_base.specs.{State, recipe_at, Job, Recipe, RecipeLine}
 use Rattle.plant_base.specs.declared.refusal.Refusal.TheVariants.{UnknownOrder}
 use Rattle.plant_base.specs.declared.rows.RecipeLine.TheVariants.{In, Out, Parameter, Phase}
 use Rattle.plant_recipe.specs.{scaled_of}
-use Rattle.plant_answers.specs.BatchLines.{in_64_bits}
-use Rattle.plant_answers.specs.RecipeAnswers.{recipe_answer}
+use Rattle.plant_answers_genealogy.specs.{in_64_bits}
+use Rattle.plant_answers_pages.specs.{recipe_answer}
 use Rattle.plant_answers.specs.Stock.{all_in_stock, total_in}
 use Rattle.plant_answers.specs.declared.stocks.Part.TheVariants as part
 use Rattle.plant_questions.specs.{Answer, Need, RecipeLineAnswer, StandingLot}

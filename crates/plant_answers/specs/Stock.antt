@@ -5,14 +5,12 @@ use Rattle.std.specs.BTreeSet.{insert_key}
 use Rattle.std.specs.declared.cmp.Ordering.{Ordering}
 use Rattle.plant_base.specs.{State, lot_at, id_cmp, same, Definition, Lot, Movement, Sublot}
 use Rattle.plant_questions.specs.{definitions_in, ledger_of, page_of, sublots_in_stock, Cursor, DefinitionStock, Page, StandingLot, StockedLot}
-use Rattle.plant_answers.specs.StandingLots.{standing_lot}
+use Rattle.plant_answers_genealogy.specs.{standing_lot, in_64_bits, stocked_at}
 use Rattle.plant_answers.specs.StockOrder.{stock_order}
 use Rattle.plant_answers.specs.declared.stock.AgedLot.{AgedLot}
 use Rattle.plant_answers.specs.declared.stock.LotOf.{LotOf}
 use Rattle.plant_answers.specs.declared.stocks.Part.{Part}
 use Rattle.plant_answers.specs.declared.stocks.Part.TheVariants as part
-use Rattle.plant_answers.specs.BatchLines.{in_64_bits}
-use Rattle.plant_answers.specs.Surroundings.{stocked_at}
 use Rattle.plant_trace.specs.{node_cmp}
 use Rattle.plant_trace.specs.declared.node.Node.TheVariants as node
 

@@ -6,18 +6,14 @@ ghost use Rattle.plant_view.specs.DecisionInvariant.{DecisionInvariant};
 ghost use Rattle.plant_answers.specs.Answers.{answer, answer_order};
 ghost use Rattle.plant_questions.specs.declared.question.Answer.TheVariants as A;
 
-use crate::balances::balance_answer;
 use crate::batch_answers::batch_answer;
 use crate::batch_lines::batch_lines_answer;
-use crate::edge_answers::edges_answer;
-use crate::finding::find_answer;
 use crate::list_answers::list_answer;
-use crate::lot_answers::lot_answer;
 use crate::needs::needs_answer;
-use crate::recalls::recall_answer;
-use crate::recipe_answers::{definition_answer, recipe_answer};
-use crate::standing::stands_answer;
-use crate::traces::trace_answer;
+use plant_answers_genealogy::{
+    balance_answer, edges_answer, lot_answer, recall_answer, stands_answer, trace_answer,
+};
+use plant_answers_pages::{definition_answer, find_answer, recipe_answer};
 use plant_base::{Batch, Id, Job, NEWEST_SCHEMA, Refusal};
 use plant_questions::{Answer, OrderAnswer, Question, Worklists};
 use plant_view::{View, ViewFault, lookup};

@@ -5,14 +5,12 @@ ghost use Rattle.plant_trace.specs.ReadOnly.{ReadOnly};
 ghost use Rattle.plant_view.specs.DecisionInvariant.{DecisionInvariant};
 ghost use Rattle.plant_view.specs.{progress_at};
 ghost use Rattle.plant_answers.specs.Answering.{IsRowOf, IsFoundOf};
-ghost use Rattle.plant_answers.specs.BatchViews.{material_of, unit_among, measured_line};
-ghost use Rattle.plant_answers.specs.BatchViews.{batch_view, answer_batch, answer_planned};
-ghost use Rattle.plant_answers.specs.BatchViews.{answer_headed};
+ghost use Rattle.plant_answers.specs.BatchViews.{answer_batch, answer_headed, answer_planned};
+ghost use Rattle.plant_answers.specs.BatchViews.{batch_view, measured_line};
 
-use crate::bookings::{BatchBookings, bookings_of};
-use plant_base::{
-    BatchEvent, BatchRow, ControlLine, Header, Id, Items, Job, RecipeLine, Refusal, Unit,
-};
+use plant_answers_genealogy::{BatchBookings, bookings_of};
+use plant_answers_pages::{material_of, unit_among};
+use plant_base::{BatchEvent, BatchRow, ControlLine, Header, Id, Items, Job, Refusal};
 use plant_questions::{Answer, BatchView, MeasuredLine};
 use plant_recipe::Progress;
 use plant_view::{View, ViewFault, lookup};
@@ -181,29 +179,4 @@ fn measured_line<V: View>(
 {
     let unit = unit_among(view, material_of(line.line))?;
     Ok(MeasuredLine { line: *line, unit })
-}
-
-pub(crate) fn unit_among<V: View>(
-    view: &mut V,
-    def: Option<Id>,
-) -> Result<Option<Unit>, ViewFault<V::Fault>>
-    ensures { ReadOnly V.Edges view.old view.new
-        (IfOk result (λ unit. unit ≡ unit_among (V.state view.old).definitions def)) }
-{
-    match def {
-        None => Ok(None),
-        Some(def) => {
-            let definition = lookup::definition(view, def)?;
-            Ok(definition.map(|d| d.unit))
-        }
-    }
-}
-
-pub(crate) fn material_of(line: RecipeLine) -> Option<Id>
-    ensures { result ≡ material_of line }
-{
-    match line {
-        RecipeLine::In { def, .. } | RecipeLine::Out { def, .. } => Some(def),
-        RecipeLine::Parameter { .. } | RecipeLine::Phase { .. } => None,
-    }
 }

@@ -4,13 +4,13 @@ ghost use Rattle.plant_base.specs.{State, batch_at, control_lines_of};
 ghost use Rattle.plant_trace.specs.ReadOnly.{ReadOnly};
 ghost use Rattle.plant_view.specs.DecisionInvariant.{DecisionInvariant};
 ghost use Rattle.plant_questions.specs.{booked_of};
-ghost use Rattle.plant_answers.specs.Answering.{AreBookingsOf};
+ghost use Rattle.plant_answers_genealogy.specs.{AreBookingsOf};
 ghost use Rattle.plant_answers.specs.BatchViews.{measured_line};
 ghost use Rattle.plant_answers.specs.BatchLines.{answer_batch_lines, batch_lines, booked_in};
-ghost use Rattle.plant_answers.specs.BatchLines.{booked_line, booked_lines, in_64_bits};
+ghost use Rattle.plant_answers.specs.BatchLines.{booked_line, booked_lines};
 
 use crate::batch_answers::measured_lines;
-use crate::bookings::{BatchBookings, bookings_of};
+use plant_answers_genealogy::{BatchBookings, bookings_of, in_64_bits};
 use plant_base::{Id, Items, RecipeLine, Refusal};
 use plant_questions::{Answer, BatchLines, BookedLine, Booking, MeasuredLine, booked_of};
 use plant_view::{View, ViewFault, lookup};
@@ -106,10 +106,4 @@ fn booked_in(line: RecipeLine, consumed: &[Booking], produced: &[Booking]) -> u6
         RecipeLine::Out { def, .. } => in_64_bits(booked_of(def, produced)),
         RecipeLine::Parameter { .. } | RecipeLine::Phase { .. } => 0,
     }
-}
-
-pub(crate) fn in_64_bits(number: u128) -> u64
-    ensures { result ≡ in_64_bits number }
-{
-    u64::try_from(number).unwrap_or(u64::MAX)
 }

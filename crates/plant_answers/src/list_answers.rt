@@ -4,11 +4,10 @@ ghost use Rattle.plant_trace.specs.ReadOnly.{ReadOnly};
 ghost use Rattle.plant_view.specs.DecisionInvariant.{DecisionInvariant};
 ghost use Rattle.plant_answers.specs.ListAnswers.{answer_list, listed_of, unknown_of, unless_there};
 
-use crate::commands::command_page;
-use crate::open_batches::batch_page;
 use crate::stock::stock_page;
-use crate::stocked_lots::lot_page;
 use crate::stocks::stocks_page;
+use plant_answers_genealogy::lot_page;
+use plant_answers_pages::{batch_page, command_page};
 use plant_base::Refusal;
 use plant_questions::{Answer, ListQuestion, Listed, Worklists, all_holds};
 use plant_view::{View, ViewFault, lookup};

@@ -5,9 +5,9 @@ ghost use Rattle.plant_trace.specs.ReadOnly.{ReadOnly};
 ghost use Rattle.plant_view.specs.DecisionInvariant.{DecisionInvariant};
 ghost use Rattle.plant_answers.specs.Needs.{answer_needs, need, need_of, needs_by};
 
-use crate::batch_lines::in_64_bits;
-use crate::recipe_answers::found_recipe;
 use crate::stocks::{Part, all_in_stock, total_in};
+use plant_answers_genealogy::in_64_bits;
+use plant_answers_pages::found_recipe;
 use plant_base::{Amount, Id, Items, Recipe, RecipeLine, Refusal, Unit};
 use plant_questions::{Answer, Need, RecipeAnswer, RecipeLineAnswer, StandingLot, Worklists};
 use plant_recipe::scaled;

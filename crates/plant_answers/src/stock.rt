@@ -3,17 +3,15 @@ ghost use Rattle.std.specs.Prelude.{◌≡◌, [], IfOk, Some, filter, filter_ma
 ghost use Rattle.plant_trace.specs.ReadOnly.{ReadOnly};
 ghost use Rattle.plant_view.specs.DecisionInvariant.{DecisionInvariant};
 ghost use Rattle.plant_questions.specs.{page_of, sublots_in_stock};
-ghost use Rattle.plant_answers.specs.ListAnswers.{standing_lot};
-ghost use Rattle.plant_answers.specs.KnownLots.{AreKnown, after_lot, after_row};
+ghost use Rattle.plant_answers_genealogy.specs.{after_lot, after_row};
 ghost use Rattle.plant_answers.specs.Stock.{aged_at, aged_if, birth_of, is_aged_after, lot_of};
 ghost use Rattle.plant_answers.specs.Stock.{each_once, lots_in_stock, number_born, stock_page, stocked};
 ghost use Rattle.plant_answers.specs.StockOrder.{stock_order, stock_partial, stock_ties, stock_total};
 
-use crate::each_told::{RowOf, each_row};
-use crate::known_lots::{KnownLots, known_lot, known_row};
+use plant_answers_genealogy::{KnownLots, RowOf, each_row, known_row, standing_lot};
 use plant_base::{Id, Items, Lot, Movement, Sublot};
-use plant_questions::{Cursor, Page, StandingLot, StockedLot, Worklists, first_page};
-use plant_view::{View, ViewFault, lookup};
+use plant_questions::{Cursor, Page, StockedLot, Worklists, first_page};
+use plant_view::{View, ViewFault};
 use std::alloc::{AllocError, Global};
 use std::cmp::Ordering;
 use std::collections::BTreeSet;
@@ -255,22 +253,4 @@ impl RowOf<StockedLot> for AgedLot {
         let born = birth_of(view, self.lot.id)?;
         Ok(Some(StockedLot { standing, born }))
     }
-}
-
-/// What is known of a lot, and whether an open recall reaches it.
-pub(crate) fn standing_lot<V: Worklists>(
-    alloc: Global,
-    view: &mut V,
-    known: &mut KnownLots,
-    lot: &Lot,
-) -> Result<StandingLot, ViewFault<V::Fault>>
-    ensures { ReadOnly V.Edges view.old view.new
-        (DecisionInvariant (V.state view.old) → AreKnown (V.state view.old) known.old
-        → IfOk result (λ a. a ≡ standing_lot (V.state view.old) lot.now)
-        × AreKnown (V.state view.old) known.new
-        × IfOk result (λ _. known.new ≡ after_lot (V.state view.old) lot.now known.old)) }
-{
-    let known = known_lot(alloc, view, known, lot)?;
-    let recalled = lookup::is_blocked(view, lot.id)?;
-    Ok(StandingLot { known, recalled })
 }

@@ -8,9 +8,8 @@ ghost use Rattle.plant_questions.specs.{sublots_in_stock};
 ghost use Rattle.plant_answers.specs.Stock.{all_in_stock, counted_in, each_once, is_counted};
 ghost use Rattle.plant_answers.specs.Stock.{is_lot_of, stock_of, stocks_page, total_in};
 
-use crate::batch_lines::in_64_bits;
-use crate::each_told::each_row;
 use crate::stock::set_of;
+use plant_answers_genealogy::{each_row, in_64_bits};
 use plant_base::{Definition, Id, Items, Sublot};
 use plant_questions::{DefinitionStock, Page, StandingLot, Worklists};
 use plant_trace::Node;

@@ -7,8 +7,8 @@ use Rattle.plant_rules.specs.{checked, Checked}
 use Rattle.plant_rules.specs.declared.checking.Checked.TheVariants.{Accepted, Refused}
 use Rattle.plant_text_checks.specs.{command_error_of, CommandError}
 use Rattle.plant_text_checks.proofs.NoErrorIffWellFormed.{reported_unless_well_formed}
-use Rattle.plant_desk.specs.{refusal_of_reply, refusal_of_check, reply}
-use Rattle.plant_desk.proofs.ChecksMatchReplies.{checks_match_replies}
+use Rattle.plant_keeper.specs.{refusal_of_reply, refusal_of_check, reply}
+use Rattle.plant_keeper.proofs.ChecksMatchReplies.{checks_match_replies}
 use Rattle.plant_text_checks.specs.{answer_by}
 use Rattle.plant_text.specs.{refusal_answered, CheckAnswersMatchReplies}
 

@@ -6,7 +6,7 @@ use Rattle.std.specs.List.{slice_split, onto_first}
 use Rattle.std.specs.Io.KnownBytes.{Appends}
 use Rattle.std.specs.Str.Lines.{strip_carriage_return, lines_of_parts, lines}
 use Rattle.plant_base.specs.{State}
-use Rattle.plant_desk.specs.{States}
+use Rattle.plant_keeper.specs.{States}
 use Rattle.plant_text.specs.{Entry, nothing, entry_of, entries, ended_from, part_from, ended_lines, all_lines, texts, some_refused, AreAnswered}
 use Rattle.plant_text.proofs.BufferSuffices.{by_bool}
 use Rattle.plant_text.proofs.TurnEnds.{entry_empty}

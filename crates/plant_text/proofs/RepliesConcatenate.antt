@@ -2,7 +2,7 @@
 use Rattle.std.proofs.Common.{◌≡◌, ℕ, List, [], ◌∷◌, ◌++◌, Bool, true, false, ◌||◌, Option, Err, refl, sym, ap, ◌∙◌, subst, append_assoc, append-nil}
 use Rattle.std.proofs.Math.Bool.{or_assoc}
 use Rattle.plant_base.specs.{State}
-use Rattle.plant_desk.specs.{States}
+use Rattle.plant_keeper.specs.{States}
 use Rattle.plant_text.specs.declared.turns.TurnError.{TurnError}
 use Rattle.plant_text.specs.{entry_of, Entry, entry_text, after, is_refused, texts, fold, some_refused, AreAnswered, StopsAt, RunStopped, TurnEnds, FaultWritten, held_after, entries_after}
 use Rattle.plant_questions.specs.declared.reply.DeskFault.TheVariants.{Memory}

@@ -1,7 +1,7 @@
 -- What a stop after a run leaves, by the law of an open keeper that a stop leaves its state and no other.
 use Rattle.std.proofs.Common.{◌≡◌, ℕ, List, Bool, false, Option, inl, inr}
 use Rattle.plant_base.specs.{State}
-use Rattle.plant_desk.specs.{States}
+use Rattle.plant_keeper.specs.{States}
 use Rattle.plant_questions.specs.{DeskFault}
 use Rattle.plant_questions.specs.declared.reply.DeskFault.TheVariants.{Store, Memory, Shut}
 use Rattle.plant_text.specs.{Entry, nothing, bad, command, question, check, after, fold, CrashStatesOfFault, StopsAt, RunStopped, StoppedAmong, EndsWithin, CrashStatesAtFault, CrashStatesAtStop, CrashStatesAfterSome, CrashStatesAmong, CrashStatesOfRun}

@@ -3,7 +3,7 @@ use Rattle.std.proofs.Common.{◌≡◌, ℕ, ◌<◌, length, List, [], ◌∷�
 use Rattle.std.proofs.lemmas.List.{map-append}
 use Rattle.std.specs.Io.KnownBytes.{IsAtEnd}
 use Rattle.plant_base.specs.{State}
-use Rattle.plant_desk.specs.{States}
+use Rattle.plant_keeper.specs.{States}
 use Rattle.plant_text.specs.declared.turns.TurnError.{TurnError}
 use Rattle.plant_text.specs.declared.turns.TurnError.TheVariants as S
 use Rattle.plant_text.specs.{Entry, fold, AreAnswered, RunStopped, EndsWithin, nothing, entry_of, entries, ended_lines, all_lines, part_from, LastEnds, end_of, held_after, entries_after, longest_line}

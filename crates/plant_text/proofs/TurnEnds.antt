@@ -5,7 +5,7 @@ use Rattle.std.specs.Io.KnownBytes.{Appends}
 use Rattle.plant_text.proofs.KnownBytes.{Appends-nil}
 use Rattle.plant_text.proofs.LineMeaning.{line_long}
 use Rattle.plant_base.specs.{State, Envelope}
-use Rattle.plant_desk.specs.{States, Executes, Asks, shuts}
+use Rattle.plant_keeper.specs.{States, Executes, Asks, shuts}
 use Rattle.plant_questions.specs.{Answer, DeskFault, Question}
 use Rattle.plant_questions.specs.declared.reply.DeskFault.TheVariants.{Store, Memory, Shut}
 use Rattle.plant_text.specs.{longest_line, line_of, ChecksAs, Entry, nothing, bad, command, question, check, entry_of, entry_where, entry_text, after, is_unknown, CrashStatesOfFault, StopsAt, with_lf, AppendsPrefix, TurnEnds, FaultWritten, AnswerWritten, BadWritten}

@@ -2,7 +2,7 @@
 use Rattle.std.specs.Prelude.{◌≡◌, ⊤, Option, Some, None, Result, Ok, Err}
 use Rattle.plant_base.specs.{State, Envelope, Refusal}
 use Rattle.plant_base.specs.declared.refusal.Refusal.TheVariants.{BadForm}
-use Rattle.plant_desk.specs.{refusal_of_reply, States, reply}
+use Rattle.plant_keeper.specs.{refusal_of_reply, States, reply}
 use Rattle.plant_questions.specs.{DeskFault}
 use Rattle.plant_questions.specs.declared.reply.DeskFault.TheVariants.{Store, Memory, Shut}
 use Rattle.plant_text_checks.specs.declared.reason.Reason.TheVariants as reason

@@ -5,7 +5,7 @@ use Rattle.std.specs.Io.KnownBytes.{Appends, IsAtEnd}
 use Rattle.plant_base.specs.{State, Envelope}
 use Rattle.plant_base.specs.declared.refusal.Refusal.TheVariants.{BadForm}
 use Rattle.plant_rules.specs.{step}
-use Rattle.plant_desk.specs.{reply, States}
+use Rattle.plant_keeper.specs.{reply, States}
 use Rattle.plant_answers.specs.{answer}
 use Rattle.plant_questions.specs.{Answer, DeskFault, Question, Reply}
 use Rattle.plant_questions.specs.declared.question.Answer.TheVariants as A

@@ -3,7 +3,7 @@ use Rattle.std.specs.Prelude.{◌≡◌, ℕ, List, [], ◌∷◌, ◌++◌, Boo
 use Rattle.std.specs.Io.KnownBytes.{Appends}
 use Rattle.plant_base.specs.{State}
 use Rattle.plant_base.specs.declared.refusal.Refusal.TheVariants.{BadForm}
-use Rattle.plant_desk.specs.{States}
+use Rattle.plant_keeper.specs.{States}
 use Rattle.plant_questions.specs.declared.reply.Reply.TheVariants.{Refused}
 use Rattle.plant_questions.specs.{DeskFault}
 use Rattle.plant_questions.specs.declared.reply.DeskFault.TheVariants.{Memory}

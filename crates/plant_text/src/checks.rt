@@ -1,11 +1,11 @@
 //! A check, answered by a keeper, and the law of its answer.
 ghost use Rattle.std.specs.Prelude.{◌≡◌, true, false};
 ghost use Rattle.plant_base.specs.{State};
-ghost use Rattle.plant_desk.specs.{IsSameDesk};
+ghost use Rattle.plant_keeper.specs.{IsSameDesk};
 ghost use Rattle.plant_text.specs.Checks.{ChecksAs, CheckAnswersMatchReplies, check_when_shut};
 
-use plant_desk::Keeper;
 use plant_json_in::ToCheck;
+use plant_keeper::Keeper;
 use plant_questions::DeskFault;
 use plant_text_checks::{CheckAnswer, Reason, command_answer};
 

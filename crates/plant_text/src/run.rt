@@ -3,14 +3,14 @@ ghost use Rattle.std.specs.Prelude.{◌≡◌, ℕ, ◌<◌, List, [], ◌∷◌
 ghost use Rattle.std.specs.Str.Lines.{strip_carriage_return};
 ghost use Rattle.std.specs.Io.KnownBytes.{Consumes};
 ghost use Rattle.plant_base.specs.{State};
-ghost use Rattle.plant_desk.specs.{IsSameDesk};
+ghost use Rattle.plant_keeper.specs.{IsSameDesk};
 ghost use Rattle.plant_text.specs.Session.{Ends, EndsWithin, entry_of};
 ghost use Rattle.plant_text.specs.CrashStates.{CrashStatesOfRun};
 ghost use Rattle.plant_text.specs.Turns.{PieceEnds, LastEnds, FaultWritten, end_of};
 ghost use Rattle.plant_text.specs.HeldLines.{held_with, held_after, entries_after};
 
 use crate::turns::{TurnError, take_line, write_fault};
-use plant_desk::Keeper;
+use plant_keeper::Keeper;
 use plant_questions::DeskFault;
 use std::alloc::Global;
 use std::io::{Read, Write};

@@ -2,7 +2,7 @@
 ghost use Rattle.std.specs.Prelude.{◌≡◌, ℕ, Bool, List, false, string_bytes, IfErr, IfOk, IsErrAnd};
 ghost use Rattle.std.specs.Prelude.{OnOk};
 ghost use Rattle.plant_base.specs.{State};
-ghost use Rattle.plant_desk.specs.{IsSameDesk};
+ghost use Rattle.plant_keeper.specs.{IsSameDesk};
 ghost use Rattle.plant_text.specs.Session.{entry_of, is_refusal, is_unknown};
 ghost use Rattle.plant_text.specs.Session.{command as command_entry, question as question_entry};
 ghost use Rattle.plant_text.specs.Session.{check as check_entry};
@@ -14,8 +14,8 @@ use crate::checks::answer_check;
 use crate::read::{Line, read_line};
 use crate::writes::write_line;
 use plant_base::{Envelope, Refusal};
-use plant_desk::Keeper;
 use plant_json_in::{LineFault, ToCheck};
+use plant_keeper::Keeper;
 use plant_questions::{Answer, DeskFault, Question, Reply};
 use plant_text_answers::{answer_text, fault_line, reply_line};
 use plant_text_checks::{CheckAnswer, check_text};

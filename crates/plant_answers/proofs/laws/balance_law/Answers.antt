@@ -4,7 +4,8 @@ use Rattle.plant_trace.specs.{Node}
 use Rattle.plant_view.specs.DecisionInvariant.{DecisionInvariant}
 use Rattle.plant_questions.specs.{LotBalance}
 use Rattle.plant_questions.specs.declared.question.Answer.TheVariants as A
-use Rattle.plant_answers.specs.{balances_around, answer_balance, answer, entered_in_all, left_in_all, missing}
+use Rattle.plant_answers_genealogy.specs.{balances_around, answer_balance, entered_in_all, left_in_all, missing}
+use Rattle.plant_answers.specs.{answer}
 use Rattle.plant_answers.proofs.BalancesListReached.{balances_sorted, balances_only, balances_all, each_closes}
 use Rattle.plant_answers.proofs.laws.balance_law.Goals as goal
 

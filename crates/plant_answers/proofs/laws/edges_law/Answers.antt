@@ -1,8 +1,9 @@
 use Rattle.std.proofs.Common.{ap, sym, subst}
 use Rattle.plant_trace.specs.{Lists}
-use Rattle.plant_answers.specs.{genealogy_around, answer_edges, answer, IsAround}
+use Rattle.plant_answers_genealogy.specs.{genealogy_around, answer_edges, IsAround}
+use Rattle.plant_answers.specs.{answer}
 use Rattle.plant_answers.proofs.EdgesAreBooked.{edges_sorted, edges_only, edges_all}
-use Rattle.plant_answers.proofs.GoodsAreReached.{around_lists}
+use Rattle.plant_answers_genealogy.proofs.GoodsAreReached.{around_lists}
 use Rattle.plant_answers.proofs.NodesExist.{nodes_named}
 use Rattle.plant_answers.proofs.laws.edges_law.Goals as goal
 

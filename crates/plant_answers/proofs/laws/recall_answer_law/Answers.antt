@@ -1,8 +1,9 @@
 use Rattle.std.proofs.Common.{Bool, List, [], cond, refl, sym, ap, subst}
 use Rattle.plant_trace.specs.{Lists, IsRecalled, Node}
 use Rattle.plant_view.specs.{edges_of}
-use Rattle.plant_answers.specs.{answer, reached_list, recall_answer, answer_recall}
-use Rattle.plant_answers.proofs.RecalledNodesAreListed.{reached_lists}
+use Rattle.plant_answers.specs.{answer}
+use Rattle.plant_answers_genealogy.specs.{reached_list, recall_answer, answer_recall}
+use Rattle.plant_answers_genealogy.proofs.RecalledNodesAreListed.{reached_lists}
 use Rattle.plant_answers.proofs.laws.recall_answer_law.Goals as goal
 
 pub returns : goal.returns

@@ -1,6 +1,7 @@
 use Rattle.std.proofs.Common.{ap}
-use Rattle.plant_answers.specs.{lots_standing, answer_stands, answer}
-use Rattle.plant_answers.proofs.GoodsAreReached.{standing_sorted, standing_only, standing_all}
+use Rattle.plant_answers_genealogy.specs.{lots_standing, answer_stands}
+use Rattle.plant_answers.specs.{answer}
+use Rattle.plant_answers_genealogy.proofs.GoodsAreReached.{standing_sorted, standing_only, standing_all}
 use Rattle.plant_answers.proofs.laws.stands_law.Goals as goal
 
 pub returns : goal.returns

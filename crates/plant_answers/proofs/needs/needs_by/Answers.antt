@@ -1,6 +1,6 @@
 use Rattle.std.proofs.Common.{◌≡◌, ◌∙◌, filter_map}
 use Rattle.plant_trace.proofs.HoldsIfHonest.{HoldsIfHonest-then}
-use Rattle.plant_answers.specs.RecipeAnswers.{recipe_answer}
+use Rattle.plant_answers_pages.specs.{recipe_answer}
 use Rattle.plant_answers.specs.Needs.{need_of}
 use Rattle.plant_answers.specs.Stock.{all_in_stock}
 use Rattle.plant_answers.proofs.needs.needs_by.Goals as goal

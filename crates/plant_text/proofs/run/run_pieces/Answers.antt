@@ -3,7 +3,7 @@ use Rattle.std.proofs.lemmas.Bool.Decides.{nat_tests}
 use Rattle.plant_text.proofs.KnownBytes.{Consumes-nil, Consumes-append, Consumes-keeps, Consumes-none}
 use Rattle.plant_text.specs.{entry_of}
 use Rattle.plant_text.proofs.BufferSuffices.{held_more, held_after_none, each_none}
-use Rattle.plant_desk.proofs.SameDesk.{same_itself, same_after}
+use Rattle.plant_keeper.proofs.SameDesk.{same_itself, same_after}
 use Rattle.plant_text.proofs.RepliesConcatenate.{reported_same, piece_reported, piece_stops}
 use Rattle.plant_text.proofs.RunEnds.{last_ends, read_ends, stopped_ends}
 use Rattle.plant_text.proofs.run.run_pieces.Goals as goal

@@ -1,7 +1,7 @@
 use Rattle.std.proofs.Common.{◌≡◌, ℕ, ◌≤◌, List, [], length, false}
 use Rattle.std.specs.Io.KnownBytes.{Consumes}
 use Rattle.plant_base.specs.{State}
-use Rattle.plant_desk.specs.{IsSameDesk}
+use Rattle.plant_keeper.specs.{IsSameDesk}
 use Rattle.plant_text.specs.{AreAnswered, held_after, entries_after}
 use Rattle.plant_text.proofs.run.run_pieces.Given as goal
 

@@ -2,7 +2,7 @@ use Rattle.std.proofs.Common.{◌≡◌, ◌+◌, ◌<◌, [], ◌∷◌, ◌++�
 use Rattle.std.proofs.lemmas.List.{take_more}
 use Rattle.plant_text.specs.{entry_of}
 use Rattle.plant_text.proofs.BufferSuffices.{held_more, held_after_none, each_none}
-use Rattle.plant_desk.proofs.SameDesk.{same_itself, same_after}
+use Rattle.plant_keeper.proofs.SameDesk.{same_itself, same_after}
 use Rattle.plant_text.proofs.RepliesConcatenate.{reported_same, piece_reported, piece_stops}
 use Rattle.plant_text.proofs.run.take_piece.Goals as goal
 

@@ -1,6 +1,6 @@
 use Rattle.std.proofs.Common.{◌≡◌, false, take}
 use Rattle.plant_base.specs.{State}
-use Rattle.plant_desk.specs.{IsSameDesk}
+use Rattle.plant_keeper.specs.{IsSameDesk}
 use Rattle.plant_text.specs.{AreAnswered, held_after, entries_after}
 use Rattle.plant_text.proofs.run.take_piece.Given as goal
 

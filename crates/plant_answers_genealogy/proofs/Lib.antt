@@ -1,0 +1,14 @@
+pub mod SumsByEdge
+pub mod BookingsBetweenNodes
+pub mod PairOfHonestFacts
+pub mod BookedSumsFit
+pub mod BookingLoops
+pub mod GoodsAreReached
+pub mod DefinitionOfId
+pub mod BatchMovementsSuffice
+pub mod FilterKeepsOrder
+pub mod ReachedIsTrace
+pub mod RecalledNodesAreListed
+pub mod TotalStockFits
+pub mod FlowsFit
+pub mod BalancesClose

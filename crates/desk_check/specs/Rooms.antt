@@ -1,7 +1,7 @@
 -- What keeps the desk from a file that opens.
 use Rattle.std.specs.Prelude.{ℕ, ◌+◌, Bool, true, not, ◌||◌, ◌==◌, nat_le, bit_and, if◌then◌else◌, Option, Some, None}
-use Rattle.desk_check.specs.declared.open_error.OpenError.{OpenError}
-use Rattle.desk_check.specs.declared.open_error.OpenError.TheVariants as open_error
+use Rattle.file_reports.specs.{OpenError}
+use Rattle.file_reports.specs.declared.open_error.OpenError.TheVariants as open_error
 use Rattle.desk_check.specs.declared.room.Rights.{Rights}
 
 -- a page of the log with its head

@@ -1,7 +1,7 @@
 //! The bytes of a file and of its log, read into memory. Nothing is written to either.
-use crate::open_error::OpenError;
 use crate::room::{Rights, growth_limit, hindrance, lets_make, takes_page};
 use crate::trying::tried_sibling;
+use file_reports::OpenError;
 use os::RangeLock;
 use std::fs::{self, File, Metadata, OpenOptions};
 use std::io::{self, ErrorKind, Read};

@@ -2,22 +2,15 @@
 //! but for a megabyte that is written next to the file and removed again where `--room` asks for it.
 #![tactic(auto)]
 
-mod barred;
-mod bound;
+mod checking;
 mod copying;
-mod ending;
-mod file_report;
-mod json;
-mod open_error;
 mod opening;
-mod outcome;
-mod report;
 mod room;
 mod trying;
 
+use checking::check_file;
 use desk_cli::{WordsFault, print_refused, read_arguments, read_desk_check, texts_of};
-use ending::status_of;
-use outcome::{check_file, write_outcome};
+use file_reports::{status_of, write_outcome};
 use std::io;
 use std::process::ExitCode;
 

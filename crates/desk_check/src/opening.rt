@@ -2,9 +2,9 @@
 ghost use Rattle.std.specs.Prelude.{IfOk, IsTrue};
 ghost use Rattle.sqlite_disk.specs.Memory.{memory_is_usable};
 
-use crate::bound::with_binder;
-use crate::file_report::{FileReport, report_on_store};
-use crate::open_error::{OpenError, open_error_in, open_error_of};
+use file_reports::{
+    FileReport, OpenError, open_error_in, open_error_of, report_on_store, with_binder,
+};
 use sqlite::{Connection, FileStore, Files, Options};
 use sqlite_disk::{Disk, Memory};
 use std::alloc::Global;

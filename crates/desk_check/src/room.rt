@@ -2,7 +2,7 @@
 ghost use Rattle.std.specs.Prelude.{◌≡◌};
 ghost use Rattle.desk_check.specs.Rooms as spec;
 
-use crate::open_error::OpenError;
+use file_reports::OpenError;
 
 /// Linux's number of the limit of how large a file may become.
 const FILE_SIZE: i32 = 1;

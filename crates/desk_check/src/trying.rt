@@ -1,5 +1,5 @@
 //! A megabyte that is written next to a file: only a write shows whether the disk has room for it.
-use crate::open_error::{OpenError, open_error_of_sibling};
+use file_reports::{OpenError, open_error_of_sibling};
 use std::fs::{self, File};
 use std::io::{self, Write};
 

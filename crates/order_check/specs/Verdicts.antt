@@ -63,7 +63,7 @@ reason_of kind.Memory = reason.Memory
 
 abbrev pub reason_text : CsvReason → List ℕ
 reason_text reason.TooLong = codes "the file is longer than 262144 bytes"
-reason_text reason.Header = codes "the first line isn't order,recipe,version,size,due,priority, with commas between and neither semicolons nor tabs"
+reason_text reason.Header = codes "the first line isn't order,recipe,version,size,due,priority in UTF-8, with commas between and neither semicolons nor tabs"
 reason_text reason.Shape = codes "the row hasn't six fields with commas between"
 reason_text (reason.Field f) = shape_error_text f
 reason_text reason.TooManyRows = codes "the file has more than 1000 orders"

@@ -30,7 +30,7 @@ impl fmt::Display for CsvReason {
         match self {
             CsvReason::TooLong => f.write_str("the file is longer than 262144 bytes"),
             CsvReason::Header => f.write_str(
-                "the first line isn't order,recipe,version,size,due,priority, with commas between and neither semicolons nor tabs",
+                "the first line isn't order,recipe,version,size,due,priority in UTF-8, with commas between and neither semicolons nor tabs",
             ),
             CsvReason::Shape => f.write_str("the row hasn't six fields with commas between"),
             CsvReason::Field(shape_error) => write!(f, "{shape_error}"),

@@ -1,5 +1,0 @@
-use Rattle.desk_check.proofs.SentencesConcatenate.{opens_alone}
-use Rattle.desk_check.proofs.outcome.write_opens.Goals as goal
-
-pub returns : goal.returns
-returns g c = opens_alone c.write_report.result _ _ c.write_report.ensures

@@ -1,4 +1,0 @@
-use Rattle.desk_check.proofs.report.BrokenRuleDisplay.fmt.Goals as goal
-
-pub returns-clause-writes : goal.returns-clause-writes
-returns-clause-writes g c = rw (← c.number-number.ensures, ← c.rule_text-text.ensures) c.write.ensures.writes

@@ -1,5 +1,0 @@
-use Rattle.desk_check.proofs.SentencesConcatenate.{cause_behind}
-use Rattle.desk_check.proofs.report.write_open_error.Goals as goal
-
-pub returns : goal.returns
-returns g c = cause_behind c.write_shown.result c.args.open_error _ _ _ c.in_ok-write_error.ensures c.write_shown.ensures

@@ -1,7 +1,0 @@
-use Rattle.desk_check.specs.{summary_text, counts_text}
-use Rattle.plant_text.specs.{with_lf}
-use Rattle.desk_check.proofs.SentencesConcatenate.{reported_after}
-use Rattle.desk_check.proofs.report.write_summary.Goals as goal
-
-pub returns : goal.returns
-returns g c = reported_after c.write_shown-2.result _ _ _ (with_lf (summary_text c.args.summary.now)) (with_lf (counts_text c.args.summary.now)) c.in_ok-write_shown.ensures c.write_shown-2.ensures

@@ -5,7 +5,7 @@ use Rattle.plant_rules.specs.{checked, Checked}
 use Rattle.plant_rules.specs.declared.checking.Checked.TheVariants as check
 use Rattle.plant_questions.specs.{Reply}
 use Rattle.plant_questions.specs.declared.reply.Reply.TheVariants as answer
-use Rattle.plant_desk.specs.Replies.{reply}
+use Rattle.plant_keeper.specs.Replies.{reply}
 
 -- the refusal of a reply; none where the command is accepted
 abbrev pub refusal_of_reply : Reply → Option Refusal

@@ -3,7 +3,7 @@ use Rattle.std.specs.Prelude.{◌≡◌, ℕ, Bool, true, false, ◌⊎◌, Resu
 use Rattle.plant_base.specs.{State, Envelope}
 use Rattle.plant_rules.specs.{step}
 use Rattle.plant_rules.specs.{checked, Checked}
-use Rattle.plant_desk.specs.Replies.{reply}
+use Rattle.plant_keeper.specs.Replies.{reply}
 use Rattle.plant_answers.specs.{answer}
 use Rattle.plant_questions.specs.{Answer, DeskFault, Question, Reply}
 use Rattle.plant_questions.specs.declared.reply.Reply.TheVariants.{Accepted, Refused}

@@ -1,6 +1,6 @@
 -- A keeper that two calls left as the same desk.
 use Rattle.std.proofs.Common.{ℕ, ◌∙◌, refl}
-use Rattle.plant_desk.specs.{IsSameDesk}
+use Rattle.plant_keeper.specs.{IsSameDesk}
 
 pub same_itself : {K : Type 0} {B : Type 0} (is_honest : K → Type 0) (schema_of : K → ℕ) (has_foreign_tables : K → B → Type 0) (k : K)
     → IsSameDesk is_honest schema_of has_foreign_tables k k

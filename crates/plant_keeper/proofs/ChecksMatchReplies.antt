@@ -3,7 +3,7 @@ use Rattle.std.proofs.Common.{◌≡◌, ℕ, Option, Some, None, refl}
 use Rattle.plant_base.specs.{State, Command, Envelope, Refusal}
 use Rattle.plant_rules.specs.{wrong, kept_for, step}
 use Rattle.plant_rules.specs.{checked, checked_by}
-use Rattle.plant_desk.specs.{refusal_of_reply, refusal_of_check, reply, reply_by, number_of}
+use Rattle.plant_keeper.specs.{refusal_of_reply, refusal_of_check, reply, reply_by, number_of}
 
 same_refusal : (s : State) (c : Command) (w : Option Refusal) (n : ℕ) → refusal_of_check (checked_by s c w) ≡ refusal_of_reply (reply_by w n)
 same_refusal s c None n = refl

@@ -8,11 +8,11 @@ use Rattle.plant_base.specs.declared.refusal.Refusal.TheVariants.{BadForm, Momen
 use Rattle.plant_view.specs.{refuse}
 use Rattle.plant_rules.specs.{is_well_formed_body, wrong, wrong_plain, wrong_there, kept_among, kept_for, decoded, step, step_body, step_plain, unless_refused, noted, taken}
 use Rattle.plant_rules.proofs.ReceiptDecisions.{next_receipts, blind_step, blind_wrong}
-use Rattle.plant_desk.specs.{fold, Outcome, answered, stopped_before, stopped_after, Sending, after, state_after_sending, with_answer, answered_of, BeginsWith, IsResent, IsPersistent, accepted, is_same_reference, is_known, once_after, plain, but_receipts}
-use Rattle.plant_desk.specs.AppliedOnce.{AppliedOnce}
+use Rattle.plant_keeper.specs.{fold, Outcome, answered, stopped_before, stopped_after, Sending, after, state_after_sending, with_answer, answered_of, BeginsWith, IsResent, IsPersistent, accepted, is_same_reference, is_known, once_after, plain, but_receipts}
+use Rattle.plant_keeper.specs.AppliedOnce.{AppliedOnce}
 use Rattle.std.proofs.Math.Bool.{or_assoc, or-true, or-false}
-use Rattle.plant_desk.proofs.RunExtends.{fold_push}
-use Rattle.plant_desk.proofs.ListKeeperSteps.{unless_same}
+use Rattle.plant_keeper.proofs.RunExtends.{fold_push}
+use Rattle.plant_keeper.proofs.RefusedOrRepeated.{unless_same}
 
 -- ---- a command whose reference is kept changes nothing
 

@@ -3,7 +3,7 @@ use Rattle.std.specs.Prelude.{◌≡◌, ℕ, Bool, false, ◌||◌, cond, List,
 use Rattle.std.specs.List.{list_any}
 use Rattle.plant_base.specs.{State, same, Envelope}
 use Rattle.plant_rules.specs.{wrong, kept_for, step, step_plain}
-use Rattle.plant_desk.specs.Sendings.{Sending, state_after_sending, answered_of, IsPersistent}
+use Rattle.plant_keeper.specs.Sendings.{Sending, state_after_sending, answered_of, IsPersistent}
 
 -- the commands of a list that are accepted when they come
 abbrev pub accepted : State → List Envelope → List Envelope

@@ -7,11 +7,12 @@ use Rattle.plant_trace.specs.{Direction, Node}
 use Rattle.plant_view.specs.{lot_stock, edges_of, sublot_row, place_of_row}
 use Rattle.plant_view.specs.DecisionInvariant.{DecisionInvariant}
 use Rattle.plant_view.proofs.LotsAreBalanced.{balanced}
-use Rattle.plant_answers.specs.{answer_stands, answer, answer_lot, missing, answer_trace}
+use Rattle.plant_answers_genealogy.specs.{answer_stands, answer_lot, missing, answer_trace}
+use Rattle.plant_answers.specs.{answer}
 use Rattle.plant_questions.specs.{Answer, Question}
 use Rattle.plant_questions.specs.declared.question.Question.TheVariants as Q
-use Rattle.plant_answers.proofs.GoodsAreReached.{standing_sorted, standing_only, standing_all}
-use Rattle.plant_answers.proofs.ReachedIsTrace.{trace_lists}
+use Rattle.plant_answers_genealogy.proofs.GoodsAreReached.{standing_sorted, standing_only, standing_all}
+use Rattle.plant_answers_genealogy.proofs.ReachedIsTrace.{trace_lists}
 use Rattle.plant_desk_store.specs.{IsTraceIn, AreStandingIn, IsLotIn, SaysOf, IsAnsweredIn}
 
 trace_reported : (s : State) (direction : Direction) (start : Node) (o : Option Refusal) → missing s start ≡ o → IsTraceIn s direction start (answer_trace s direction start o)

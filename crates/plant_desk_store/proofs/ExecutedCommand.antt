@@ -7,11 +7,11 @@ use Rattle.plant_view.specs.{Decision}
 use Rattle.plant_view.specs.declared.change.Decision.TheVariants as decision
 use Rattle.plant_rules.specs.{step, step_body, noted, IsRepeated, IsDecision, is_well_formed_body, wrong, kept_for}
 use Rattle.plant_rules.proofs.ReceiptDecisions.{next_number, step_new}
-use Rattle.plant_desk.specs.{reply, reply_by, number_of}
+use Rattle.plant_keeper.specs.{reply, reply_by, number_of}
 use Rattle.plant_questions.specs.{DeskFault, Reply}
 use Rattle.plant_questions.specs.declared.reply.Reply.TheVariants.{Accepted, Refused}
 use Rattle.plant_questions.specs.declared.reply.DeskFault.TheVariants.{Store, Memory, Shut}
-use Rattle.plant_desk.proofs.ListKeeperSteps.{refused_step, repeated, answered_new}
+use Rattle.plant_keeper.proofs.RefusedOrRepeated.{refused_step, repeated, answered_new}
 use Rattle.plant_desk_store.specs.{IsRepeat, IsCommitted, HasDecided, HasStepped, IsDurablyAt, Executed}
 use Rattle.plant_desk_store.proofs.ForeignTablesKept.{others_kept}
 use Rattle.plant_desk_store.proofs.ReadingKeepsState.{before_only, still_open}

@@ -1,12 +1,12 @@
 -- The commands of an execution are a sending, and act once.
-use Rattle.std.proofs.Common.{◌≡◌, ◌∙◌, ◌⊎◌, List, [], ◌∷◌, ◌++◌, IsSome, refl, sym, ap, subst, inl, inr}
+use Rattle.std.proofs.Common.{◌≡◌, ◌∙◌, ◌⊎◌, List, [], ◌∷◌, ◌++◌, refl, sym, ap, subst, inl, inr}
 use Rattle.sqlite_trees.specs.declared.store.Store.{Ghosts}
 use Rattle.plant_base.specs.{State, Envelope}
 use Rattle.plant_rules.specs.{step}
-use Rattle.plant_desk.specs.{fold, once, plain, but_receipts, answered, stopped_before, stopped_after, Sending, answered_of, BeginsWith, IsPersistent}
-use Rattle.plant_desk.proofs.AppliedOnce.{applied_once, acts_at_one_place, taken_once}
-use Rattle.plant_desk_store.specs.{Attempt, acknowledged, in_flight, PossibleOutcome, all_attempts, acknowledged_of, IsAcknowledged, AreResent, IsOrderOf, IsLedTo, IsNext, AreNextAgain, ExecutionsAreSendings, ExecutionsApplyOnce, ExecutionsApplyInOrder, StoresApplyOnce}
-use Rattle.plant_desk_store.proofs.HeadlineByInduction.{headline}
+use Rattle.plant_keeper.specs.{fold, once, plain, but_receipts, answered, stopped_before, stopped_after, Sending, answered_of, BeginsWith, IsPersistent}
+use Rattle.plant_keeper.proofs.AppliedOnce.{applied_once, acts_at_one_place, taken_once}
+use Rattle.plant_desk_store.specs.{Attempt, acknowledged, in_flight, PossibleOutcome, all_attempts, acknowledged_of, IsAcknowledged, AreResent, IsOrderOf, IsNext, AreNextAgain, ExecutionsAreSendings, ExecutionsApplyOnce, ExecutionsApplyInOrder, StoresApplyOnce}
+use Rattle.plant_desk_store.proofs.HeadlineByInduction.{outcome}
 
 pub executions_are_sendings : ExecutionsAreSendings
 executions_are_sendings s u [] lead = ([], refl, sym lead)
@@ -114,5 +114,5 @@ executions_apply_once s u list again lead =
 
 pub stores_apply_once : {S : Type 0} (g : Ghosts S) → StoresApplyOnce g
 stores_apply_once g first c phase list newly life clean again =
-    let it = headline g first c phase list newly life clean in
+    let it = outcome g first c phase list newly life clean in
     (it.0, it.1, (it.2.0, it.2.1, executions_apply_once it.0 it.2.0 list again it.2.1, it.2.2))

@@ -11,7 +11,7 @@ use Rattle.sql_tables.specs.{KeepsOtherTables, Keeps, IsSettled}
 use Rattle.sql_tables.proofs.StatementSequence.{others_then}
 use Rattle.plant_tables.specs.{desk_table_defs, IsAt, FindsTables, FailureLeaves}
 use Rattle.plant_base.specs.{Envelope, State}
-use Rattle.plant_desk.specs.{shuts}
+use Rattle.plant_keeper.specs.{shuts}
 use Rattle.plant_questions.specs.{DeskFault, Reply}
 use Rattle.plant_questions.specs.declared.reply.DeskFault.TheVariants.{Store, Memory, Shut}
 use Rattle.plant_rules.specs.{step}

@@ -1,5 +1,5 @@
 -- What a store represents after what it has been through.
-use Rattle.std.proofs.Common.{◌≡◌, ◌∙◌, ℕ, pos, Bool, true, false, List, [], ◌∷◌, ◌++◌, length, map, take, Option, Some, None, Result, Ok, Err, refl, sym, ap, subst, inl, inr, arith, ◌⊎◌, slice_get, zip, append_assoc}
+use Rattle.std.proofs.Common.{◌≡◌, ◌∙◌, ℕ, pos, Bool, true, false, List, [], ◌∷◌, ◌++◌, length, map, take, Option, Some, None, Result, Ok, Err, refl, sym, ap, subst, inl, inr, arith, ◌⊎◌, slice_get, zip, append_assoc, All}
 use Rattle.std.proofs.Math.Logic.{∥∥₁_map}
 use Rattle.sqlite.specs.Tree.{Trees}
 use Rattle.sqlite.specs.Schema.{Schema}
@@ -11,21 +11,22 @@ use Rattle.sqlite_trees.specs.declared.store.Store.{Ghosts}
 use Rattle.plant_base.specs.{State, opening, newest_schema, Envelope}
 use Rattle.plant_rules.specs.{step}
 use Rattle.plant_invariant.proofs.StepPreservesInvariant.{opening_is_valid}
-use Rattle.sql_tables.specs.{AreFree}
-use Rattle.plant_tables.specs.{desk_table_defs}
+use Rattle.sql_tables.specs.{AreFree, IsFree}
+use Rattle.plant_tables.specs.{desk_table_defs, later_table_defs}
 use Rattle.plant_rules.specs.{Checked}
-use Rattle.plant_desk.specs.{States, Executes, Checks, Asks, shuts, reply, fold, replies}
+use Rattle.plant_keeper.specs.{States, Executes, Checks, Asks, shuts, reply, fold, replies}
 use Rattle.plant_questions.specs.{Answer, DeskFault, Question, Reply}
 use Rattle.plant_questions.specs.declared.reply.DeskFault.TheVariants.{Store, Memory, Shut}
-use Rattle.plant_desk_store.specs.{AdoptedFrom, Adopts, IsAdopted, IsRefusedBy, HasAdopted, HasRefused, IsAtState, IsFoundAt, IsKeptAt, IsSoAt, HasOpenableCrashState, IsAdoptable, IsOpenedAfter, Attempt, acknowledged, in_flight, PossibleOutcome, attempt_as, cut_off, StorePhase, opened, desk, refused, Execution, begun, found, adopted, unadopted, executed, ran, command_checked, asked, verified, indexed, stopped, given_back, RunEnds, IsDurablyAt, Represents, HasCrashStates}
+use Rattle.plant_desk_store.specs.{AdoptedFrom, Adopts, IsAdopted, IsBeginningAt, IsRefusedBy, HasAdopted, HasRefused, IsAtState, IsFoundAt, IsKeptAt, IsSoAt, HasOpenableCrashState, IsAdoptable, IsOpenedAfter, Attempt, acknowledged, in_flight, PossibleOutcome, attempt_as, cut_off, StorePhase, opened, desk, refused, Execution, begun, found, adopted, unadopted, executed, ran, command_checked, asked, verified, indexed, stopped, given_back, RunEnds, IsDurablyAt, Represents, HasCrashStates}
 use Rattle.plant_desk_store.specs.Headline.{Headline}
-use Rattle.plant_desk_store.specs.Executions.{IsOpened}
+use Rattle.plant_desk_store.specs.Executions.{IsBeginning, IsOpened}
 use Rattle.plant_desk_store.specs.declared.adopting.AdoptFault.{AdoptFault}
 use Rattle.plant_desk_store.specs.declared.adopting.AdoptFault.TheVariants as fault
 use Rattle.plant_tables.proofs.OneVersion.{each_free, free_reports_nothing}
-use Rattle.plant_desk_store.proofs.ValidTablesAreAdopted.{not_free, unrefused}
+use Rattle.plant_desk_store.proofs.ValidTablesAreAdopted.{not_free, one_reported, unrefused, version_held}
 use Rattle.plant_desk_store.proofs.AnswersFollowMovements.{answered}
 use Rattle.plant_desk_store.proofs.RunsPreserveInvariant.{accounted_valid}
+use Rattle.plant_desk_store.proofs.RunsAreOutcomes.{outcome_run}
 use Rattle.plant_desk_store.proofs.CrashStatesReopen.{same_database, none_later, reopened, adopted_again, opening_adopted}
 
 -- ---- where commands may have led
@@ -218,67 +219,91 @@ asked_at s u attempts new q (Err Shut) lead did = absurd did
 clean_before : (old new : store.State) (P : Trees → Type 0) → Survives old new P → HasCleanDisk new → HasCleanDisk old
 clean_before old new P survives clean = omega (arith, survives.clean, clean)
 
-found_at : (old new : store.State) → AdoptedFrom old (IsDurablyAt new) → (s : State) × IsAtState s old.now × Reached s [] new (desk false)
-found_at old new (inl (free, at)) = (opening, inl (free, refl), (opening, refl, at))
-found_at old new (inr (version, (s, held, at))) = (s, inr (version, held.holds, held.whole), (s, refl, at))
+-- ---- the state that a store is at first
+
+is_at : (s : State) (db : Database) → IsBeginningAt s db → IsAtState s db
+is_at s db (inl free) = inl free
+is_at s db (inr (version, held)) = inr (version, held.holds, held.whole)
+
+found_first : (old new : store.State) → AdoptedFrom old (IsDurablyAt new) → (s : State) × IsBeginningAt s old.now
+found_first old new (inl (free, at)) = (opening, inl (free, refl))
+found_first old new (inr (version, (s, held, at))) = (s, inr (version, held))
+
+-- what can be read there can be adopted
+begun_at : (s : State) (db : Database) → IsBeginning db → IsBeginningAt s db → IsReady s [] db
+begun_at s db is (inl (free, same)) = inl (free, sym same)
+begun_at s db (inl free) (inr (version, held)) = absurd (not_free version db s held free)
+begun_at s db (inr (other, (t, adoptable))) (inr (version, held)) =
+    let same : other ≡ version = one_reported version db s held other (version_held other db t adoptable.held) in
+    inr (s, refl, (version, record { held = held; free = subst (λ k. All (IsFree db.schema) (later_table_defs k)) same adoptable.free }))
+
+found_at : (s : State) (old new : store.State) → IsOpened old → IsBeginningAt s old.now → HasAdopted old new → HasCleanDisk new → Reached s [] new (desk false)
+found_at s old new newly (inl (free, same)) did clean = elim (did.adopted clean newly.0) [
+  | inl none ↦ (opening, sym same, none.1)
+  | inr some ↦ absurd (not_free some.0 old.now some.1.0 some.1.1 free)
+]
+found_at s old new newly (inr (version, held)) did clean = (s, refl, did.again clean newly.0 version s held)
 
 module _ {S : Type 0} (g : Ghosts S) where
-  execution : (first : Held S) {c : Held S} {phase : StorePhase} {attempts : List Attempt} → IsOpened (state g first) → Execution g first c phase attempts → HasCleanDisk (state g c) → (s : State) × IsAtState s (state g first).now × Reached s attempts (state g c) phase
-  execution first newly (begun (inl free)) clean = (opening, inl (free, refl), (newly, inl (free, refl)))
-  execution first newly (begun (inr (version, (s, adoptable)))) clean = (s, inr (version, adoptable.held.holds, adoptable.held.whole), (newly, inr (s, refl, (version, adoptable))))
-  execution first newly (found new did) clean = found_at (state g first) (state g new) (did.adopted clean newly.0)
-  execution first newly (adopted old new attempts before did) clean =
-      let was = execution first newly before (clean_before _ _ _ did.crash clean) in
-      (was.0, was.1, adopted_at was.0 attempts (state g old) (state g new) was.2.0 was.2.1 did clean)
-  execution first newly (unadopted old new attempts f before did) clean =
-      let was = execution first newly before (clean_before _ _ _ did.crash clean) in
-      (was.0, was.1, (state_ready was.0 attempts (state g old).now was.2.1, refused_crash_states was.0 attempts f (state g old) (state g new) was.2.0 was.2.1 did clean, refused_open f (state g old) (state g new) was.2.0 did clean))
-  execution first newly (executed old new shut attempts e r before did) clean =
-      let was = execution first newly before (did.honest clean) in
-      let at = was.2 in
+  first_state : (first : Held S) {c : Held S} {phase : StorePhase} {attempts : List Attempt} → IsOpened (state g first) → Execution g first c phase attempts → HasCleanDisk (state g c) → (s : State) × IsBeginningAt s (state g first).now
+  first_state first newly (begun (inl free)) clean = (opening, inl (free, refl))
+  first_state first newly (begun (inr (version, (s, adoptable)))) clean = (s, inr (version, adoptable.held))
+  first_state first newly (found new did) clean = found_first (state g first) (state g new) (did.adopted clean newly.0)
+  first_state first newly (adopted old new attempts before did) clean = first_state first newly before (clean_before _ _ _ did.crash clean)
+  first_state first newly (unadopted old new attempts f before did) clean = first_state first newly before (clean_before _ _ _ did.crash clean)
+  first_state first newly (executed old new shut attempts e r before did) clean = first_state first newly before (did.honest clean)
+  first_state first newly (ran old new shut attempts list answered end before did) clean = first_state first newly before (did.honest clean)
+  first_state first newly (command_checked old new attempts e r before did) clean = first_state first newly before (did.honest clean)
+  first_state first newly (asked old new attempts q r before did) clean = first_state first newly before (did.honest clean)
+  first_state first newly (verified old new attempts r before did) clean = first_state first newly before (did.honest clean)
+  first_state first newly (indexed old new attempts r before did) clean = first_state first newly before (did.honest clean)
+  first_state first newly (stopped old new phase attempts before kept left again) clean = first_state first newly before kept
+  first_state first newly (given_back old phase attempts before again) clean = first_state first newly before clean
+
+  -- whichever state it was at first
+  execution : (s : State) (first : Held S) {c : Held S} {phase : StorePhase} {attempts : List Attempt} → IsBeginningAt s (state g first).now → IsOpened (state g first) → Execution g first c phase attempts → HasCleanDisk (state g c) → Reached s attempts (state g c) phase
+  execution s first begins newly (begun is) clean = (newly, begun_at s (state g first).now is begins)
+  execution s first begins newly (found new did) clean = found_at s (state g first) (state g new) newly begins did clean
+  execution s first begins newly (adopted old new attempts before did) clean =
+      let was = execution s first begins newly before (clean_before _ _ _ did.crash clean) in
+      adopted_at s attempts (state g old) (state g new) was.0 was.1 did clean
+  execution s first begins newly (unadopted old new attempts f before did) clean =
+      let was = execution s first begins newly before (clean_before _ _ _ did.crash clean) in
+      (state_ready s attempts (state g old).now was.1, refused_crash_states s attempts f (state g old) (state g new) was.0 was.1 did clean, refused_open f (state g old) (state g new) was.0 did clean)
+  execution s first begins newly (executed old new shut attempts e r before did) clean =
+      let at = execution s first begins newly before (did.honest clean) in
       let c = state g new in
-      let done = did.executes clean at.0 (at.2.represents, λ _. at.2.crash_states) in (
-        was.0,
-        was.1,
-        subst (λ (b : Bool). Reached was.0 (attempts ++ attempt_as e r) c (desk b)) (sym did.is_shut)
-            (executed_at was.0 at.0 attempts c e r at.1 (subst (λ (b : Bool). Executes at.0 (Represents c b) (HasCrashStates c) e r) did.is_shut done)),
-      )
-  execution first newly (ran old new shut attempts list answered end before did) clean =
-      let was = execution first newly before (did.honest clean) in
-      let at = was.2 in
+      let done = did.executes clean at.0 (at.2.represents, λ _. at.2.crash_states) in
+      subst (λ (b : Bool). Reached s (attempts ++ attempt_as e r) c (desk b)) (sym did.is_shut)
+      (executed_at s at.0 attempts c e r at.1 (subst (λ (b : Bool). Executes at.0 (Represents c b) (HasCrashStates c) e r) did.is_shut done))
+  execution s first begins newly (ran old new shut attempts list answered end before did) clean =
+      let at = execution s first begins newly before (did.honest clean) in
       let c = state g new in
       let run = did.ran clean at.0 (at.2.represents, λ _. at.2.crash_states) in
       let n = length answered in
       let taken = acknowledgements list answered in
-      let lead = leads_on was.0 at.0 (fold at.0 (take n list)) attempts taken at.1 (all_taken at.0 list answered run.reported) in (
-        was.0,
-        was.1,
-        subst (λ (xs : List Attempt). Reached was.0 xs c (desk shut)) (append_assoc attempts taken (cut_off end (slice_get list n)))
-            (ended_at was.0 (fold at.0 (take n list)) (attempts ++ taken) list n c shut end lead run.ended),
-      )
-  execution first newly (command_checked old new attempts e r before did) clean =
-      let was = execution first newly before (did.honest clean) in
-      let at = was.2 in
-      (was.0, was.1, command_checked_at was.0 at.0 attempts (state g new) e r at.1 (did.checks clean at.0 (at.2.represents, λ _. at.2.crash_states)))
-  execution first newly (asked old new attempts q r before did) clean =
-      let was = execution first newly before (did.honest clean) in
-      let at = was.2 in
-      (was.0, was.1, asked_at was.0 at.0 attempts (state g new) q r at.1 (did.asks clean at.0 (at.2.represents, λ _. at.2.crash_states)))
-  execution first newly (verified old new attempts r before did) clean =
-      let was = execution first newly before (did.honest clean) in
-      let at = was.2 in
-      (was.0, was.1, (at.0, at.1, open_at (state g new) at.0 (did.unbroken clean at.0 (at.2.represents, λ _. at.2.crash_states)).1))
-  execution first newly (indexed old new attempts r before did) clean =
-      let was = execution first newly before (did.honest clean) in
-      let at = was.2 in
-      (was.0, was.1, (at.0, at.1, open_at (state g new) at.0 (did.represents clean at.0 (at.2.represents, λ _. at.2.crash_states))))
-  execution first newly (stopped old new phase attempts before kept left again) clean =
-      let was = execution first newly before kept in
-      (was.0, was.1, (again, crash_states_ready was.0 attempts (state g old) phase was.2 (state g new).now.trees left (state g new).now refl (sound (state g new) again)))
-  execution first newly (given_back old phase attempts before again) clean =
-      let was = execution first newly before clean in
+      let lead = leads_on s at.0 (fold at.0 (take n list)) attempts taken at.1 (all_taken at.0 list answered run.reported) in
+      subst (λ (xs : List Attempt). Reached s xs c (desk shut)) (append_assoc attempts taken (cut_off end (slice_get list n)))
+      (ended_at s (fold at.0 (take n list)) (attempts ++ taken) list n c shut end lead run.ended)
+  execution s first begins newly (command_checked old new attempts e r before did) clean =
+      let at = execution s first begins newly before (did.honest clean) in
+      command_checked_at s at.0 attempts (state g new) e r at.1 (did.checks clean at.0 (at.2.represents, λ _. at.2.crash_states))
+  execution s first begins newly (asked old new attempts q r before did) clean =
+      let at = execution s first begins newly before (did.honest clean) in
+      asked_at s at.0 attempts (state g new) q r at.1 (did.asks clean at.0 (at.2.represents, λ _. at.2.crash_states))
+  execution s first begins newly (verified old new attempts r before did) clean =
+      let at = execution s first begins newly before (did.honest clean) in
+      (at.0, at.1, open_at (state g new) at.0 (did.unbroken clean at.0 (at.2.represents, λ _. at.2.crash_states)).1)
+  execution s first begins newly (indexed old new attempts r before did) clean =
+      let at = execution s first begins newly before (did.honest clean) in
+      (at.0, at.1, open_at (state g new) at.0 (did.represents clean at.0 (at.2.represents, λ _. at.2.crash_states)))
+  execution s first begins newly (stopped old new phase attempts before kept left again) clean =
+      let was = execution s first begins newly before kept in
+      (again, crash_states_ready s attempts (state g old) phase was (state g new).now.trees left (state g new).now refl (sound (state g new) again))
+  execution s first begins newly (given_back old phase attempts before again) clean =
+      let was = execution s first begins newly before clean in
       let c = state g old in
-      (was.0, was.1, (again, crash_states_ready was.0 attempts c phase was.2 c.now.trees (shown_crash_states c again) c.now refl (sound c again)))
+      (again, crash_states_ready s attempts c phase was c.now.trees (shown_crash_states c again) c.now refl (sound c again))
 
   -- ---- what is so then
 
@@ -312,7 +337,19 @@ module _ {S : Type 0} (g : Ghosts S) where
   so_at c s attempts (desk true) represented = (represented.0.0, represented.0.1, tt)
   so_at c s attempts refused represented = (represented.0.0, represented.0.1, tt)
 
+  -- what is so of a store that was at this state first
+  pub so_from : (s : State) (first c : Held S) (phase : StorePhase) (attempts : List Attempt) → IsBeginningAt s (state g first).now → IsOpened (state g first) → Execution g first c phase attempts → HasCleanDisk (state g c)
+      → (now : State) × PossibleOutcome s attempts now × IsSoAt g c now phase
+  so_from s first c phase attempts begins newly life clean = so_at c s attempts phase (execution s first begins newly life clean)
+
+  -- where the commands may have led, and what is so there
+  pub outcome : (first c : Held S) (phase : StorePhase) (attempts : List Attempt) → IsOpened (state g first) → Execution g first c phase attempts → HasCleanDisk (state g c)
+      → (s : State) × IsAtState s (state g first).now × ((now : State) × PossibleOutcome s attempts now × IsSoAt g c now phase) × HasOpenableCrashState (state g c)
+  outcome first c phase attempts newly life clean =
+      let (s, begins) = first_state first newly life clean in
+      (s, is_at s (state g first).now begins, so_from s first c phase attempts begins newly life clean, something_left s attempts (state g c) phase (execution s first begins newly life clean))
+
   pub headline : Headline g
   headline first c phase attempts newly life clean =
-      let it = execution first newly life clean in
-      (it.0, it.1, so_at c it.0 attempts phase it.2, something_left it.0 attempts (state g c) phase it.2)
+      let (s, at, (now, lead, so), left) = outcome first c phase attempts newly life clean in
+      (s, at, (now, outcome_run s now attempts phase lead, so), left)

@@ -7,7 +7,10 @@ pub mod CheckedRows
 pub mod CheckedStore
 pub mod RunsPreserveInvariant
 pub mod AdoptedTrees
+pub mod RunsAreOutcomes
 pub mod HeadlineByInduction
+pub mod RepliesAreRepeated
+pub mod ReplicasAreAtOneState
 pub mod MarksAreReached
 pub mod MissingIndexesAreCreated
 pub mod SchemaIsUnique

@@ -6,7 +6,7 @@ use Rattle.sqlite.specs.State.{HasCleanDisk}
 use Rattle.plant_base.specs.{State, newest_schema, Envelope}
 use Rattle.sql_tables.proofs.TransactionEnds.{IsStore}
 use Rattle.plant_rules.specs.{Checked}
-use Rattle.plant_desk.specs.{Checks, Asks}
+use Rattle.plant_keeper.specs.{Checks, Asks}
 use Rattle.plant_questions.specs.{Answer, DeskFault, Question}
 use Rattle.plant_questions.specs.declared.reply.DeskFault.TheVariants.{Store, Memory, Shut}
 use Rattle.plant_desk_store.specs.{OnlyReads, HasLookedUpCheck, HasAnswered, Represents, HasForeignTables}

@@ -13,7 +13,7 @@ use Rattle.sql_tables.proofs.TransactionEnds.{IsStore}
 use Rattle.plant_tables.specs.{IsAt, FindsTables, FailureLeaves}
 use Rattle.plant_tables.proofs.WritingEnds.{finds_same}
 use Rattle.plant_migrate.proofs.NothingWritten.{at_still}
-use Rattle.plant_desk.specs.{States}
+use Rattle.plant_keeper.specs.{States}
 use Rattle.plant_desk_store.specs.{kept_crash_states, ShowsState, FindsState, HasCrashStates, IsDurablyAt}
 
 -- ---- a call that only reads

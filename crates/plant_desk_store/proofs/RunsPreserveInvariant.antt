@@ -5,7 +5,7 @@ use Rattle.plant_base.specs.{State, Envelope}
 use Rattle.plant_view.proofs.LotsAreBalanced.{balanced}
 use Rattle.plant_view.proofs.StockIsConserved.{conserved}
 use Rattle.plant_invariant.specs.StateInvariant.{StateInvariant}
-use Rattle.plant_desk.specs.{States, fold}
+use Rattle.plant_keeper.specs.{States, fold}
 use Rattle.plant_questions.specs.{DeskFault, Reply}
 use Rattle.plant_questions.specs.declared.reply.DeskFault.TheVariants.{Store, Memory, Shut}
 use Rattle.plant_desk_store.specs.{IsAccounted, Ran, Represents, HasCrashStates}

@@ -14,7 +14,7 @@ use Rattle.plant_tables.specs.{desk_table_defs, later_table_defs, MakesDesk, IsA
 use Rattle.plant_tables.specs.{IsVersion, IsKnown, Loaded}
 use Rattle.plant_migrate.specs.{IsBetween, FindsMigratable}
 use Rattle.plant_check_rules.specs.{first_broken, Rule}
-use Rattle.plant_desk.specs.{States}
+use Rattle.plant_keeper.specs.{States}
 use Rattle.plant_desk_store.specs.DeskStates.{IsDurablyAt, FindsStateOf}
 use Rattle.plant_desk_store.specs.declared.adopting.AdoptFault.{AdoptFault}
 use Rattle.plant_desk_store.specs.declared.adopting.AdoptFault.TheVariants as fault

@@ -10,7 +10,7 @@ use Rattle.plant_view.specs.{IsConserved, IsBalanced, edges_of}
 use Rattle.plant_tables.specs.{AddsMissing, AreAllTaken}
 use Rattle.plant_check_rules.specs.{Rule}
 use Rattle.plant_rules.specs.{Checked}
-use Rattle.plant_desk.specs.{Executes, Checks, Asks, shuts, writes_nothing, fold}
+use Rattle.plant_keeper.specs.{Executes, Checks, Asks, shuts, writes_nothing, fold}
 use Rattle.plant_questions.specs.{Answer, DeskFault, Question, Reply}
 use Rattle.plant_questions.specs.declared.reply.DeskFault.TheVariants.{Shut}
 use Rattle.plant_desk_store.specs.Adopting.{IsNewlyOpened, AdoptedFrom, KeepsValidState, ValidStateSurvives, ShowsUnchanged, IsRefusedBy, IsUnmigrated, Adopts}

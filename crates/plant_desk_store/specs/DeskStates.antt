@@ -11,7 +11,7 @@ use Rattle.plant_rules.specs.{step}
 use Rattle.plant_invariant.specs.StateInvariant.{StateInvariant}
 use Rattle.sql_tables.specs.{KeepsOtherTables}
 use Rattle.plant_tables.specs.{desk_table_defs, IsAt, HoldsTablesOf}
-use Rattle.plant_desk.specs.{States, reply}
+use Rattle.plant_keeper.specs.{States, reply}
 use Rattle.plant_questions.specs.{DeskFault, Reply}
 use Rattle.plant_questions.specs.declared.reply.DeskFault.TheVariants.{Store, Memory, Shut}
 

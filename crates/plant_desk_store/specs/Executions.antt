@@ -12,19 +12,15 @@ use Rattle.sql_queries.specs.{IsNewlyOpened}
 use Rattle.plant_tables.specs.{desk_table_defs}
 use Rattle.plant_check_rules.specs.{Rule}
 use Rattle.plant_rules.specs.{Checked}
-use Rattle.plant_desk.specs.{reply}
+use Rattle.plant_keeper.specs.{reply}
 use Rattle.plant_questions.specs.{Answer, DeskFault, Question, Reply}
 use Rattle.plant_questions.specs.declared.reply.DeskFault.TheVariants.{Store, Memory, Shut}
 use Rattle.plant_desk_store.specs.CallContracts.{HasAdopted, HasRefused, HasExecuted, HasCheckedCommand, HasAsked, HasRun, HasVerified, HasIndexed}
 use Rattle.plant_desk_store.specs.DeskLaws.{IsAdoptable}
+use Rattle.plant_desk_store.specs.Machines.{Attempt, acknowledged, in_flight}
 use Rattle.plant_desk_store.specs.declared.adopting.AdoptFault.{AdoptFault}
 
 -- ---- commands that were sent
-
--- a command was acknowledged by this reply, its number or its refusal; or it was under way when the store failed or was stopped
-pub data Attempt : Type 0 where
-  acknowledged : Envelope → Reply → Attempt
-  in_flight : Envelope → Attempt
 
 -- where commands may have led: each that was acknowledged is taken, and its reply is the definitions' at the state that it was
 -- taken at; each that was under way is taken or isn't

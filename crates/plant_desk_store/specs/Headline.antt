@@ -15,12 +15,14 @@ use Rattle.plant_invariant.specs.StateInvariant.{StateInvariant}
 use Rattle.sql_tables.specs.{AreFree}
 use Rattle.plant_tables.specs.{desk_table_defs, HoldsTablesOf, HoldsTables}
 use Rattle.plant_rules.specs.{checked, Checked}
-use Rattle.plant_answers.specs.{StandsFrom, standing_order, answer, missing}
+use Rattle.plant_answers_genealogy.specs.{StandsFrom, standing_order, missing}
+use Rattle.plant_answers.specs.{answer}
 use Rattle.plant_questions.specs.{Answer, LotAnswer, Question, StandingLot}
 use Rattle.plant_questions.specs.declared.question.Question.TheVariants as Q
 use Rattle.plant_questions.specs.declared.question.Answer.TheVariants as A
 use Rattle.plant_desk_store.specs.CallContracts.{IsAccounted, HasRefused, HasCheckedCommand, HasAsked}
-use Rattle.plant_desk_store.specs.Executions.{Attempt, PossibleOutcome, IsOpened, StorePhase, opened, desk, refused, Execution}
+use Rattle.plant_desk_store.specs.Executions.{PossibleOutcome, IsOpened, StorePhase, opened, desk, refused, Execution}
+use Rattle.plant_desk_store.specs.Machines.{Attempt, LeadsTo, Machine, down, up}
 use Rattle.plant_desk_store.specs.declared.adopting.AdoptFault.{AdoptFault}
 use Rattle.plant_desk_store.specs.declared.adopting.AdoptFault.TheVariants.{Store, Memory}
 
@@ -97,10 +99,21 @@ IsSoAt g c s (desk false) = IsKeptAt g c s
 IsSoAt g c s (desk true) = ⊤
 IsSoAt g c s refused = ⊤
 
--- Whatever a store has been through since its first opening, calls and stops at any moment: it was at some state first, and
--- is now at the state to which all acknowledged commands lead, or these and some of those that were under way, each at a stop
--- of its own; and a stop leaves something. There each trace is exactly the least relation that is closed under recorded consumption, production, split and
--- merge, and every lot's stock is what entered it less what left it.
+-- The machine is up while a desk that isn't shut is over the store.
+abbrev pub machine_at : StorePhase → State → Machine
+machine_at opened s = down s
+machine_at (desk false) s = up s
+machine_at (desk true) s = down s
+machine_at refused s = down s
+
+-- Whatever a store has been through since its first opening, calls and stops at any moment: it was at some state first, and what it has been
+-- through is a run of the machine from there, with the same commands and replies. So the store is at the state to which all acknowledged commands lead, or
+-- these and some of those that were under way, each at a stop of its own; and a stop leaves something. There each trace is exactly the least
+-- relation that is closed under recorded consumption, production, split and merge, and every lot's stock is what entered it less what left it.
 abbrev pub Headline : {S : Type 0} → Ghosts S → Type 0
 Headline {S} g = (first c : Held S) (phase : StorePhase) (attempts : List Attempt) → IsOpened (state g first) → Execution g first c phase attempts → HasCleanDisk (state g c)
-    → (s : State) × IsAtState s (state g first).now × ((now : State) × PossibleOutcome s attempts now × IsSoAt g c now phase) × HasOpenableCrashState (state g c)
+    → (s : State) × IsAtState s (state g first).now × ((now : State) × LeadsTo s attempts (machine_at phase now) × IsSoAt g c now phase) × HasOpenableCrashState (state g c)
+
+-- The runs of the machine, told without it: where commands may have led is where it is, up or down.
+abbrev pub RunsAreOutcomes : Type 0
+RunsAreOutcomes = (s now : State) (attempts : List Attempt) (phase : StorePhase) → LeadsTo s attempts (machine_at phase now) ↔ PossibleOutcome s attempts now

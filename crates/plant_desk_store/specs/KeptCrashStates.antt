@@ -4,7 +4,7 @@ use Rattle.std.proofs.Math.Logic.{∥∥₁_elim}
 use Rattle.sqlite.specs.Tree.{Trees}
 use Rattle.sqlite.specs.State as store
 use Rattle.sqlite.specs.State.{HasCleanDisk, Survives}
-use Rattle.plant_desk.specs.{States}
+use Rattle.plant_keeper.specs.{States}
 use Rattle.plant_desk_store.specs.DeskStates.{HasCrashStates}
 
 -- what a stop leaves, where it leaves no more than it did

@@ -14,7 +14,7 @@ use Rattle.plant_migrate.specs.{edges_from, IsMigratedBy}
 use Rattle.plant_check_rules.specs.{Rule}
 use Rattle.plant_answers.specs.{answer}
 use Rattle.plant_rules.specs.{checked, Checked}
-use Rattle.plant_desk.specs.{writes_nothing}
+use Rattle.plant_keeper.specs.{writes_nothing}
 use Rattle.plant_questions.specs.{Answer, DeskFault, Question, Reply}
 use Rattle.plant_questions.specs.declared.reply.Reply.TheVariants.{Accepted}
 use Rattle.plant_questions.specs.declared.reply.DeskFault.TheVariants.{Store, Shut}

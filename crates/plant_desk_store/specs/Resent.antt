@@ -4,9 +4,10 @@ use Rattle.sqlite.specs.Held.{Held, state}
 use Rattle.sqlite.specs.State.{HasCleanDisk}
 use Rattle.sqlite_trees.specs.declared.store.Store.{Ghosts}
 use Rattle.plant_base.specs.{State, Envelope}
-use Rattle.plant_desk.specs.{once, plain, but_receipts, reply, Outcome, answered, stopped_before, stopped_after, Sending, after, state_after_sending}
+use Rattle.plant_keeper.specs.{once, plain, but_receipts, reply, Outcome, answered, stopped_before, stopped_after, Sending, after, state_after_sending}
 use Rattle.plant_desk_store.specs.Headline.{IsAtState, IsSoAt}
-use Rattle.plant_desk_store.specs.Executions.{Attempt, acknowledged, in_flight, PossibleOutcome, IsOpened, StorePhase, Execution}
+use Rattle.plant_desk_store.specs.Machines.{Attempt, acknowledged, in_flight}
+use Rattle.plant_desk_store.specs.Executions.{PossibleOutcome, IsOpened, StorePhase, Execution}
 
 -- ---- the commands of an execution are a sending
 

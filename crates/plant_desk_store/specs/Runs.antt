@@ -2,7 +2,7 @@
 use Rattle.std.specs.Prelude.{◌≡◌, ◌⊎◌, ℕ, Bool, true, false, List, take, slice_get, length, Option, Some, None}
 use Rattle.plant_base.specs.{State, Envelope}
 use Rattle.plant_rules.specs.{step}
-use Rattle.plant_desk.specs.{States, fold, replies}
+use Rattle.plant_keeper.specs.{States, fold, replies}
 use Rattle.plant_questions.specs.{DeskFault, Reply}
 use Rattle.plant_questions.specs.declared.reply.DeskFault.TheVariants.{Store, Memory, Shut}
 

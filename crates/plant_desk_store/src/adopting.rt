@@ -10,6 +10,7 @@ ghost use Rattle.plant_desk_store.specs.PrivateContracts.{HasMade, HasChecked, H
 ghost use Rattle.plant_desk_store.specs.Checks.{PassesChecks};
 
 use crate::check_error::{CheckError, check_desk};
+use crate::digest::Digest;
 use crate::stored::Desk;
 use plant_base::NEWEST_SCHEMA;
 use plant_check_rules::Rule;
@@ -87,19 +88,26 @@ impl<S: Alter> Desk<S> {
         ensures refused { IfErr result (λ refused. HasRefused refused.fault (state S.Store connection)
             (state S.Store refused.connection)) }
     {
-        match adopt_on(alloc, &mut connection) {
+        let mut digest = Digest::none();
+        match adopt_on(alloc, &mut connection, &mut digest) {
             Ok(()) => Ok(Desk {
                 alloc,
                 connection,
                 is_shut: false,
+                digest,
             }),
             Err(fault) => Err(AdoptRefused { connection, fault }),
         }
     }
 }
 
-/// Makes the desk's tables where the store has none of them, else tests those that are there, and migrates older ones.
-fn adopt_on<S: Alter>(alloc: Global, connection: &mut Connection<S>) -> Result<(), AdoptFault>
+/// Makes the desk's tables where the store has none of them, else tests those that are there, adds their receipts to the digest, and
+/// migrates older ones.
+fn adopt_on<S: Alter>(
+    alloc: Global,
+    connection: &mut Connection<S>,
+    digest: &mut Digest,
+) -> Result<(), AdoptFault>
     requires { (state S.Store connection.old).in_transaction ≡ false }
     ensures { MatchResult result (λ _. HasAdopted (state S.Store connection.old)
         (state S.Store connection.new)) (λ fault. HasRefused fault (state S.Store connection.old)
@@ -107,7 +115,7 @@ fn adopt_on<S: Alter>(alloc: Global, connection: &mut Connection<S>) -> Result<(
 {
     match schema_found(found(alloc, connection))? {
         None => make_opening(connection),
-        Some(schema) => adopt_tables(alloc, connection, schema),
+        Some(schema) => adopt_tables(alloc, connection, schema, digest),
     }
 }
 
@@ -137,16 +145,19 @@ fn schema_of_version(version: i64) -> Result<Option<u64>, AdoptFault>
     Ok(Some(schema))
 }
 
-/// Tests the tables of a schema, which are there, and migrates them where they are valid and the schema isn't the newest.
+/// Tests the tables of a schema, which are there; where they are valid, their receipts are added to the digest, and they are migrated where the
+/// schema isn't the newest.
 fn adopt_tables<S: Alter>(
     alloc: Global,
     connection: &mut Connection<S>,
     schema: u64,
+    digest: &mut Digest,
 ) -> Result<(), AdoptFault>
     requires { (state S.Store connection.old).in_transaction ≡ false }
     ensures { HasTaken schema (state S.Store connection.old) (state S.Store connection.new) result }
 {
     let rows = check_tables(alloc, connection, schema)?;
+    digest.add_receipts(rows.receipts.as_slice());
     if schema < NEWEST_SCHEMA {
         migrate_tables(alloc, connection, schema, &rows)
     } else {

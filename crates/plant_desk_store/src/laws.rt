@@ -3,16 +3,18 @@
 ghost use Rattle.std.specs.Prelude.{◌≡◌, false};
 ghost use Rattle.sqlite.specs.Held.{state};
 ghost use Rattle.plant_desk_store.specs.CallContracts.{HasExecuted, HasCheckedCommand, HasAsked};
-ghost use Rattle.plant_desk_store.specs.Headline.{Headline};
+ghost use Rattle.plant_desk_store.specs.Headline.{Headline, RunsAreOutcomes};
 ghost use Rattle.plant_desk_store.specs.DeskLaws.{StopsAreReopened, ValidIsNotRefused};
 ghost use Rattle.plant_desk_store.specs.DeskLaws.{ValidIsAdoptedAgain, OpeningIsAdopted};
 ghost use Rattle.plant_desk_store.specs.DeskLaws.{UnknownTablesAreKept, MarksAreReached};
 ghost use Rattle.plant_desk_store.specs.Resent.{ExecutionsAreSendings, ExecutionsApplyOnce};
 ghost use Rattle.plant_desk_store.specs.Resent.{ExecutionsApplyInOrder, StoresApplyOnce};
+ghost use Rattle.plant_desk_store.specs.Replicas.{ReplicasAgree, ReplicasAnswerAlike};
+ghost use Rattle.plant_desk_store.specs.Replicas.{ReplicasReplyAlike};
 
 use crate::stored::Desk;
 use plant_base::Envelope;
-use plant_desk::Keeper;
+use plant_keeper::Keeper;
 use plant_questions::{Answer, DeskFault, Question, Reply};
 use plant_rules::Checked;
 use sqlite::Alter;
@@ -21,10 +23,15 @@ use sqlite::Alter;
 /// or of those and the ones under way; there each trace is exactly the least relation closed under recorded consumption,
 /// production, split and merge, and every lot's stock is what entered less what left.
 ///
+/// `run`: whatever a store has been through is a run of the abstract machine, in which a command is acknowledged by its reply and leads to the
+/// next state, a stop leaves nothing or all of the command under way, and an opening goes on there; the store holds the tables of the machine's
+/// state. `outcomes`: where runs lead is told without the machine too: each acknowledged command is taken, each other one is or isn't.
+///
 /// What it supposes of a call is what the call ensures: [`Desk::adopt`], [`Desk::run`], [`Desk::verify`], and `execute`,
 /// `check` and `ask` of a desk, as [`execute_with_outcome`], [`check_with_outcome`] and [`ask_with_outcome`] state it.
 pub fn headline_law<S: Alter>()
-    ensures { Headline S.Store }
+    ensures run { Headline S.Store }
+    ensures outcomes { RunsAreOutcomes }
 {}
 
 /// Clients, any number of them, who give each command a reference and send each that was under way at a stop again, at any
@@ -41,6 +48,19 @@ pub fn resend_law<S: Alter>()
     ensures once { ExecutionsApplyOnce }
     ensures in_order { ExecutionsApplyInOrder }
     ensures stores { StoresApplyOnce S.Store }
+{}
+
+/// Replicas: desks, over stores of any kinds, that began at the same state and were given the same commands in the same order. Each command
+/// has a reference and is sent until it is acknowledged, before the next one; stops may come at any moment, and a command may be sent again
+/// after it was acknowledged.
+///
+/// `agree`: each is at the state to which the commands lead, each taken once, in order; what the main theorem says of a store at a
+/// state is so of each at that one, so those that are open hold the same tables. `replies`: each acknowledges each command by the
+/// definitions' reply at its turn, however often it is sent. `alike`: two that are open give one answer to each question.
+pub fn replicas_law<S: Alter, T: Alter>()
+    ensures agree { ReplicasAgree S.Store T.Store }
+    ensures replies { ReplicasReplyAlike S.Store }
+    ensures alike { ReplicasAnswerAlike S.Store T.Store }
 {}
 
 /// Executes a command over a desk that isn't shut: the outcome, in the terms of the main theorem.

@@ -3,6 +3,7 @@
 
 mod adopting;
 mod check_error;
+mod digest;
 mod executing;
 mod faults;
 mod indexing;
@@ -15,7 +16,9 @@ mod tests;
 mod verifying;
 
 pub use adopting::{AdoptFault, AdoptRefused};
+pub use digest::Digest;
 pub use laws::{
-    ask_with_outcome, check_with_outcome, desk_laws, execute_with_outcome, headline_law, resend_law,
+    ask_with_outcome, check_with_outcome, desk_laws, execute_with_outcome, headline_law,
+    replicas_law, resend_law,
 };
 pub use stored::Desk;

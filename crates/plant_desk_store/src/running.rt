@@ -2,12 +2,12 @@
 
 ghost use Rattle.std.specs.Prelude.{◌≡◌, ◌≢◌, ◌≤◌, [], false, true, Some, length};
 ghost use Rattle.plant_base.specs.{State};
-ghost use Rattle.plant_desk.specs.{IsSameDesk};
+ghost use Rattle.plant_keeper.specs.{IsSameDesk};
 ghost use Rattle.plant_questions.specs.declared.reply.DeskFault.TheVariants as fault;
 ghost use Rattle.plant_desk_store.specs.Runs.{Ran};
 
 use plant_base::{Envelope, Items};
-use plant_desk::{Keeper, RunReport};
+use plant_keeper::{Keeper, RunReport};
 use plant_questions::{DeskFault, Reply};
 use std::alloc::Global;
 

@@ -1,6 +1,7 @@
 ghost use Rattle.std.specs.Prelude.{◌≡◌, false};
-ghost use Rattle.plant_desk.specs.{shuts};
+ghost use Rattle.plant_keeper.specs.{shuts};
 
+use crate::digest::Digest;
 use crate::executing::execute_on;
 use crate::indexing::index_on;
 use crate::lookups::{answer_on, check_on};
@@ -8,7 +9,7 @@ use crate::running::run_over;
 use crate::verifying::verify_on;
 use plant_base::{Envelope, Items};
 use plant_check_rules::Rule;
-use plant_desk::{Keeper, RunReport};
+use plant_keeper::{Keeper, RunReport};
 use plant_questions::{Answer, DeskFault, Question, Reply};
 use plant_rules::Checked;
 use sqlite::{Alter, Connection};
@@ -17,12 +18,13 @@ use std::alloc::Global;
 /// A desk over its file: its state is in the tables of one store.
 ///
 /// A command or a question reads the rows that it names, and a trace all edges, where they are many. Nothing of the state is kept between
-/// calls but whether the desk is shut.
+/// calls but whether the desk is shut, and the digest of the receipts.
 #[derive(Drop)]
 pub struct Desk<S: Alter> {
     pub(crate) alloc: Global,
     pub(crate) connection: Connection<S>,
     pub(crate) is_shut: bool,
+    pub(crate) digest: Digest,
     ghost rests: { connection.in_transaction ≡ false },
 }
 
@@ -89,6 +91,14 @@ impl<S: Alter> Desk<S> {
         self.is_shut
     }
 
+    /// The digest of the commands that were accepted under references: of those in the tables when they were adopted, and of those since. That of
+    /// a desk that is shut may lack the last one.
+    pub fn digest(&self) -> Digest
+        ensures { result ≡ self.now.digest }
+    {
+        self.digest
+    }
+
     /// Gives the store back. No memory is taken.
     pub fn close(self) -> Connection<S>
         ensures { result ≡ self.connection }
@@ -111,7 +121,7 @@ impl<S: Alter> Keeper for Desk<S> {
     ghost use Rattle.sqlite.specs.State.{HasCleanDisk, Survives};
     ghost use Rattle.plant_base.specs.{State, newest_schema};
     ghost use Rattle.sqlite.specs.Effect.{Database};
-    ghost use Rattle.plant_desk.specs.{IsSameDesk, Executes, writes_nothing};
+    ghost use Rattle.plant_keeper.specs.{IsSameDesk, Executes, writes_nothing};
     ghost use Rattle.plant_desk_store.specs.Lookups.{IsRepeat};
     ghost use Rattle.plant_desk_store.specs.DeskStates.{Represents, HasCrashStates};
     ghost use Rattle.plant_desk_store.specs.DeskStates.{HasForeignTables};
@@ -157,7 +167,7 @@ impl<S: Alter> Keeper for Desk<S> {
         if self.is_shut {
             return Err(DeskFault::Shut);
         }
-        let answer = execute_on(self.alloc, &mut self.connection, envelope);
+        let answer = execute_on(self.alloc, &mut self.connection, envelope, &mut self.digest);
         self.is_shut = is_store_fault(&answer);
         answer
     }

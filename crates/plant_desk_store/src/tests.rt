@@ -33,7 +33,7 @@ fn new_desk(alloc: Global) -> Result<Desk<MemStore>, Fail> {
 
 /// The desk after a statement on its tables.
 fn changed(desk: Desk<MemStore>, statement: &str) -> Result<Desk<MemStore>, Fail> {
-    let alloc = desk.alloc;
+    let (alloc, digest) = (desk.alloc, desk.digest);
     let mut connection = desk.close();
     connection.execute_batch(statement)?;
     if !connection.is_autocommit() {
@@ -43,6 +43,7 @@ fn changed(desk: Desk<MemStore>, statement: &str) -> Result<Desk<MemStore>, Fail
         alloc,
         connection,
         is_shut: false,
+        digest,
     })
 }
 

@@ -10,8 +10,8 @@ use Rattle.plant_desk_store.proofs.ForeignTablesKept.{others_committed, others_c
 use Rattle.plant_desk_store.proofs.ReadingKeepsState.{open_at, cut_at}
 use Rattle.plant_desk_store.proofs.executing.commit_on.Goals as goal
 
-pub returns-in-Ok : goal.returns-in-Ok
-returns-in-Ok g c =
+pub returns-in-Ok-clause-committed : goal.returns-in-Ok-clause-committed
+returns-in-Ok-clause-committed g c =
     let old = state g.S.Store c.args.connection.now in
     let end = c.commit_changes.new.conn in
     let new = state g.S.Store end in
@@ -26,8 +26,8 @@ returns-in-Ok g c =
           others_committed before old new (changed_all c.args.changes.now (tables_of newest_schema s)) others is_live done.0 done.1;
     }
 
-pub returns-in-Err : goal.returns-in-Err
-returns-in-Err g c =
+pub returns-in-Err-clause-committed : goal.returns-in-Err-clause-committed
+returns-in-Err-clause-committed g c =
     let old = state g.S.Store c.args.connection.now in
     let new = state g.S.Store c.commit_changes.new.conn in
     record {

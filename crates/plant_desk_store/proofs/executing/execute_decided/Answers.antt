@@ -36,7 +36,7 @@ pub returns-in-Change-clause-written : goal.returns-in-Change-clause-written
 returns-in-Change-clause-written g c =
     let e = c.args.envelope.now in
     let changes = c.as_slice.result.now in
-    let did = c.commit_on.ensures in
+    let did = c.commit_on.ensures.committed in
     let rows : c.in-Change.changes ≡ changes = search rules in
     let one : puts_one_batch changes ≡ true = subst (λ (cs : List RowChange). puts_one_batch cs ≡ true) rows (rw c.in-Change.is at c.requires.one_batch) in
     let values = c.show_values.ensures in

@@ -1,7 +1,7 @@
 use Rattle.std.proofs.Common.{Bool, sym, subst, ◌∙◌}
 use Rattle.sqlite.specs.Held.{state}
 use Rattle.plant_base.specs.{newest_schema}
-use Rattle.plant_desk.specs.{Asks}
+use Rattle.plant_keeper.specs.{Asks}
 use Rattle.plant_desk_store.specs.{Represents}
 use Rattle.plant_desk_store.proofs.laws.ask_with_outcome.Goals as goal
 

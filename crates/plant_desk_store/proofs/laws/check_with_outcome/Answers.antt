@@ -1,6 +1,6 @@
 use Rattle.std.proofs.Common.{Bool, sym, subst, ◌∙◌}
 use Rattle.sqlite.specs.Held.{state}
-use Rattle.plant_desk.specs.{Checks}
+use Rattle.plant_keeper.specs.{Checks}
 use Rattle.plant_desk_store.specs.{Represents}
 use Rattle.plant_desk_store.proofs.laws.check_with_outcome.Goals as goal
 

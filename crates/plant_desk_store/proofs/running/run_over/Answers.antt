@@ -1,8 +1,8 @@
 use Rattle.std.proofs.Common.{◌∙◌, ◌++◌, ◌∷◌, [], sym, subst, take, arith}
 use Rattle.std.proofs.lemmas.Grind.{common_steps}
-use Rattle.plant_desk.specs.{fold}
-use Rattle.plant_desk.proofs.SameDesk.{same_after}
-use Rattle.plant_desk.proofs.RunExtends.{fold_more, replies_more}
+use Rattle.plant_keeper.specs.{fold}
+use Rattle.plant_keeper.proofs.SameDesk.{same_after}
+use Rattle.plant_keeper.proofs.RunExtends.{fold_more, replies_more}
 use Rattle.plant_desk_store.proofs.running.run_over.Goals as goal
 
 pub loop-envelope-preserved : goal.loop-envelope-preserved

@@ -1,6 +1,6 @@
 use Rattle.std.proofs.Common.{◌≡◌, ◌+◌, ◌-◌, ◌≤◌, false, length, take, vec_len, vec_capacity}
 use Rattle.plant_base.specs.{State}
-use Rattle.plant_desk.specs.{IsSameDesk, fold, replies}
+use Rattle.plant_keeper.specs.{IsSameDesk, fold, replies}
 use Rattle.plant_desk_store.proofs.running.run_over.Given as goal
 
 abbrev pub invariant-loop-envelope : goal.invariant-loop-envelope

@@ -1,16 +1,19 @@
 -- A task under a condition is the task where the condition is met, and nothing where it isn't.
-use Rattle.std.proofs.Common.{◌≡◌, ℕ, Bool, true, false, Option, Some, None, Ok, Err, refl, sym, ap, inl, inr}
+use Rattle.std.proofs.Common.{◌≡◌, ◌∙◌, ℕ, Bool, true, false, Option, Some, None, Ok, Err, refl, sym, ap, inl, inr}
 use Rattle.std.specs.Prelude.{◌||◌, is_some, if◌then◌else◌}
 use Rattle.plant_base.specs.{State, Envelope}
 use Rattle.plant_answers.specs.{answer}
-use Rattle.plant_desk.specs.{States, Asks}
-use Rattle.plant_questions.specs.{Answer as DeskAnswer, DeskFault}
+use Rattle.plant_keeper.specs.{States, Asks}
+use Rattle.plant_questions.specs.{Answer as DeskAnswer, DeskFault, Question}
 use Rattle.plant_questions.specs.declared.question.Question.TheVariants as Q
 use Rattle.plant_questions.specs.declared.reply.DeskFault.TheVariants.{Store, Memory, Shut}
 use Rattle.plant_text.specs.{RepresentsDurably, Entry, nothing, command, question, after}
 use Rattle.plant_text.proofs.RunCrashStates.{CrashStateIsOwn}
-use Rattle.plant_http_requests.specs.{ConditionalTask, Reads, ReadsAs, RequestTask, under}
-use Rattle.plant_http.specs.{DoneUnder, DoneWhenShut, FailsAt, Out, OutUnder, OutWhenShut, Performs, PerformsTask, TellsSeq, entry_of, entry_of_task, fault_out, is_met, is_silent, may_fail, seq_in_answer, seq_out, task_out}
+use Rattle.plant_http_requests.specs.{ConditionalTask, Figures, Presentation, Reads, ReadsAs, RequestTask, under}
+use Rattle.plant_http_requests.specs.declared.task.HeadDecision.TheVariants as head
+use Rattle.plant_http_requests.specs.declared.task.RequestTask.TheVariants as J
+use Rattle.plant_http.specs.{DoneUnder, DoneWhenShut, FailsAt, Out, OutUnder, OutWhenShut, Performs, PerformsTask, TellsPosition, TellsSeq, entry_of, entry_of_task, fault_out, health_out, is_met, is_silent, may_fail, position_in, seq_in_answer, seq_out, task_out}
+use Rattle.plant_http.specs.declared.position.Position.{Position}
 use Rattle.plant_http.proofs.TaskPerforms.{reads_performs, reads_silent, reads_shut}
 
 -- ---- the number of accepted commands
@@ -18,6 +21,32 @@ use Rattle.plant_http.proofs.TaskPerforms.{reads_performs, reads_silent, reads_s
 pub answer_tells : (k : ℕ) (s : State) (represents : States) (a : DeskAnswer) → Asks k s represents Q.Desk (Ok a) → TellsSeq s represents (seq_in_answer a)
 unfolding answer
 answer_tells k s represents a (is, same) = rw is (refl, same)
+
+-- ---- how far a keeper has come
+
+-- a fault at one of the questions
+pub fault_tells : (k : ℕ) (s : State) (q : Question) (represents : States) (f : DeskFault) → Asks k s represents q (Err f) → TellsPosition k s represents (Err f)
+fault_tells k s q represents Store still = still
+fault_tells k s q represents Memory still = still
+fault_tells k s q represents Shut none = none
+
+pub answers_tell : (k : ℕ) (s : State) (represents : States) (desk moment : DeskAnswer) → desk ≡ answer k s Q.Desk → Asks k s represents Q.Moment (Ok moment)
+    → TellsPosition k s represents (position_in desk moment)
+unfolding answer
+answers_tell k s represents desk moment so (is, same) = rw (so, is) (refl, same)
+
+pub position_performs : (k : ℕ) (s : State) (presentation : Presentation) (figures : Figures) (silent : Bool) (p : Position) (out : Out) (represents : States) (shut : Bool)
+    (crash_states : States → Type 0) → CrashStateIsOwn represents shut crash_states → shut ≡ false → TellsPosition k s represents (Ok p)
+    → out ≡ health_out presentation figures p.schema p.seq p.at → PerformsTask k s (J.Decided (head.Health presentation figures silent)) out represents shut crash_states
+position_performs k s presentation figures silent p out represents shut crash_states law is_live (is, same) made =
+    inl (made ∙ ap (λ (p : Position). health_out presentation figures p.schema p.seq p.at) is, (same, law is_live s same), is_live)
+
+pub position_fails : (k : ℕ) (s : State) (presentation : Presentation) (figures : Figures) (silent : Bool) (f : DeskFault) (out : Out) (represents : States) (shut : Bool)
+    (crash_states : States → Type 0) → CrashStateIsOwn represents shut crash_states → shut ≡ false → TellsPosition k s represents (Err f) → out ≡ fault_out f
+    → PerformsTask k s (J.Decided (head.Health presentation figures silent)) out represents shut crash_states
+position_fails k s presentation figures silent Store out represents shut crash_states law is_live still made = inr (Store, refl, made, (still, is_live), inl (still, law is_live s still))
+position_fails k s presentation figures silent Memory out represents shut crash_states law is_live still made = inr (Memory, refl, made, (still, is_live), (still, law is_live s still))
+position_fails k s presentation figures silent Shut out represents shut crash_states law is_live none made = absurd none
 
 -- ---- what is done
 

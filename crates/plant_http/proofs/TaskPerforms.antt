@@ -1,7 +1,7 @@
 -- The outcome of the keeper's replies, where a stop of an open keeper leaves the state that it represents.
 use Rattle.std.proofs.Common.{◌≡◌, ℕ, Bool, true, false, Result, Ok, Err, refl, sym, subst, ap, ◌∙◌, inl, inr}
 use Rattle.plant_base.specs.{State, Envelope}
-use Rattle.plant_desk.specs.{States, Executes, Asks, shuts}
+use Rattle.plant_keeper.specs.{States, Executes, Asks, shuts}
 use Rattle.plant_questions.specs.{Answer as DeskAnswer, DeskFault, Question, Reply}
 use Rattle.plant_questions.specs.declared.reply.DeskFault.TheVariants.{Store, Memory, Shut}
 use Rattle.plant_text.specs.{RepresentsDurably, ChecksAs, check_when_shut}

@@ -9,7 +9,7 @@ use Rattle.plant_base.specs.{State, number_of}
 use Rattle.plant_base.specs.declared.refusal.Refusal.TheVariants.{BadForm}
 use Rattle.plant_orders.specs.{kind_name, CsvFault}
 use Rattle.plant_answers.specs.{answer}
-use Rattle.plant_desk.specs.{reply}
+use Rattle.plant_keeper.specs.{reply}
 use Rattle.plant_questions.specs.{Answer as DeskAnswer, BatchView, DeskFault, Reply}
 use Rattle.plant_questions.specs.declared.question.Answer.TheVariants as A
 use Rattle.plant_questions.specs.declared.reply.Reply.TheVariants.{Accepted, Refused}
@@ -18,7 +18,7 @@ use Rattle.plant_text_answers.specs.{record_text}
 use Rattle.plant_text_answers.specs.{text_of_answer, reply_text, fault_text}
 use Rattle.plant_text_checks.specs.{check_text, check_answer, CheckAnswer}
 use Rattle.plant_text.specs.{check_when_shut}
-use Rattle.plant_http_requests.specs.{Allow, ConditionalTask, HeadDecision, RequestTask, Profile, Status, Terms}
+use Rattle.plant_http_requests.specs.{Allow, ConditionalTask, Figures, HeadDecision, Presentation, RequestTask, Profile, Status, StatusCount, Terms}
 use Rattle.plant_http_requests.specs.declared.profile.Profile.TheVariants as profile
 use Rattle.plant_http_requests.specs.{BodyFormat}
 use Rattle.plant_http_requests.specs.declared.task.HeadDecision.TheVariants as head
@@ -153,6 +153,28 @@ escaped (b ∷ text) = escaped_byte b ++ escaped text
 abbrev pub operator_text : List ℕ → List ℕ
 operator_text operator = codes "{\"operator\":\"" ++ escaped operator ++ codes "\"}"
 
+-- how many answers had a status, as a member
+abbrev pub count_text : StatusCount → List ℕ
+count_text c = codes "\"" ++ decimal c.status ++ codes "\":" ++ decimal c.count ++ codes ","
+
+abbrev pub counts_text : List StatusCount → List ℕ
+counts_text [] = []
+counts_text (c ∷ counts) = count_text c ++ counts_text counts
+
+-- a text that may lack
+abbrev pub text_or_null : Option (List ℕ) → List ℕ
+text_or_null None = codes "null"
+text_or_null (Some text) = codes "\"" ++ escaped text ++ codes "\""
+
+-- how the server fares and is presented, and the schema, the number and the moment of the last accepted command
+unfoldable pub health_text : Presentation → Figures → ℕ → ℕ → ℕ → List ℕ
+health_text presentation figures schema seq at =
+    codes "{\"answers\":{" ++ counts_text figures.answers ++ codes "\"none\":" ++ decimal figures.unanswered
+    ++ codes "},\"at\":" ++ decimal at ++ codes ",\"digest\":\"" ++ decimal figures.digest ++ codes "\",\"digested\":" ++ decimal figures.digested
+    ++ codes ",\"instance\":\"" ++ decimal figures.began
+    ++ codes "\",\"language\":" ++ text_or_null presentation.language ++ codes ",\"name\":" ++ text_or_null presentation.name
+    ++ codes ",\"schema\":" ++ decimal schema ++ codes ",\"seconds\":" ++ decimal figures.seconds ++ codes ",\"seq\":" ++ decimal seq ++ codes "}"
+
 -- a command lacks the reference that it has to have
 abbrev pub reference_text : List ℕ
 reference_text = codes "{\"reference\":\"missing\",\"status\":400}"
@@ -173,6 +195,9 @@ fault_out f = json_out st.Unavailable (fault_text f)
 
 abbrev pub operator_out : List ℕ → Out
 operator_out operator = json_out st.Success (operator_text operator)
+
+abbrev pub health_out : Presentation → Figures → ℕ → ℕ → ℕ → Out
+health_out presentation figures schema seq at = json_out st.Success (health_text presentation figures schema seq at)
 
 abbrev pub reference_out : Out
 reference_out = json_out st.BadRequest reference_text
@@ -242,6 +267,7 @@ abbrev pub decision_out : ℕ → State → HeadDecision → Out
 decision_out k s (head.Refuse status allow silent) = error_out status allow
 decision_out k s (head.Ask question body_format silent) = answer_out body_format (answer k s question)
 decision_out k s (head.Operator operator silent) = operator_out operator
+decision_out k s (head.Health presentation figures silent) = health_out presentation figures k s.seq s.at
 decision_out k s (head.Resource resource is_current silent) = resource_out resource is_current
 
 -- what is answered to it by a keeper that is shut
@@ -249,6 +275,7 @@ abbrev pub decision_shut : HeadDecision → Out
 decision_shut (head.Refuse status allow silent) = error_out status allow
 decision_shut (head.Ask question body_format silent) = fault_out fault.Shut
 decision_shut (head.Operator operator silent) = operator_out operator
+decision_shut (head.Health presentation figures silent) = fault_out fault.Shut
 decision_shut (head.Resource resource is_current silent) = resource_out resource is_current
 
 -- whether the answer's body is left out: to a HEAD, and where the client has a resource as it is
@@ -256,6 +283,7 @@ abbrev pub is_silent_decision : HeadDecision → Bool
 is_silent_decision (head.Refuse status allow silent) = silent
 is_silent_decision (head.Ask question body_format silent) = silent
 is_silent_decision (head.Operator operator silent) = silent
+is_silent_decision (head.Health presentation figures silent) = silent
 is_silent_decision (head.Resource resource is_current silent) = is_current || silent
 
 -- what is answered to a task by a keeper of schema k that represents s
@@ -315,7 +343,7 @@ dated_by profile.Open now = None
 dated_by (profile.Page hosts) now = now
 
 abbrev pub dated : Terms → Option HttpDate
-dated terms = dated_by terms.profile terms.now
+dated terms = dated_by terms.profile terms.now.time
 
 -- ---- answers in the code
 

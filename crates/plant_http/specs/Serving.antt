@@ -3,7 +3,7 @@ use Rattle.std.specs.Prelude.{◌≡◌, ℕ, ◌≤◌, Bool, true, false, ◌|
 use Rattle.std.specs.Io.KnownBytes.{Appends, Keeps}
 use Rattle.httpdate.specs.declared.date.HttpDate.{HttpDate}
 use Rattle.plant_base.specs.{State}
-use Rattle.plant_desk.specs.{States}
+use Rattle.plant_keeper.specs.{States}
 use Rattle.plant_questions.specs.{Answer as DeskAnswer, DeskFault}
 use Rattle.plant_questions.specs.declared.question.Answer.TheVariants as A
 use Rattle.plant_questions.specs.declared.question.Question.TheVariants as Q
@@ -15,6 +15,7 @@ use Rattle.plant_http_requests.specs.declared.reading.InputFault.TheVariants as 
 use Rattle.plant_http_requests.specs.declared.task.HeadDecision.TheVariants as head
 use Rattle.plant_http_requests.specs.declared.task.RequestTask.TheVariants as J
 use Rattle.plant_http.specs.Answers.{Out, out_of, task_out, fault_out, task_shut, is_met, is_silent, code_of, dated, answer_bytes}
+use Rattle.plant_http.specs.declared.position.Position.{Position}
 use Rattle.plant_http.specs.declared.serve.Served.{Served}
 use Rattle.plant_http.specs.declared.serve.Served.TheVariants.{Answered, Nothing}
 use Rattle.plant_http.specs.declared.serve.ServeFault.{ServeFault}
@@ -25,6 +26,7 @@ abbrev pub entry_of_decision : HeadDecision → Entry
 entry_of_decision (head.Refuse status allow silent) = nothing
 entry_of_decision (head.Ask q body_format silent) = question q
 entry_of_decision (head.Operator operator silent) = nothing
+entry_of_decision (head.Health presentation figures silent) = question Q.Desk
 entry_of_decision (head.Resource resource is_current silent) = nothing
 
 -- what a task is to it
@@ -48,6 +50,7 @@ abbrev pub is_asked : HeadDecision → Bool
 is_asked (head.Refuse status allow silent) = false
 is_asked (head.Ask q body_format silent) = true
 is_asked (head.Operator operator silent) = false
+is_asked (head.Health presentation figures silent) = true
 is_asked (head.Resource resource is_current silent) = false
 
 -- whether a fault may be answered instead of the task: the keeper is asked, or memory is taken for what a body says
@@ -84,6 +87,18 @@ Performs k s t out represents shut crash_states =
 abbrev pub seq_in_answer : DeskAnswer → Result ℕ DeskFault
 seq_in_answer (A.Desk schema seq) = Ok seq
 seq_in_answer _ = Err fault.Store
+
+-- the schema, the number and the moment of the last accepted command that two answers say
+abbrev pub position_in : DeskAnswer → DeskAnswer → Result Position DeskFault
+position_in (A.Desk schema seq) (A.Moment at) = Ok (record { schema = schema; seq = seq; at = at })
+position_in _ _ = Err fault.Store
+
+-- a keeper of schema k that represented s was asked for them
+abbrev pub TellsPosition : ℕ → State → States → Result Position DeskFault → Type 0
+TellsPosition k s represents (Ok p) = (p ≡ record { schema = k; seq = s.seq; at = s.at }) × represents s
+TellsPosition k s represents (Err fault.Store) = represents s
+TellsPosition k s represents (Err fault.Memory) = represents s
+TellsPosition k s represents (Err fault.Shut) = ⊥
 
 -- a keeper that represented s was asked for the number
 abbrev pub TellsSeq : State → States → Result ℕ DeskFault → Type 0

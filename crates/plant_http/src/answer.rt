@@ -4,15 +4,17 @@ ghost use Rattle.plant_base.specs.{number_of};
 ghost use Rattle.plant_http.specs.Answers.{ahead_out, body_bytes, Is, error_out, fault_out, csv_out, operator_out, reference_out, seq_out};
 ghost use Rattle.plant_http.specs.Answers.{reply_out, answer_out, text_in, refused_status};
 ghost use Rattle.plant_http.specs.Answers.{reply_status, answer_status, body_format_for, resource_status, resource_out};
-ghost use Rattle.plant_http.specs.Answers.{check_out};
+ghost use Rattle.plant_http.specs.Answers.{check_out, health_out};
 
 use crate::fixed_text::{
-    FixedText, ahead_text, csv_text, operator_text, reference_text, seq_text, status_text,
+    FixedText, ahead_text, csv_text, health_text, operator_text, reference_text, seq_text,
+    status_text,
 };
 use crate::media::{MediaType, media_of};
+use crate::position::Position;
 use desk_page::{Resource, bytes_of};
 use plant_base::{Refusal, Text};
-use plant_http_requests::{Allow, BodyFormat, Status};
+use plant_http_requests::{Allow, BodyFormat, Figures, Presentation, Status};
 use plant_orders::CsvFault;
 use plant_questions::{Answer as DeskAnswer, DeskFault, Reply};
 use plant_text::{CheckAnswer, ReplyText, answer_text, check_text, fault_line, reply_line};
@@ -120,6 +122,28 @@ pub(crate) fn operator_answer(operator: &Text, silent: bool) -> Response
     json(
         Status::Success,
         Body::Short(operator_text(operator)),
+        silent,
+    )
+}
+
+/// How the server fares and is presented, and the schema, the number and the moment of the last accepted command. It takes no memory.
+pub(crate) fn health_answer(
+    presentation: &Presentation,
+    figures: &Figures,
+    position: Position,
+    silent: bool,
+) -> Response
+    ensures { Is (health_out presentation.now figures.now position.schema position.seq position.at) silent result }
+{
+    json(
+        Status::Success,
+        Body::Short(health_text(
+            presentation,
+            figures,
+            position.schema,
+            position.seq,
+            position.at,
+        )),
         silent,
     )
 }

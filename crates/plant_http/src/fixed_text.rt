@@ -2,7 +2,8 @@
 ghost use Rattle.std.specs.Prelude.{◌≡◌, ◌+◌, ◌*◌, ◌≤◌, ◌++◌, [], length, decimal};
 ghost use Rattle.plant_orders.specs.{kind_name};
 ghost use Rattle.plant_http.specs.Answers.{ahead_text, head_text, date_line, resource_lines, security_header_lines, validator_lines, status_text, csv_text, reference_text, seq_text};
-ghost use Rattle.plant_http.specs.Answers.{escaped, escaped_byte, operator_text};
+ghost use Rattle.plant_http.specs.Answers.{count_text, counts_text, escaped, escaped_byte, health_text, operator_text};
+ghost use Rattle.plant_http.specs.Answers.{text_or_null};
 
 use crate::media::{MediaType, policy, type_of};
 use crate::status::{allow_line, code_of, phrase_of};
@@ -10,15 +11,15 @@ use arrayvec::ArrayVec;
 use desk_page::{Resource, tag_of};
 use httpdate::HttpDate;
 use itoa::Buffer;
-use plant_base::Text;
-use plant_http_requests::{Allow, Status};
+use plant_base::{Moment, Text};
+use plant_http_requests::{Allow, Figures, Presentation, Status, StatusCount};
 use plant_orders::{CsvFault, CsvKind};
 use std::marker::Model;
 
-/// A text of at most 817 bytes, which takes no memory.
+/// A text of at most 1100 bytes, which takes no memory.
 #[derive(Debug, Drop)]
 pub(crate) struct FixedText {
-    room: ArrayVec<u8, 817>,
+    room: ArrayVec<u8, 1100>,
 }
 
 impl Model for FixedText {
@@ -39,7 +40,7 @@ impl FixedText {
     }
 
     fn push_bytes(&mut self, bytes: &[u8])
-        requires { length self.old + length bytes.now ≤ 817 }
+        requires { length self.old + length bytes.now ≤ 1100 }
         ensures text { self.new ≡ self.old ++ bytes.now }
         ensures grown { length self.new ≡ length self.old + length bytes.now }
     {
@@ -47,7 +48,7 @@ impl FixedText {
     }
 
     fn push(&mut self, text: &str)
-        requires { length self.old + length text.now ≤ 817 }
+        requires { length self.old + length text.now ≤ 1100 }
         ensures text { self.new ≡ self.old ++ text.now }
         ensures grown { length self.new ≡ length self.old + length text.now }
     {
@@ -55,7 +56,7 @@ impl FixedText {
     }
 
     fn push_number(&mut self, number: u64)
-        requires { length self.old + 20 ≤ 817 }
+        requires { length self.old + 20 ≤ 1100 }
         ensures text { self.new ≡ self.old ++ decimal number }
         ensures short { length self.new ≤ length self.old + 20 }
     {
@@ -65,7 +66,7 @@ impl FixedText {
 
     /// Adds the line of the machine's time (Date, RFC 9110, section 6.6.1), where the answer carries it.
     fn push_date(&mut self, date: Option<HttpDate>)
-        requires { length self.old + 37 ≤ 817 }
+        requires { length self.old + 37 ≤ 1100 }
         ensures text { self.new ≡ self.old ++ date_line date }
         ensures short { length self.new ≤ length self.old + 37 }
     {
@@ -79,7 +80,7 @@ impl FixedText {
     /// Adds the lines that keep a resource from misuse. Nothing else may be guessed from its bytes (X-Content-Type-Options); and no site may show the page within
     /// one of its own (X-Frame-Options, RFC 7034), which runs under its own policy (Content-Security-Policy).
     fn push_security_headers(&mut self, resource: Resource)
-        requires { length self.old + 483 ≤ 817 }
+        requires { length self.old + 483 ≤ 1100 }
         ensures text { self.new ≡ self.old ++ security_header_lines resource }
         ensures short { length self.new ≤ length self.old + 483 }
     {
@@ -100,7 +101,7 @@ impl FixedText {
     /// Adds the lines by which a browser keeps a resource and asks each time whether it still is as it was (ETag, RFC 9110, section 8.8.3; Cache-Control, RFC
     /// 9111, section 5.2.2.4).
     fn push_validators(&mut self, resource: Resource)
-        requires { length self.old + 73 ≤ 817 }
+        requires { length self.old + 73 ≤ 1100 }
         ensures text { self.new ≡ self.old ++ validator_lines resource }
         ensures short { length self.new ≤ length self.old + 73 }
     {
@@ -111,7 +112,7 @@ impl FixedText {
 
     /// Adds the lines of the fields that only a resource of the page has.
     fn push_resource_headers(&mut self, media_type: MediaType)
-        requires { length self.old + 556 ≤ 817 }
+        requires { length self.old + 556 ≤ 1100 }
         ensures text { self.new ≡ self.old ++ resource_lines media_type }
         ensures short { length self.new ≤ length self.old + 556 }
     {
@@ -126,7 +127,7 @@ impl FixedText {
 
     /// Adds a byte of a text as a string of JSON has it (RFC 8259, section 7).
     fn push_escaped_byte(&mut self, byte: u8)
-        requires { length self.old + 2 ≤ 817 }
+        requires { length self.old + 2 ≤ 1100 }
         ensures text { self.new ≡ self.old ++ escaped_byte byte }
         ensures short { length self.new ≤ length self.old + 2 }
     {
@@ -139,12 +140,52 @@ impl FixedText {
 
     /// Adds a text as a string of JSON has it, but for its quotation marks.
     fn push_escaped(&mut self, text: &[u8])
-        requires { length self.old + 2 * length text.now ≤ 817 }
+        requires { length self.old + 2 * length text.now ≤ 1100 }
         ensures text { self.new ≡ self.old ++ escaped text.now }
         ensures short { length self.new ≤ length self.old + 2 * length text.now }
     {
         for byte in text {
             self.push_escaped_byte(*byte);
+        }
+    }
+
+    /// Adds a text as a string of JSON, `null` where there is none.
+    fn push_text_or_null(&mut self, text: &Option<Text>)
+        requires { length self.old + 122 ≤ 1100 }
+        ensures text { self.new ≡ self.old ++ text_or_null text.now }
+        ensures short { length self.new ≤ length self.old + 122 }
+    {
+        match text {
+            Some(text) => {
+                self.push("\"");
+                self.push_escaped(bytes_of_text(text));
+                self.push("\"");
+            }
+            None => self.push("null"),
+        }
+    }
+
+    /// Adds how many answers had a status, as a member and a comma.
+    fn push_count(&mut self, counted: StatusCount)
+        requires { length self.old + 44 ≤ 1100 }
+        ensures text { self.new ≡ self.old ++ count_text counted }
+        ensures short { length self.new ≤ length self.old + 44 }
+    {
+        self.push("\"");
+        self.push_number(u64::from(counted.status));
+        self.push("\":");
+        self.push_number(counted.count);
+        self.push(",");
+    }
+
+    /// Adds how many answers had each status, as members with a comma behind each.
+    fn push_counts(&mut self, counts: &[StatusCount])
+        requires { length self.old + 44 * length counts.now ≤ 1100 }
+        ensures text { self.new ≡ self.old ++ counts_text counts.now }
+        ensures short { length self.new ≤ length self.old + 44 * length counts.now }
+    {
+        for counted in counts {
+            self.push_count(*counted);
         }
     }
 
@@ -202,6 +243,44 @@ pub(crate) fn operator_text(operator: &Text) -> FixedText
     text.push("{\"operator\":\"");
     text.push_escaped(bytes_of_text(operator));
     text.push("\"}");
+    text
+}
+
+/// `{"answers":{"200":N,..,"none":N},"at":AT,"digest":"N","digested":N,"instance":"N","language":TEXT,"name":TEXT,"schema":K,"seconds":S,"seq":SEQ}`
+#[tactic(auto, unfolding(crate::specs::Answers::health_text))]
+pub(crate) fn health_text(
+    presentation: &Presentation,
+    figures: &Figures,
+    schema: u64,
+    seq: u64,
+    at: Moment,
+) -> FixedText
+    ensures { result ≡ health_text presentation.now figures.now schema seq at }
+{
+    let mut text = FixedText::new();
+    text.push("{\"answers\":{");
+    text.push_counts(&figures.answers);
+    text.push("\"none\":");
+    text.push_number(figures.unanswered);
+    text.push("},\"at\":");
+    text.push_number(at.get());
+    text.push(",\"digest\":\"");
+    text.push_number(figures.digest);
+    text.push("\",\"digested\":");
+    text.push_number(figures.digested);
+    text.push(",\"instance\":\"");
+    text.push_number(figures.began);
+    text.push("\",\"language\":");
+    text.push_text_or_null(&presentation.language);
+    text.push(",\"name\":");
+    text.push_text_or_null(&presentation.name);
+    text.push(",\"schema\":");
+    text.push_number(schema);
+    text.push(",\"seconds\":");
+    text.push_number(figures.seconds);
+    text.push(",\"seq\":");
+    text.push_number(seq);
+    text.push("}");
     text
 }
 

@@ -5,6 +5,7 @@ mod answer;
 mod fixed_text;
 mod media;
 mod perform;
+mod position;
 mod send;
 mod serve;
 mod status;

@@ -1,21 +1,25 @@
 //! A task, done by a keeper.
 ghost use Rattle.std.specs.Prelude.{◌≡◌, true, false, Some, IsErrOf};
 ghost use Rattle.plant_base.specs.{State};
-ghost use Rattle.plant_desk.specs.{IsSameDesk};
+ghost use Rattle.plant_keeper.specs.{IsSameDesk};
 ghost use Rattle.plant_http.specs.Answers.{fault_out, is_silent, is_silent_decision, is_silent_task, rendered, task_shut};
 ghost use Rattle.plant_http.specs.Answers.{Executed, Asked, Checked};
 ghost use Rattle.plant_http.specs.Serving.{Performs, PerformsTask, DoneWhenShut, TaskDoneWhenShut, TellsSeq, seq_in_answer};
+ghost use Rattle.plant_http.specs.Serving.{TellsPosition, position_in};
 ghost use Rattle.plant_http_requests.specs.{under};
 ghost use Rattle.plant_http_requests.specs.declared.task.HeadDecision.TheVariants as head;
 ghost use Rattle.plant_http_requests.specs.declared.task.RequestTask.TheVariants as J;
 
 use crate::answer::{
     Response, ahead_answer, asked_answer, check_answer, csv_answer, error_answer, fault_answer,
-    operator_answer, reference_answer, reply_answer, resource_answer, seq_answer,
+    health_answer, operator_answer, reference_answer, reply_answer, resource_answer, seq_answer,
 };
+use crate::position::Position;
 use plant_base::{Envelope, Refusal};
-use plant_desk::Keeper;
-use plant_http_requests::{Allow, BodyFormat, ConditionalTask, HeadDecision, RequestTask, Status};
+use plant_http_requests::{
+    Allow, BodyFormat, ConditionalTask, Figures, HeadDecision, Presentation, RequestTask, Status,
+};
+use plant_keeper::Keeper;
 use plant_questions::{Answer as DeskAnswer, DeskFault, Question, Reply};
 use plant_text::{CheckAnswer, ToCheck, answer_check};
 use std::alloc::Global;
@@ -103,6 +107,55 @@ fn check<K: Keeper>(alloc: Global, keeper: &mut K, to_check: &ToCheck) -> Respon
     checked_answer(alloc, &checked)
 }
 
+/// How far a keeper has come, by its answers to two questions. Other answers come of a keeper that isn't honest, and count as a fault of its store.
+fn position_in(desk: &DeskAnswer, moment: &DeskAnswer) -> Result<Position, DeskFault>
+    ensures { result ≡ position_in desk.now moment.now }
+{
+    match (desk, moment) {
+        (DeskAnswer::Desk { schema, seq }, DeskAnswer::Moment { at }) => Ok(Position {
+            schema: *schema,
+            seq: *seq,
+            at: *at,
+        }),
+        _ => Err(DeskFault::Store),
+    }
+}
+
+/// Asks a keeper how far it has come.
+fn ask_position<K: Keeper>(keeper: &mut K) -> Result<Position, DeskFault>
+    ensures same { IsSameDesk K.honest K.schema K.foreign_tables keeper.old keeper.new }
+    ensures tells { K.honest keeper.new → K.shut keeper.old ≡ false → (s : State) → K.represents keeper.old s
+        → TellsPosition (K.schema keeper.old) s (K.represents keeper.new) result }
+    ensures open { K.shut keeper.new ≡ K.shut keeper.old }
+    ensures unchanged { K.shut keeper.old ≡ true → keeper.new ≡ keeper.old }
+    ensures shut { K.shut keeper.old ≡ true → IsErrOf result DeskFault.Shut }
+{
+    let desk = keeper.ask(&Question::Desk)?;
+    let moment = keeper.ask(&Question::Moment)?;
+    position_in(&desk, &moment)
+}
+
+/// Says how the server fares and is presented, and how far the keeper has come.
+fn report_health<K: Keeper>(
+    keeper: &mut K,
+    presentation: &Presentation,
+    figures: &Figures,
+    silent: bool,
+) -> Response
+    ensures same { IsSameDesk K.honest K.schema K.foreign_tables keeper.old keeper.new }
+    ensures performs { K.honest keeper.new → K.shut keeper.old ≡ false → (s : State) → K.represents keeper.old s
+        → PerformsTask (K.schema keeper.old) s (J.Decided (head.Health presentation.now figures.now silent)) (rendered result)
+        (K.represents keeper.new) (K.shut keeper.new) (K.crash_states keeper.new) }
+    ensures unchanged { K.shut keeper.old ≡ true → keeper.new ≡ keeper.old }
+    ensures shut { K.shut keeper.old ≡ true → rendered result ≡ fault_out DeskFault.Shut }
+    ensures silence { result.silent ≡ silent }
+{
+    match ask_position(keeper) {
+        Ok(position) => health_answer(presentation, figures, position, silent),
+        Err(fault) => fault_answer(fault, silent),
+    }
+}
+
 /// Does what a head decides, and gives its answer.
 fn perform_decision<K: Keeper>(alloc: Global, keeper: &mut K, decision: &HeadDecision) -> Response
     ensures same { IsSameDesk K.honest K.schema K.foreign_tables keeper.old keeper.new }
@@ -125,6 +178,11 @@ fn perform_decision<K: Keeper>(alloc: Global, keeper: &mut K, decision: &HeadDec
             silent,
         } => error_answer(*status, *allow, *silent),
         HeadDecision::Operator { operator, silent } => operator_answer(operator, *silent),
+        HeadDecision::Health {
+            presentation,
+            figures,
+            silent,
+        } => report_health(keeper, presentation, figures, *silent),
         HeadDecision::Resource {
             resource,
             is_current,
@@ -163,7 +221,8 @@ fn is_silent_decision(decision: &HeadDecision) -> bool
     match decision {
         HeadDecision::Refuse { silent, .. }
         | HeadDecision::Ask { silent, .. }
-        | HeadDecision::Operator { silent, .. } => *silent,
+        | HeadDecision::Operator { silent, .. }
+        | HeadDecision::Health { silent, .. } => *silent,
         HeadDecision::Resource {
             is_current,
             silent,

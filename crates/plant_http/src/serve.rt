@@ -1,7 +1,7 @@
 //! One request, served.
 ghost use Rattle.std.specs.Prelude.{◌≡◌, ℕ, true, false, List};
 ghost use Rattle.plant_base.specs.{State};
-ghost use Rattle.plant_desk.specs.{IsSameDesk};
+ghost use Rattle.plant_keeper.specs.{IsSameDesk};
 ghost use Rattle.plant_http_requests.specs.{Agrees};
 ghost use Rattle.plant_http.specs.Serving.{Serves, ServesShut, IfUnasked, Answers, AnswersTaskShut};
 ghost use Rattle.plant_http.specs.Answers.{dated};
@@ -11,8 +11,8 @@ use crate::perform::perform;
 use crate::send::send;
 use crate::status::code_of;
 use httpdate::HttpDate;
-use plant_desk::Keeper;
 use plant_http_requests::{ConditionalTask, InputFault, Profile, Routes, Terms, read_task};
+use plant_keeper::Keeper;
 use std::alloc::Global;
 use std::io::{Read, Write};
 use thiserror::Error;
@@ -60,7 +60,7 @@ fn dated(terms: Terms<'_>) -> Option<HttpDate>
 {
     match terms.profile {
         Profile::Open => None,
-        Profile::Page { .. } => terms.now,
+        Profile::Page { .. } => terms.now.time,
     }
 }
 

@@ -9,7 +9,7 @@ use Rattle.plant_base.specs.{Envelope}
 use Rattle.plant_http_requests.specs.Fields.{Fields, condition_in}
 use Rattle.plant_http_requests.specs.Framing.{framing}
 use Rattle.plant_http_requests.specs.Senders.{operator_named}
-use Rattle.plant_http_requests.specs.Steps.{asks_operator, body_fields_in, fields_where, kind_in, framed_step, found_step, is_head, named_step, operator_step, placed_step, post_step, request_step, resource_for}
+use Rattle.plant_http_requests.specs.Steps.{asks_health, asks_operator, body_fields_in, fields_where, kind_in, framed_step, found_step, health_step, is_head, listed_step, named_step, operator_step, placed_step, post_step, presentation_of, request_step, resource_for}
 use Rattle.plant_http_requests.specs.{body_task, body_says, end_of_head, fails, field_lines, field_of, finish, is_of_other, parsed_step, refused_task, target_of, under, ConditionalTask, EndTask, HeadDecision, Parsed, Post, RequestTask, Sender, sender_in, sender_of, Status, StepOf, Target, TaskOf, Terms}
 use Rattle.plant_http_requests.specs.declared.reading.HeadEnd.{HeadEnd}
 use Rattle.plant_http_requests.specs.declared.reading.HeadEnd.TheVariants as end
@@ -117,16 +117,21 @@ by_target terms (Some (target.Question question body_format)) method size fs n f
 by_target terms (Some (target.Post post)) method size fs n fields sender h =
     let (sent, made) = by_post (bytes_eq method (codes "POST")) size _ fields (body_fields_in post fs) (sender_in (field_of terms) fs) sender n h in (sent, post, made)
 
+by_list : (terms : Terms) (asks : Bool) (path method : List ℕ) (size : Option ℕ) (fs : Fields) (n : ℕ) (fields : BodyFields) (sender : Sender)
+    → S.Body n fields sender ≡ (if asks then health_step (presentation_of terms) terms.now.figures method else found_step terms (target_of path) method size fs) → AskedBy terms fs fields sender
+by_list terms true path method size fs n fields sender h = absurd (decided_alone (bytes_eq method (codes "GET") || is_head method) _ _ n fields sender h)
+by_list terms false path method size fs n fields sender h = by_target terms (target_of path) method size fs n fields sender h
+
 by_place : (terms : Terms) (o : Option Resource) (path method : List ℕ) (size : Option ℕ) (fs : Fields) (n : ℕ) (fields : BodyFields) (sender : Sender)
     → S.Body n fields sender ≡ placed_step terms o path method size fs → AskedBy terms fs fields sender
 by_place terms (Some resource) path method size fs n fields sender h =
     absurd (decided_alone (bytes_eq method (codes "GET") || is_head method) _ _ n fields sender h)
 by_place terms None path method size fs n fields sender h = by (asks_operator (field_of terms) path) h
   where
-    by : (asks : Bool) → S.Body n fields sender ≡ (if asks then operator_step (sender_in (field_of terms) fs) method else found_step terms (target_of path) method size fs)
+    by : (asks : Bool) → S.Body n fields sender ≡ (if asks then operator_step (sender_in (field_of terms) fs) method else listed_step terms path method size fs)
         → AskedBy terms fs fields sender
     by true h = absurd (named_alone (bytes_eq method (codes "GET") || is_head method) (sender_in (field_of terms) fs) (is_head method) _ n fields sender h)
-    by false h = by_target terms (target_of path) method size fs n fields sender h
+    by false h = by_list terms (asks_health path) path method size fs n fields sender h
 
 by_framing : (terms : Terms) (r : Result (Option ℕ) Status) (path method : List ℕ) (fs : Fields) (n : ℕ) (fields : BodyFields) (sender : Sender)
     → S.Body n fields sender ≡ framed_step terms r method path fs → AskedBy terms fs fields sender

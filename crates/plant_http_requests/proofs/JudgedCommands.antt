@@ -94,8 +94,8 @@ in_time_reads : (terms : Terms) (task said : RequestTask) → Reads task said �
 in_time_reads terms task said h = by (read_as task said h)
   where
     by : ((task ≡ J.MemoryError) × (is_of_body said ≡ true)) ⊎ ((task ≡ said) × Reads said said) → Reads (in_time terms task) (in_time terms said)
-    by (inl (is, body)) = rw is (ahead_of_body (overrun (moment_of said) terms.now terms.most_ahead) said body)
-    by (inr (is, same)) = rw is (ahead_itself (overrun (moment_of said) terms.now terms.most_ahead) said same)
+    by (inl (is, body)) = rw is (ahead_of_body (overrun (moment_of said) terms.now.time terms.most_ahead) said body)
+    by (inr (is, same)) = rw is (ahead_itself (overrun (moment_of said) terms.now.time terms.most_ahead) said same)
 
 pub judged_reads : (terms : Terms) (sender : Sender) (task said : RequestTask) → Reads task said
     → Reads (in_time terms (with_reference terms.needs_references (of_sender sender task))) (in_time terms (with_reference terms.needs_references (of_sender sender said)))
@@ -117,12 +117,12 @@ pub record Executes (terms : Terms) (sender : Sender) (said : RequestTask) (e : 
   pub is : said ≡ J.Command e
   pub may : is_of_other sender (Some e.by) ≡ false
   pub has : lacks_needed terms.needs_references (J.Command e) ≡ false
-  pub timely : overrun (Some e.at) terms.now terms.most_ahead ≡ None
+  pub timely : overrun (Some e.at) terms.now.time terms.most_ahead ≡ None
 
 pub executed : (terms : Terms) (sender : Sender) (said : RequestTask) (e : Envelope)
     → in_time terms (with_reference terms.needs_references (of_sender sender said)) ≡ J.Command e → Executes terms sender said e
 executed terms sender said e h =
-    let (referenced, timely) = not_ahead (overrun (moment_of (with_reference terms.needs_references (of_sender sender said))) terms.now terms.most_ahead) (with_reference terms.needs_references (of_sender sender said)) (J.Command e) (λ most other. cc) h in
+    let (referenced, timely) = not_ahead (overrun (moment_of (with_reference terms.needs_references (of_sender sender said))) terms.now.time terms.most_ahead) (with_reference terms.needs_references (of_sender sender said)) (J.Command e) (λ most other. cc) h in
     let (sent, has) = passed (lacks_needed terms.needs_references (of_sender sender said)) J.NoReference (of_sender sender said) (J.Command e) (λ other. cc) referenced in
     let (is, may) = passed (is_of_other sender (operator_of said)) J.OtherOperator said (J.Command e) (λ other. cc) sent in
     record {
@@ -171,9 +171,9 @@ check_needs_none false c h = refl
 -- what is checked, of which operator and when
 checked : (terms : Terms) (sender : Sender) (said : RequestTask) (e : Envelope)
     → in_time terms (with_reference terms.needs_references (of_sender sender said)) ≡ J.Check (to_check.Command e)
-    → (said ≡ J.Check (to_check.Command e)) × (is_of_other sender (Some e.by) ≡ false) × (overrun (Some e.at) terms.now terms.most_ahead ≡ None)
+    → (said ≡ J.Check (to_check.Command e)) × (is_of_other sender (Some e.by) ≡ false) × (overrun (Some e.at) terms.now.time terms.most_ahead ≡ None)
 checked terms sender said e h =
-    let (referenced, timely) = not_ahead (overrun (moment_of (with_reference terms.needs_references (of_sender sender said))) terms.now terms.most_ahead) (with_reference terms.needs_references (of_sender sender said)) (J.Check (to_check.Command e)) (λ most other. cc) h in
+    let (referenced, timely) = not_ahead (overrun (moment_of (with_reference terms.needs_references (of_sender sender said))) terms.now.time terms.most_ahead) (with_reference terms.needs_references (of_sender sender said)) (J.Check (to_check.Command e)) (λ most other. cc) h in
     let (sent, has) = passed (lacks_needed terms.needs_references (of_sender sender said)) J.NoReference (of_sender sender said) (J.Check (to_check.Command e)) (λ other. cc) referenced in
     let (is, may) = passed (is_of_other sender (operator_of said)) J.OtherOperator said (J.Check (to_check.Command e)) (λ other. cc) sent in
     (is, rw is at may, rw referenced at timely)

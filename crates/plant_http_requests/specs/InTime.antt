@@ -26,4 +26,4 @@ ahead_or (Some most) task = Ahead most
 
 -- the task, where its command isn't too far ahead of the machine's clock
 abbrev pub in_time : Terms → RequestTask → RequestTask
-in_time terms task = ahead_or (overrun (moment_of task) terms.now terms.most_ahead) task
+in_time terms task = ahead_or (overrun (moment_of task) terms.now.time terms.most_ahead) task

@@ -8,6 +8,7 @@ pub mod Validators
 pub mod Framing
 pub mod Heads
 pub mod Senders
+pub mod AnswerCounts
 pub mod Steps
 pub mod References
 pub mod InTime
@@ -36,6 +37,10 @@ pub use declared.task.ConditionalTask.{ConditionalTask}
 pub use declared.task.HeadDecision.{HeadDecision}
 pub use declared.task.RequestTask.{RequestTask}
 pub use declared.task.Sender.{Sender}
+pub use declared.figures.Figures.{Figures}
+pub use declared.figures.Now.{Now}
+pub use declared.figures.StatusCount.{StatusCount}
+pub use declared.profile.Presentation.{Presentation}
 pub use declared.profile.Profile.{Profile}
 pub use declared.profile.Terms.{Terms}
 pub use declared.reading.InputFault.{InputFault}

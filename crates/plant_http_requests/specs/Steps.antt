@@ -21,6 +21,8 @@ use Rattle.plant_http_requests.specs.declared.task.BodyFields.{BodyFields}
 use Rattle.plant_http_requests.specs.declared.task.ConditionalTask.{ConditionalTask}
 use Rattle.plant_http_requests.specs.declared.task.HeadStep.{HeadStep}
 use Rattle.plant_http_requests.specs.declared.task.HeadStep.TheVariants as S
+use Rattle.plant_http_requests.specs.declared.figures.Figures.{Figures}
+use Rattle.plant_http_requests.specs.declared.profile.Presentation.{Presentation}
 use Rattle.plant_http_requests.specs.declared.profile.Profile.{Profile}
 use Rattle.plant_http_requests.specs.declared.profile.Profile.TheVariants as profile
 use Rattle.plant_http_requests.specs.declared.profile.Terms.{Terms}
@@ -119,11 +121,29 @@ abbrev pub operator_step : Sender → List ℕ → HeadStep
 operator_step sender method =
     if bytes_eq method (codes "GET") || is_head method then named_step sender (is_head method) else lacks_method allow.Get false
 
+-- the path at which a client asks how the server fares
+abbrev pub asks_health : List ℕ → Bool
+asks_health path = bytes_eq path (codes "/v1/health")
+
+-- how the server fares; a HEAD is answered as a GET, the body left out
+abbrev pub health_step : Presentation → Figures → List ℕ → HeadStep
+health_step presentation figures method =
+    if bytes_eq method (codes "GET") || is_head method then S.Decided (head.Health presentation figures (is_head method)) else lacks_method allow.Get false
+
+-- how the page presents the desk, by these terms
+abbrev pub presentation_of : Terms → Presentation
+presentation_of terms = record { name = terms.name.now; language = terms.language.now }
+
+-- what a path decides at which nobody asks for an operator: how the server fares, or what it is looked up as
+abbrev pub listed_step : Terms → List ℕ → List ℕ → Option ℕ → Fields → HeadStep
+listed_step terms path method length fs =
+    if asks_health path then health_step (presentation_of terms) terms.now.figures method else found_step terms (target_of path) method length fs
+
 -- what a path decides that is none of a resource
 abbrev pub unpaged_step : Terms → List ℕ → List ℕ → Option ℕ → Fields → HeadStep
 unpaged_step terms path method length fs =
     if asks_operator (field_of terms) path then operator_step (sender_in (field_of terms) fs) method
-    else found_step terms (target_of path) method length fs
+    else listed_step terms path method length fs
 
 -- what a path decides that is that of a resource, or else is looked up among the others
 abbrev pub placed_step : Terms → Option Resource → List ℕ → List ℕ → Option ℕ → Fields → HeadStep

@@ -22,10 +22,10 @@ fn moment_of(task: &RequestTask) -> Option<Moment>
 /// By how many seconds a moment may be later than the machine's time, where it is later by more. `None` where it isn't, where it may
 /// be any, and where the clock gave no time.
 fn overrun(at: Option<Moment>, terms: Terms<'_>) -> Option<u32>
-    ensures { result ≡ overrun at terms.entry.now terms.entry.most_ahead }
+    ensures { result ≡ overrun at terms.entry.now.time terms.entry.most_ahead }
 {
     let at = at?;
-    let now = terms.now?;
+    let now = terms.now.time?;
     let most = terms.most_ahead?;
     if at.get() > now.unix_secs() + u64::from(most) {
         Some(most)

@@ -4,6 +4,7 @@
 
 mod bodies;
 mod fields;
+mod figures;
 mod framing;
 mod head;
 mod head_end;
@@ -25,9 +26,10 @@ mod steps;
 mod task;
 mod validators;
 
+pub use figures::{Figures, Now, StatusCount};
 pub use head_end::head_length;
 pub use law::{check_law, condition_law, reference_law, sender_law, task_law};
-pub use profile::{Profile, Terms};
+pub use profile::{Presentation, Profile, Terms};
 pub use progress::{RequestProgress, request_progress};
 pub use read::{MOST_READS, read_task};
 pub use reading::{HeadEnd, InputFault, LONGEST_HEAD, read_head, read_to};

@@ -5,10 +5,12 @@ ghost use Rattle.plant_http_requests.specs.Steps.{refused, refusal_of, fails, la
 ghost use Rattle.plant_http_requests.specs.Steps.{posted_step, asked_step, body_fields_in, kind_in, refused_task, under};
 ghost use Rattle.plant_http_requests.specs.Steps.{target_step, resource_for, resource_step};
 ghost use Rattle.plant_http_requests.specs.Steps.{routed_step, request_step, asks_operator, operator_step, unpaged_step};
+ghost use Rattle.plant_http_requests.specs.Steps.{asks_health, health_step, listed_step};
 
 use crate::fields::{condition_in, import_metadata_in, reference_in};
+use crate::figures::Figures;
 use crate::framing::framing;
-use crate::profile::{Profile, Terms};
+use crate::profile::{Presentation, Profile, Terms};
 use crate::routes::{BodyFormat, Post, Routes, Target};
 use crate::senders::sender_in;
 use crate::status::{Allow, Status};
@@ -226,6 +228,52 @@ fn operator_step(sender: Sender, method: &[u8]) -> HeadStep
     lacks_method(Allow::Get, false)
 }
 
+/// Whether a client asks at this path how the server fares.
+fn asks_health(path: &[u8]) -> bool
+    ensures { result ≡ asks_health path.now }
+{
+    path == b"/v1/health".as_slice()
+}
+
+/// How the server fares, by GET or by HEAD.
+fn health_step(presentation: Presentation, figures: Figures, method: &[u8]) -> HeadStep
+    ensures { result ≡ health_step presentation figures method.now }
+{
+    let silent = is_head(method);
+    if is_method(method, &Method::GET) || silent {
+        return HeadStep::Decided(HeadDecision::Health {
+            presentation,
+            figures,
+            silent,
+        });
+    }
+    lacks_method(Allow::Get, false)
+}
+
+/// What a path and a method decide where nobody asks for an operator: how the server fares, or what the path is looked up as.
+fn listed_step(
+    terms: Terms<'_>,
+    head: &[u8],
+    fields: &[HeaderSpan],
+    routes: &Routes,
+    method: &[u8],
+    path: &[u8],
+    size: Option<u32>,
+) -> HeadStep
+    requires { All (IsHeaderWithin (length head.now)) fields.now }
+    ensures { result ≡ listed_step terms.entry path.now method.now size (map (header_bytes head.now) fields.now) }
+{
+    if asks_health(path) {
+        let (name, language) = (*terms.name, *terms.language);
+        let presentation = Presentation { name, language };
+        return health_step(presentation, terms.now.figures, method);
+    }
+    match routes.find(path) {
+        Some(target) => target_step(terms, head, fields, target, method, size),
+        None => fails(Status::NotFound, is_head(method)),
+    }
+}
+
 /// What a path decides that is none of a resource of the page, and a method.
 fn unpaged_step(
     terms: Terms<'_>,
@@ -242,10 +290,7 @@ fn unpaged_step(
     if asks_operator(terms.operator_field, path) {
         return operator_step(sender_in(head, fields, terms.operator_field), method);
     }
-    match routes.find(path) {
-        Some(target) => target_step(terms, head, fields, target, method, size),
-        None => fails(Status::NotFound, is_head(method)),
-    }
+    listed_step(terms, head, fields, routes, method, path, size)
 }
 
 /// What a path and a method decide.

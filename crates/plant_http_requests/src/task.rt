@@ -1,3 +1,5 @@
+use crate::figures::Figures;
+use crate::profile::Presentation;
 use crate::routes::BodyFormat;
 use crate::status::{Allow, Status};
 use desk_page::Resource;
@@ -31,6 +33,15 @@ pub enum HeadDecision {
     Operator {
         /// The operator, whose text isn't empty.
         operator: Text,
+        /// Whether the answer's body is left out, since the request is a HEAD.
+        silent: bool,
+    },
+    /// How the server fares, and what the desk has accepted last.
+    Health {
+        /// How the page presents the desk.
+        presentation: Presentation,
+        /// What the server had done before the request.
+        figures: Figures,
         /// Whether the answer's body is left out, since the request is a HEAD.
         silent: bool,
     },

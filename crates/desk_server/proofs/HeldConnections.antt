@@ -1,10 +1,9 @@
 -- Connections that are held stay so, whatever passes over one of them.
-use Rattle.std.proofs.Common.{◌≡◌, ◌≢◌, ◌+◌, ℕ, zero, suc, true, List, [], ◌∷◌, ◌++◌, length, take, drop, Option, Some, refl, subst, sym, inl, inr, arith}
+use Rattle.std.proofs.Common.{◌≡◌, ◌≢◌, ◌+◌, ℕ, zero, suc, true, List, [], ◌∷◌, ◌++◌, length, take, drop, Some, refl, subst, sym, inl, inr, arith}
 use Rattle.std.specs.List.{AllByRecursion, remove, slice_get}
 use Rattle.std.proofs.lemmas.List.{append_assoc, append-nil, take-append-drop}
 use Rattle.std.proofs.Math.Seq.{take-add}
-use Rattle.httpdate.specs.declared.date.HttpDate.{HttpDate}
-use Rattle.plant_http_requests.specs.{Terms}
+use Rattle.plant_http_requests.specs.{Now, Terms}
 use Rattle.desk_server.specs.Traffic.{Traffic, changed_at, no_traffic, with_end, with_received, with_sent}
 use Rattle.desk_server.specs.Exchanges.{AreApart, AreExchangedOn, AreHeld, Exchange, HasComeOn, IsAt, IsBeginning, IsExchangedOn, IsHeld, IsUnserved, Lacks, MayBeServed, text_of}
 use Rattle.desk_server.specs.declared.connection.Connection.{Connection}
@@ -72,7 +71,7 @@ pub record Grows (f : Traffic → Traffic) : Type 0 where
 begins_on : (front middle whole : List ℕ) → IsBeginning front middle → IsBeginning middle whole → IsBeginning front whole
 begins_on front middle whole (a, is) (b, so) = (a ++ b, cc (append_assoc front a b))
 
-come_on : (terms : Terms) (now : Option HttpDate) (input : List ℕ) (c d : Traffic) → (c.has_ended ≡ true → d.has_ended ≡ true) → HasComeOn terms now input c → HasComeOn terms now input d
+come_on : (terms : Terms) (now : Now) (input : List ℕ) (c d : Traffic) → (c.has_ended ≡ true → d.has_ended ≡ true) → HasComeOn terms now input c → HasComeOn terms now input d
 come_on terms now input c d ended (inl whole) = inl whole
 come_on terms now input c d ended (inr h) = inr (ended h)
 

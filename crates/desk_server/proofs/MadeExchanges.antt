@@ -4,15 +4,14 @@ use Rattle.std.proofs.Common.{◌≡◌, ◌+◌, ◌-◌, ◌≤◌, ℕ, Bool,
 use Rattle.sqlite.specs.Held.{state}
 use Rattle.sqlite.specs.State.{HasCleanDisk}
 use Rattle.sqlite_trees.specs.declared.store.Store.{Ghosts}
-use Rattle.httpdate.specs.declared.date.HttpDate.{HttpDate}
 use Rattle.plant_base.specs.{Agrees, State, newest_schema}
-use Rattle.plant_desk.specs.{States}
+use Rattle.plant_keeper.specs.{States}
 use Rattle.plant_desk_store.specs.{Represents, HasCrashStates, Desk}
 use Rattle.plant_questions.specs.{DeskFault}
 use Rattle.plant_questions.specs.declared.reply.DeskFault.TheVariants.{Store, Memory, Shut}
 use Rattle.plant_text.specs.{RepresentsDurably, Entry, nothing, bad, command, question, check, after, CrashStatesOfFault, CrashStatesOfStoreFault}
 use Rattle.plant_text.proofs.RunCrashStates.{CrashStateIsOwn}
-use Rattle.plant_http_requests.specs.{Terms}
+use Rattle.plant_http_requests.specs.{Now, Terms}
 use Rattle.plant_http.specs.{entry_of, fault_out, FailsAt, Performs, Serves, ServeFault, Served}
 use Rattle.plant_http.proofs.ConditionPerforms.{command_at, fails_may}
 use Rattle.plant_http.specs.declared.serve.Served.TheVariants.{Answered, Nothing}
@@ -82,13 +81,13 @@ text_back p written (Ok (Answered status)) is text = λ q back. cc
 text_back p written (Ok Nothing) is text = absurd (cc)
 text_back p written (Err f) is text = absurd (cc)
 
-untouched : (terms : Terms) (now : Option HttpDate) (n : ℕ) (request : List ℕ) (k : ℕ) (s t : State) (journal : List (Exchange terms)) (represents : States) (shut : Bool) (crash_states : States → Type 0)
+untouched : (terms : Terms) (now : Now) (n : ℕ) (request : List ℕ) (k : ℕ) (s t : State) (journal : List (Exchange terms)) (represents : States) (shut : Bool) (crash_states : States → Type 0)
     (reply : Option Reply) → reply ≡ None → shut ≡ false → IsJournal k s journal t → RepresentsDurably represents crash_states t
     → MakesOne terms now n request k s journal represents shut crash_states reply
 untouched terms now n request k s t journal represents shut crash_states reply none is_live leads alone =
     inl (none, open_made terms k s t journal represents shut crash_states is_live leads alone)
 
-pub one_made : (terms : Terms) (now : Option HttpDate) (n : ℕ) (request whole : List ℕ) (k : ℕ) (s t : State) (journal : List (Exchange terms)) (before : List ℕ) (written : Option (List ℕ))
+pub one_made : (terms : Terms) (now : Now) (n : ℕ) (request whole : List ℕ) (k : ℕ) (s t : State) (journal : List (Exchange terms)) (before : List ℕ) (written : Option (List ℕ))
     (represents : States) (shut : Bool) (crash_states : States → Type 0) (r : Result Served ServeFault) (reply : Option Reply)
     → CrashStateIsOwn represents shut crash_states → Agrees (Some request) whole → before ≡ [] → ComesBack reply written r → IsJournal k s journal t → Lacks n journal
     → Serves (record terms { now = now }) k t whole (Some before) written represents shut crash_states r
@@ -164,3 +163,10 @@ served_over g terms most a b kept x y is_live was goes = λ clean empty s repres
     (represents, represents.1 is_live) in
     let (now, is, journal, held, did, few) = goes clean [] [] s empty nothing made in
     (now, is, journal, omega (arith, few), did, held.exchanged)
+
+-- where none was taken
+pub unserved_over : {S : Type 0} (g : Ghosts S) (terms : Terms) (most : ℕ) (a : Option (List Traffic)) (x : Desk S g) → x.is_shut ≡ false → ServesOver g terms most a a x x
+unserved_over g terms most a x is_live = λ clean empty s represents.
+    let made : HasDeskMade g terms s [] x = open_made terms newest_schema s s [] (Represents (state g x.connection) x.is_shut) x.is_shut (λ states. HasCrashStates (state g x.connection) states) is_live refl
+    (represents, represents.1 is_live) in
+    ([], empty, [], omega arith, made, record { each = tt; silent = λ n c at none. absurd (cc) })

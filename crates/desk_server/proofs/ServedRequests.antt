@@ -3,15 +3,14 @@ use Rattle.std.proofs.Common.{◌≡◌, ℕ, zero, suc, ◌+◌, ◌-◌, ◌�
 use Rattle.sqlite.specs.Held.{state}
 use Rattle.sqlite_trees.specs.declared.store.Store.{Ghosts}
 use Rattle.plant_desk_store.specs.{Represents, HasCrashStates, Desk}
-use Rattle.httpdate.specs.declared.date.HttpDate.{HttpDate}
 use Rattle.plant_base.specs.{Agrees, State}
-use Rattle.plant_desk.specs.{States}
-use Rattle.plant_desk.proofs.SameDesk.{same_after}
+use Rattle.plant_keeper.specs.{States}
+use Rattle.plant_keeper.proofs.SameDesk.{same_after}
 use Rattle.plant_questions.specs.{DeskFault}
 use Rattle.plant_questions.specs.declared.reply.DeskFault.TheVariants.{Store, Memory, Shut}
 use Rattle.plant_text.specs.{RepresentsDurably, Entry, nothing, bad, command, question, check, after, CrashStatesOfFault, CrashStatesOfStoreFault}
 use Rattle.plant_text.proofs.RunCrashStates.{CrashStateIsOwn}
-use Rattle.plant_http_requests.specs.{Terms}
+use Rattle.plant_http_requests.specs.{Now, Terms}
 use Rattle.plant_http.specs.{Out, entry_of, FailsAt, Performs, Serves, ServeFault, Served}
 use Rattle.plant_http.proofs.ConditionPerforms.{command_at}
 use Rattle.plant_http.specs.declared.serve.Served.TheVariants.{Answered, Nothing}
@@ -47,7 +46,7 @@ task_served : (terms : Terms) (k : ℕ) (s : State) (a : Asked terms) (out : Out
 task_served terms k s a out represents shut crash_states law (inl (is, alone, is_live)) = open_served terms 1 s represents shut crash_states (a ∷ []) is_live (omega arith) alone
 task_served terms k s a out represents shut crash_states law (inr (f, e, at, is, left, at_fault)) = fault_served terms f s a e at represents shut crash_states law left
 
-pub one_served : (terms : Terms) (now : Option HttpDate) (k : ℕ) (s : State) (whole : List ℕ) (old new : Option (List ℕ)) (represents : States) (shut : Bool) (crash_states : States → Type 0) (r : Result Served ServeFault)
+pub one_served : (terms : Terms) (now : Now) (k : ℕ) (s : State) (whole : List ℕ) (old new : Option (List ℕ)) (represents : States) (shut : Bool) (crash_states : States → Type 0) (r : Result Served ServeFault)
     → CrashStateIsOwn represents shut crash_states → Serves (record terms { now = now }) k s whole old new represents shut crash_states r → HasServed terms 1 s represents shut crash_states
 one_served terms now k s whole old new represents shut crash_states (Ok Nothing) law (none, h) = open_served terms 1 s represents shut crash_states [] h.is_live (omega arith) h.state
 one_served terms now k s whole old new represents shut crash_states (Ok (Answered code)) law (task, asks, out, did, wrote) =

@@ -5,13 +5,12 @@ use Rattle.sqlite.specs.Held.{state}
 use Rattle.sqlite.specs.State.{HasCleanDisk}
 use Rattle.sqlite_trees.specs.declared.store.Store.{Ghosts}
 use Rattle.plant_base.specs.{State, newest_schema}
-use Rattle.plant_desk.specs.{States}
+use Rattle.plant_keeper.specs.{States}
 use Rattle.plant_desk_store.specs.{Represents, HasCrashStates, Desk}
 use Rattle.plant_questions.specs.{DeskFault}
 use Rattle.plant_questions.specs.declared.reply.DeskFault.TheVariants as fault
 use Rattle.plant_text.specs.{RepresentsDurably, RepresentsEither, after}
-use Rattle.httpdate.specs.declared.date.HttpDate.{HttpDate}
-use Rattle.plant_http_requests.specs.{HasCome, Terms}
+use Rattle.plant_http_requests.specs.{HasCome, Now, Terms}
 use Rattle.plant_http_requests.specs.declared.progress.RequestProgress.TheVariants as progress
 use Rattle.plant_http.specs.{Out, dated, entry_of, fault_out, is_silent}
 use Rattle.plant_http.specs.Answers.{answer_bytes, out_of}
@@ -28,7 +27,7 @@ use Rattle.desk_server.specs.declared.reply.Reply.{Reply}
 
 -- ---- exchanges
 
--- A request that came in on the connection of this number, judged by these terms at the time before its first byte, and its answer (RFC 9110,
+-- A request that came in on the connection of this number, judged by these terms and what was known before its first byte, and its answer (RFC 9110,
 -- section 3.4).
 pub record Exchange (terms : Terms) : Type 0 where
   pub number : ℕ
@@ -75,7 +74,7 @@ abbrev pub IsBeginning : List ℕ → List ℕ → Type 0
 IsBeginning front whole = (rest : List ℕ) × (whole ≡ front ++ rest)
 
 -- these bytes of a connection were served once they were a whole request, or its client had ended its side
-abbrev pub HasComeOn : Terms → Option HttpDate → List ℕ → Traffic → Type 0
+abbrev pub HasComeOn : Terms → Now → List ℕ → Traffic → Type 0
 HasComeOn terms now input c = HasCome (record terms { now = now }) input progress.Whole ⊎ (c.has_ended ≡ true)
 
 -- The exchange is of one of these connections: its input is what was first received on that, and what was handed over to that is its answer,
@@ -182,9 +181,9 @@ GoesOnServed g terms old c others before new kept now = HasCleanDisk (state g no
     → (shows : List Traffic) × (new ≡ Some shows) × (more : List (Exchange terms)) × AreHeld shows kept more × HasDeskMade g terms s more now
     × (length more ≤ length journal + 1)
 
--- A request of the connection of this number, with these bytes and this time, was served by a keeper that had made these exchanges: it made one more,
+-- A request of the connection of this number, with these bytes and what was known, was served by a keeper that had made these exchanges: it made one more,
 -- whose answer is the text that came back, if one did; or none came back, and the keeper wasn't asked.
-abbrev pub MakesOne : (terms : Terms) → Option HttpDate → ℕ → List ℕ → ℕ → State → List (Exchange terms) → States → Bool → (States → Type 0) → Option Reply → Type 0
+abbrev pub MakesOne : (terms : Terms) → Now → ℕ → List ℕ → ℕ → State → List (Exchange terms) → States → Bool → (States → Type 0) → Option Reply → Type 0
 MakesOne terms now n request k s journal represents shut crash_states reply =
     ((reply ≡ None) × HasMade terms k s journal represents shut crash_states)
     ⊎ ((e : Exchange terms) × (e.number ≡ n) × (e.asked.now ≡ now) × (e.asked.input ≡ request)

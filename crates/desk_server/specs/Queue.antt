@@ -1,5 +1,5 @@
 -- What is done next with the connections.
-use Rattle.std.specs.Prelude.{⊤, ◌≡◌, ◌<◌, ◌≤◌, ◌⊎◌, ℕ, ◌==◌, ◌&&◌, not, true, false, List, [], ◌∷◌, ◌++◌, length, map, min, Option, Some, None, slice_get, position}
+use Rattle.std.specs.Prelude.{⊤, ◌≡◌, ◌<◌, ◌≤◌, ◌⊎◌, ℕ, Bool, ◌==◌, ◌&&◌, nat_lt, not, true, false, List, [], ◌∷◌, ◌++◌, length, map, min, Option, Some, None, slice_get, position}
 use Rattle.std.specs.List.{reduce, remove}
 use Rattle.desk_server.specs.Deadline.{time_left}
 use Rattle.desk_server.specs.declared.connection.Connection.{Connection}
@@ -40,18 +40,22 @@ marked connections number = marked_at connections (waits_for connections number)
 abbrev pub soonest : List Connection → ℕ → Option ℕ
 soonest connections now = reduce min (map (left_of now) connections)
 
+-- one may be there that is taken before one that may go on: it is their turn, and fewer than 64 are there
+abbrev pub goes_before : List Connection → Arrivals → Bool
+goes_before connections arrivals = arrivals.may_take && arrivals.have_turn && nat_lt (length connections) 64
+
 -- One whose time is over is dropped first; then the one that has stayed as it is for longest, where there are more than 64. Else one is
--- taken, where one may be there and it is their turn or none may go on; else the first goes on that may; and where none may go on and none
+-- taken, where one may be there and goes before others, or none may go on; else the first goes on that may; and where none may go on and none
 -- may be there, nothing is done until the next time is over.
 abbrev pub IsNext : List Connection → ℕ → Arrivals → Step → Type 0
 IsNext connections now arrivals (step.Drop index) =
     (first_over connections now ≡ Some index) ⊎ ((first_over connections now ≡ None) × (64 < length connections) × (index ≡ 0))
 IsNext connections now arrivals step.Take =
     (first_over connections now ≡ None) × (length connections ≤ 64) × (arrivals.may_take ≡ true)
-    × ((arrivals.have_turn ≡ true) ⊎ (first_ready connections ≡ None))
+    × ((goes_before connections arrivals ≡ true) ⊎ (first_ready connections ≡ None))
 IsNext connections now arrivals (step.Advance index) =
     (first_over connections now ≡ None) × (length connections ≤ 64) × (first_ready connections ≡ Some index)
-    × ((arrivals.may_take && arrivals.have_turn) ≡ false)
+    × (goes_before connections arrivals ≡ false)
 IsNext connections now arrivals (step.Wait most) =
     (first_over connections now ≡ None) × (length connections ≤ 64) × (first_ready connections ≡ None) × (arrivals.may_take ≡ false)
     × (most ≡ soonest connections now)

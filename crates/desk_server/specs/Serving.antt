@@ -5,11 +5,10 @@ use Rattle.sqlite.specs.Held.{state}
 use Rattle.sqlite.specs.State.{HasCleanDisk}
 use Rattle.sqlite_trees.specs.declared.store.Store.{Ghosts}
 use Rattle.plant_base.specs.{State, newest_schema}
-use Rattle.plant_desk.specs.{States, IsSameDesk}
+use Rattle.plant_keeper.specs.{States, IsSameDesk}
 use Rattle.plant_desk_store.specs.{Represents, HasCrashStates, HasForeignTables, Desk}
 use Rattle.plant_text.specs.{RepresentsDurably, RepresentsEither, after}
-use Rattle.httpdate.specs.declared.date.HttpDate.{HttpDate}
-use Rattle.plant_http_requests.specs.{ConditionalTask, TaskOf, Terms}
+use Rattle.plant_http_requests.specs.{ConditionalTask, Now, TaskOf, Terms}
 use Rattle.plant_http.specs.{entry_of, ServeFault, Served}
 use Rattle.plant_http.specs.declared.serve.Served.TheVariants.{Answered, Nothing}
 use Rattle.desk_server.specs.declared.fault.ServingFault.{ServingFault}
@@ -21,9 +20,9 @@ status_of (Ok (Answered status)) = Some status
 status_of (Ok Nothing) = None
 status_of (Err f) = None
 
--- an input of a connection, the machine's time as it was read, and the task that it asks for then by these terms
+-- an input of a connection, what was known as it was read, and the task that it asks for then by these terms
 pub record Asked (terms : Terms) : Type 0 where
-  pub now : Option HttpDate
+  pub now : Now
   pub input : List ℕ
   pub task : ConditionalTask
   pub asks : TaskOf (record terms { now = now }) input (Some task)

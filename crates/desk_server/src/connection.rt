@@ -5,7 +5,7 @@ ghost use Rattle.desk_server.specs.Connection.{Receives};
 
 use crate::log::Arrival;
 use crate::transport::{PIECE_BYTES, Piece, Transport};
-use httpdate::HttpDate;
+use plant_http_requests::Now;
 
 /// How far a connection has come.
 #[derive(Clone, Copy, Debug, PartialEq, Eq)]
@@ -42,8 +42,8 @@ pub(crate) struct Connection {
     pub(crate) moved: u64,
     /// Whether it may go on at once: there is something to be read, or room for what is written.
     pub(crate) is_ready: bool,
-    /// The machine's time before its first byte was read.
-    pub(crate) now: Option<HttpDate>,
+    /// What was known before its first byte was read.
+    pub(crate) now: Now,
     /// What was received of its request.
     pub(crate) request: Vec<u8>,
     /// How many bytes its request has in all, where its head says so.

@@ -10,14 +10,14 @@ ghost use Rattle.desk_server.specs.Queue.{FitsStep};
 
 use crate::connection::{Connection, Stage};
 use crate::fault::ServingFault;
-use crate::log::AccessLog;
+use crate::log::{AccessLog, nanoseconds_now};
 use crate::queue::{Arrivals, MOST_CONNECTIONS, Queue, Step};
 use crate::receiving::Received;
 use crate::server::Server;
 use crate::sockets::Sockets;
 use crate::transport::Transport;
-use plant_desk_store::Desk;
-use plant_http_requests::{Routes, RoutesFault, Terms};
+use plant_desk_store::{Desk, Digest};
+use plant_http_requests::{Figures, Routes, RoutesFault, Terms};
 use sqlite::Alter;
 use std::alloc::{AllocError, AllocGlobal, Global};
 use std::net::{Net, TcpListener};
@@ -34,6 +34,8 @@ pub(crate) struct Connections {
     pub(crate) queue: Queue,
     /// Whether it is the turn of one that comes in.
     have_turn: bool,
+    /// What was done with those that are served or dropped.
+    done: Figures,
 }
 
 /// How long the system is asked at most for what is there, in milliseconds; `None` where only something that comes ends it.
@@ -45,14 +47,24 @@ fn most_wait(step: Step) -> Option<u64> {
 }
 
 impl Connections {
-    /// None so far. `AllocError`: memory was refused.
-    fn new(alloc: Global) -> Result<Connections, AllocError>
+    /// None so far, where serving began at this moment, in nanoseconds since 1970-01-01T00:00:00Z. `AllocError`: memory was refused.
+    fn new(alloc: Global, began: u64) -> Result<Connections, AllocError>
         ensures { IfOk result (λ made. made.queue.connections.items ≡ []) }
     {
         Ok(Connections {
             queue: Queue::new(alloc)?,
             have_turn: true,
+            done: Figures::new(began),
         })
+    }
+
+    /// What was done so far, by a desk of this digest.
+    fn figures(&self, digest: Digest) -> Figures {
+        Figures {
+            digested: digest.commands,
+            digest: digest.sum,
+            ..self.done
+        }
     }
 
     /// What is done next, at so many milliseconds. After one was taken it is the turn of those that are there.
@@ -96,6 +108,25 @@ impl Connections {
         }
         Ok(())
     }
+
+    /// Asks the system what is there by the time that a step is done, by which so many were served or dropped: but for a step that took one, or
+    /// by which one was served or dropped, since those that are there wait for none of it. `Net`: it doesn't say. No other fault comes.
+    fn ask_after<T: Transport>(
+        &mut self,
+        step: Step,
+        done: u32,
+        transport: &mut T,
+    ) -> Result<(), ServingFault>
+        ensures net { IfErr result (λ fault. fault ≡ ServingFault.Net) }
+        ensures shown { T.traffic transport.new ≡ T.traffic transport.old }
+        ensures held { StaysHeld self.old.queue.connections.items self.new.queue.connections.items }
+    {
+        match step {
+            Step::Take => Ok(()),
+            Step::Advance(_) | Step::Drop(_) if done > 0 => Ok(()),
+            Step::Advance(_) | Step::Drop(_) | Step::Wait(_) => self.ask(step, transport),
+        }
+    }
 }
 
 impl<R: Clock> Server<'_, R> {
@@ -125,6 +156,7 @@ impl<R: Clock> Server<'_, R> {
         if !transport.follow(number) {
             transport.close(number);
             self.log.note_request(arrival, &[], None);
+            connections.done.count_unanswered();
             return Ok(1);
         }
         connections.queue.add(Connection {
@@ -133,7 +165,7 @@ impl<R: Clock> Server<'_, R> {
             stage: Stage::Silent,
             moved: self.milliseconds(),
             is_ready: false,
-            now: None,
+            now: self.now(connections.done),
             request: Vec::new(self.alloc),
             size: None,
             answer: Vec::new(self.alloc),
@@ -176,7 +208,11 @@ impl<R: Clock> Server<'_, R> {
         let connection = connections.queue.remove(index);
         let is_served = connection.is_served();
         self.drop_connection(connection, transport);
-        if is_served { 0 } else { 1 }
+        if is_served {
+            return 0;
+        }
+        connections.done.count_unanswered();
+        1
     }
 
     /// Serves what was received on a connection, and begins to hand over the answer. `Store`: a fault of the store has shut the
@@ -203,9 +239,13 @@ impl<R: Clock> Server<'_, R> {
         let is_answered = self.serve_connection(&mut connection, desk);
         match connection.stage {
             Stage::Writing { status } if is_answered => {
+                connections.done.count_answer(status);
                 self.write_at(connection, status, connections, transport);
             }
-            _ => self.drop_connection(connection, transport),
+            _ => {
+                connections.done.count_unanswered();
+                self.drop_connection(connection, transport);
+            }
         }
         if desk.is_shut() {
             return Err(ServingFault::Store);
@@ -237,7 +277,8 @@ impl<R: Clock> Server<'_, R> {
         ensures shut { OnErr result (desk.new.is_shut ≡ true) }
         ensures store { IfErr result (λ fault. fault ≡ ServingFault.Store) }
     {
-        match self.receive(&mut connection, transport) {
+        let known = connections.figures(desk.digest());
+        match self.receive(&mut connection, known, transport) {
             Received::Whole | Received::Ended => self.serve_at(
                 connection,
                 connections,
@@ -249,6 +290,7 @@ impl<R: Clock> Server<'_, R> {
                 Ok(0)
             }
             Received::Broken => {
+                connections.done.count_unanswered();
                 self.drop_connection(connection, transport);
                 Ok(1)
             }
@@ -324,7 +366,7 @@ impl<R: Clock> Server<'_, R> {
                 Step::Take => self.take_next(connections, transport)?,
                 Step::Wait(_) => 0,
             };
-            connections.ask(step, transport)?;
+            connections.ask_after(step, done, transport)?;
             left -= done;
         }
         Ok(())
@@ -426,7 +468,7 @@ pub fn serve_over<R: Clock + AllocGlobal, T: Transport, S: Alter + Drop>(
     ensures ends { EndsServing desk.new.is_shut result }
 {
     let routes = routes_of(Routes::new(rt.alloc()))?;
-    let Ok(mut connections) = Connections::new(rt.alloc()) else {
+    let Ok(mut connections) = Connections::new(rt.alloc(), nanoseconds_now(rt)) else {
         return Err(ServingFault::Memory);
     };
     let server = Server {

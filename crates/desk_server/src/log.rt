@@ -104,6 +104,17 @@ fn seconds_now(rt: &HostRuntime) -> u64 {
     }
 }
 
+/// The nanoseconds since 1970-01-01T00:00:00Z, 0 where the clock gives none, or one before that or after 2554.
+pub(crate) fn nanoseconds_now<R: Clock>(clock: &R) -> u64 {
+    let Ok(now) = SystemTime::now(clock) else {
+        return 0;
+    };
+    match now.duration_since(UNIX_EPOCH) {
+        Ok(passed) => u64::try_from(passed.as_nanos()).unwrap_or(0),
+        Err(_) => 0,
+    }
+}
+
 /// The microseconds since an instant, 0 where the clock gave none.
 fn microseconds_since(rt: &HostRuntime, instant: Option<Instant>) -> u128 {
     match instant {

@@ -2,7 +2,7 @@
 ghost use Rattle.std.specs.Prelude.{◌≡◌, ◌<◌, ◌≤◌, ◌++◌, [], ◌∷◌, length, None, IfOk, IfSome};
 ghost use Rattle.std.specs.Prelude.{vec_capacity, slice_index_or};
 ghost use Rattle.std.specs.List.{remove};
-ghost use Rattle.desk_server.specs.Queue.{FitsStep, IsNext, first_over, first_ready, marked};
+ghost use Rattle.desk_server.specs.Queue.{FitsStep, IsNext, first_over, first_ready, goes_before, marked};
 ghost use Rattle.desk_server.specs.Queue.{soonest, waits_for};
 
 use crate::connection::Connection;
@@ -81,6 +81,14 @@ fn soonest(connections: &[Connection], now: u64) -> Option<u64>
         .min()
 }
 
+/// Whether one may be there that is taken before one that is ready. Where 64 are there it waits, so that none of those is dropped for it that can be
+/// served.
+fn goes_before(connections: &[Connection], arrivals: Arrivals) -> bool
+    ensures { result ≡ goes_before connections.now arrivals }
+{
+    arrivals.may_take && arrivals.have_turn && connections.len() < MOST_CONNECTIONS
+}
+
 /// What is done next where no time is over.
 fn step_in_time(connections: &[Connection], now: u64, arrivals: Arrivals) -> Step
     requires bound { length connections.now ≤ 65 }
@@ -91,7 +99,7 @@ fn step_in_time(connections: &[Connection], now: u64, arrivals: Arrivals) -> Ste
     if connections.len() > MOST_CONNECTIONS {
         return Step::Drop(0);
     }
-    if arrivals.may_take && arrivals.have_turn {
+    if goes_before(connections, arrivals) {
         return Step::Take;
     }
     match first_ready(connections) {
@@ -102,7 +110,7 @@ fn step_in_time(connections: &[Connection], now: u64, arrivals: Arrivals) -> Ste
 }
 
 /// What is done next: a connection is dropped whose time is over, or that has stayed as it is for longest, where more than 64 are
-/// there; else one is taken, where it is the turn of one that may be there; else the first goes on that is ready; else one is taken.
+/// there; else one is taken, where it is the turn of one that may be there and fewer are; else the first goes on that is ready; else one is taken.
 fn next_step(connections: &[Connection], now: u64, arrivals: Arrivals) -> Step
     requires { length connections.now ≤ 65 }
     ensures next { IsNext connections.now now arrivals result }

@@ -1,7 +1,7 @@
 //! Requests, received side by side.
 ghost use Rattle.std.specs.Prelude.{◌≡◌, ◌≢◌, true, false, IfSome, List};
 ghost use Rattle.plant_base.specs.{State};
-ghost use Rattle.plant_desk.specs.{IsSameDesk};
+ghost use Rattle.plant_keeper.specs.{IsSameDesk};
 ghost use Rattle.desk_server.specs.Exchanges.{Exchange, HasMade, IsUnserved, Lacks, MakesOne};
 ghost use Rattle.desk_server.specs.Exchanges.{BeginsToAnswer, ReadsOn, reply_of};
 ghost use Rattle.desk_server.specs.Receiving.{AnswersConnection, IsReceived};
@@ -10,8 +10,8 @@ ghost use Rattle.desk_server.specs.Serving.{HasServed};
 use crate::connection::{Connection, Stage};
 use crate::server::Server;
 use crate::transport::{Piece, Transport};
-use plant_desk::Keeper;
-use plant_http_requests::{MOST_READS, RequestProgress, Terms, request_progress};
+use plant_http_requests::{Figures, MOST_READS, RequestProgress, Terms, request_progress};
+use plant_keeper::Keeper;
 use std::rt::Clock;
 
 /// What there is of a request.
@@ -96,8 +96,8 @@ impl<R: Clock> Server<'_, R> {
         }
     }
 
-    /// Notes the machine's time on a connection of whose request nothing has come.
-    fn note_time(&self, connection: &mut Connection)
+    /// Notes what is known now on a connection of whose request nothing has come.
+    fn note_now(&self, connection: &mut Connection, done: Figures)
         ensures number { connection.new.number ≡ connection.old.number }
         ensures stage { connection.new.stage ≡ connection.old.stage }
         ensures unchanged { connection.new.request ≡ connection.old.request }
@@ -105,14 +105,15 @@ impl<R: Clock> Server<'_, R> {
         ensures handed { connection.new.handed ≡ connection.old.handed }
     {
         if matches!(connection.stage, Stage::Silent) {
-            connection.now = self.now();
+            connection.now = self.now(done);
         }
     }
 
-    /// Reads once of a request, without waiting. The machine's time is read before its first byte.
+    /// Reads once of a request, without waiting. What is known is noted before its first byte, where the server has done this so far.
     pub(crate) fn receive<T: Transport>(
         &self,
         connection: &mut Connection,
+        done: Figures,
         transport: &mut T,
     ) -> Received
         ensures whole { IsReceived self.now.terms connection.new.now connection.new.request.items result }
@@ -122,7 +123,7 @@ impl<R: Clock> Server<'_, R> {
         if connection.has_made_its_reads() {
             return Received::Broken;
         }
-        self.note_time(connection);
+        self.note_now(connection, done);
         match connection.receive(transport) {
             Piece::Bytes(_) => {
                 connection.count_read(self.milliseconds());

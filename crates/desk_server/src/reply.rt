@@ -1,16 +1,15 @@
 //! A request whose bytes are there, served.
 ghost use Rattle.std.specs.Prelude.{◌≡◌, ℕ, true, false, IfSome, List};
 ghost use Rattle.plant_base.specs.{State};
-ghost use Rattle.plant_desk.specs.{IsSameDesk};
+ghost use Rattle.plant_keeper.specs.{IsSameDesk};
 ghost use Rattle.desk_server.specs.Exchanges.{Exchange, HasMade, Lacks, MakesOne};
 ghost use Rattle.desk_server.specs.Reply.{AnswersBytes};
 ghost use Rattle.desk_server.specs.Serving.{HasServed, status_of};
 
 use crate::server::Server;
-use httpdate::HttpDate;
-use plant_desk::Keeper;
 use plant_http::{ServeFault, Served, serve_one};
-use plant_http_requests::Terms;
+use plant_http_requests::{Now, Terms};
+use plant_keeper::Keeper;
 use std::rt::Clock;
 
 /// How many bytes an answer has room for before its request is served. A command's answer has fewer, so that it takes no memory
@@ -35,12 +34,12 @@ fn status_of(served: &Result<Served, ServeFault>) -> Option<u16>
 }
 
 impl<R: Clock> Server<'_, R> {
-    /// Serves the request that these bytes are, where the machine's time was this before the first of them: the keeper does its task,
+    /// Serves the request that these bytes are, where this was known before the first of them: the keeper does its task,
     /// once, and its answer is the text that comes back. Nothing comes back where there are no bytes, or memory was refused for
     /// the request or for the text.
     pub(crate) fn reply_to<K: Keeper>(
         &self,
-        now: Option<HttpDate>,
+        now: Now,
         request: &[u8],
         keeper: &mut K,
     ) -> Option<Reply>

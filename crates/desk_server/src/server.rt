@@ -1,7 +1,7 @@
 //! What stays the same while connections are served.
 use crate::log::{AccessLog, milliseconds_since};
 use httpdate::HttpDate;
-use plant_http_requests::{Routes, Terms};
+use plant_http_requests::{Figures, Now, Routes, Terms};
 use std::alloc::Global;
 use std::rt::Clock;
 use std::time::{Instant, SystemTime};
@@ -14,15 +14,26 @@ pub(crate) struct Server<'a, R> {
     /// When serving began, where the clock gave it.
     pub(crate) began: Option<Instant>,
     pub(crate) routes: Routes,
-    /// By what requests are judged; the time of each is put in as it is read.
+    /// By what requests are judged; what is known is put in as each is read.
     pub(crate) terms: Terms<'a>,
     pub(crate) log: AccessLog<'a>,
 }
 
 impl<R: Clock> Server<'_, R> {
     /// The machine's time in whole seconds; `None` where the clock gives none, or one before 1970 or after 9999.
-    pub(crate) fn now(&self) -> Option<HttpDate> {
+    fn time(&self) -> Option<HttpDate> {
         HttpDate::try_from(SystemTime::now(self.clock).ok()?).ok()
+    }
+
+    /// What is known now, where the server has done this so far.
+    pub(crate) fn now(&self, done: Figures) -> Now {
+        Now {
+            time: self.time(),
+            figures: Figures {
+                seconds: self.milliseconds() / 1000,
+                ..done
+            },
+        }
     }
 
     /// The milliseconds since serving began.

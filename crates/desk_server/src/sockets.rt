@@ -37,6 +37,8 @@ pub(crate) struct Sockets<'a> {
     poll: Poll,
     events: Events<Global>,
     may_take: bool,
+    /// Whether the system refused a connection since it gave one, or had none.
+    was_refused: bool,
     /// How many connections were taken.
     taken: u64,
     open: Vec<Socket>,
@@ -141,6 +143,7 @@ impl<'a> Sockets<'a> {
             poll,
             events,
             may_take: true,
+            was_refused: false,
             taken: 0,
             open,
             ready: Ready {
@@ -170,6 +173,30 @@ impl<'a> Sockets<'a> {
             .is_ok()
     }
 
+    /// Has the system report once more whether a connection comes in. Returns whether it does.
+    fn expect_arrival(&self) -> bool {
+        let fd = self.listener.as_raw_fd();
+        let token = Token(token_of(fd));
+        self.poll
+            .registry()
+            .reregister(&mut SourceFd(&fd), token, Interest::READABLE)
+            .is_ok()
+    }
+
+    /// Notes that the system gives no connection, as where too many files are open. It says so also where none comes in, so it is asked whether
+    /// one does, and tried again then. `Net`: one comes in, and was refused before.
+    fn note_refused(&mut self) -> Result<Option<u64>, ServingFault>
+        ensures net { IfErr result (λ fault. fault ≡ ServingFault.Net) }
+    {
+        if self.was_refused || !self.expect_arrival() {
+            self.was_refused = false;
+            return Err(ServingFault::Net);
+        }
+        self.was_refused = true;
+        self.may_take = false;
+        Ok(None)
+    }
+
     /// Keeps a connection, and gives its number. `None`: memory was refused for it, and it is closed.
     fn keep(&mut self, stream: TcpStream) -> Option<u64> {
         let number = self.taken;
@@ -190,14 +217,18 @@ impl Transport for Sockets<'_> {
 
     fn take(&mut self) -> Result<Option<u64>, ServingFault> {
         match self.listener.accept() {
-            Ok((stream, _)) => Ok(self.keep(stream)),
+            Ok((stream, _)) => {
+                self.was_refused = false;
+                Ok(self.keep(stream))
+            }
             Err(e) => match e.kind() {
                 ErrorKind::WouldBlock => {
+                    self.was_refused = false;
                     self.may_take = false;
                     Ok(None)
                 }
                 ErrorKind::ConnectionAborted | ErrorKind::Interrupted => Ok(None),
-                _ => Err(ServingFault::Net),
+                _ => self.note_refused(),
             },
         }
     }

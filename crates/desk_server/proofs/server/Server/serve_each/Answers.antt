@@ -46,9 +46,9 @@ connections-preserved g c =
       | in-Wait w ↦ rw w.desk-is (λ clean. clean)
     ] in (
       after,
-      goes_step g.S.Store terms count it.left last.done (g.T.Transport.traffic c.args.transport.now) there (g.T.Transport.traffic last.transport) (g.T.Transport.traffic c.ask.new.transport) c.args.connections.now.queue.connections.items
-          it.connections.queue.connections.items held last.connections.queue.connections.items c.ask.new.self.queue.connections.items c.args.desk.now it.desk last.desk few it.invariant.0.2 was it.invariant.1
-          (λ i. (c.next-step.ensures.unchanged i).connections.items) step c.ask.ensures.shown c.ask.ensures.held,
+      goes_step g.S.Store terms count it.left last.done (g.T.Transport.traffic c.args.transport.now) there (g.T.Transport.traffic last.transport) (g.T.Transport.traffic c.ask_after.new.transport) c.args.connections.now.queue.connections.items
+          it.connections.queue.connections.items held last.connections.queue.connections.items c.ask_after.new.self.queue.connections.items c.args.desk.now it.desk last.desk few it.invariant.0.2 was it.invariant.1
+          (λ i. (c.next-step.ensures.unchanged i).connections.items) step c.ask_after.ensures.shown c.ask_after.ensures.held,
     )
 
 pub returns-clause-serves : goal.returns-clause-serves
@@ -74,8 +74,8 @@ pub returns-in_err-done-in-Take-clause-serves : goal.returns-in_err-done-in-Take
 returns-in_err-done-in-Take-clause-serves g c =
     serving_at_most g.S.Store c.args.self.now.terms c.args.count c.connections.left c.args.desk.now c.connections.desk c.connections.invariant.0
 
-pub returns-in_err-ask : goal.returns-in_err-ask
-returns-in_err-ask g c =
+pub returns-in_err-ask_after : goal.returns-in_err-ask_after
+returns-in_err-ask_after g c =
     let it = c.connections in
     let last = c.match-step in
     let terms = c.args.self.now.terms in
@@ -115,10 +115,10 @@ returns-in_err-ask g c =
     record {
       same = after.0;
       serves = serving_at_most g.S.Store terms count (it.left - last.done) c.args.desk.now last.desk after;
-      exchanges = goes_fewer g.S.Store terms (count - (it.left - last.done)) count (g.T.Transport.traffic c.args.transport.now) (g.T.Transport.traffic c.ask.new.transport) c.args.connections.now.queue.connections.items
-          c.ask.new.self.queue.connections.items c.args.desk.now last.desk (omega arith) (goes_step g.S.Store terms count it.left last.done (g.T.Transport.traffic c.args.transport.now) there (g.T.Transport.traffic last.transport) (g.T.Transport.traffic c.ask.new.transport) c.args.connections.now.queue.connections.items
-          it.connections.queue.connections.items held last.connections.queue.connections.items c.ask.new.self.queue.connections.items c.args.desk.now it.desk last.desk few it.invariant.0.2 was it.invariant.1
-          (λ i. (c.next-step.ensures.unchanged i).connections.items) step c.ask.ensures.shown c.ask.ensures.held);
+      exchanges = goes_fewer g.S.Store terms (count - (it.left - last.done)) count (g.T.Transport.traffic c.args.transport.now) (g.T.Transport.traffic c.ask_after.new.transport) c.args.connections.now.queue.connections.items
+          c.ask_after.new.self.queue.connections.items c.args.desk.now last.desk (omega arith) (goes_step g.S.Store terms count it.left last.done (g.T.Transport.traffic c.args.transport.now) there (g.T.Transport.traffic last.transport) (g.T.Transport.traffic c.ask_after.new.transport) c.args.connections.now.queue.connections.items
+          it.connections.queue.connections.items held last.connections.queue.connections.items c.ask_after.new.self.queue.connections.items c.args.desk.now it.desk last.desk few it.invariant.0.2 was it.invariant.1
+          (λ i. (c.next-step.ensures.unchanged i).connections.items) step c.ask_after.ensures.shown c.ask_after.ensures.held);
       ends = search (rules, after.1);
       routed = search rules;
     }

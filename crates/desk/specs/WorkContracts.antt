@@ -28,6 +28,7 @@ IsProfileOf (Some hosts) (profile.Page names) = names.now ≡ names_of hosts
 abbrev pub IsTermsOf : Serving → Terms → Type 0
 IsTermsOf serving terms = IsProfileOf serving.page terms.profile × (field_of terms ≡ serving.operator_field)
     × (terms.needs_references ≡ serving.needs_references) × (terms.most_ahead ≡ serving.most_ahead)
+    × (terms.name.now ≡ serving.name) × (terms.language.now ≡ serving.language)
 
 -- A desk over a store has served at most so many connections from this state on, by these terms: it is where their jobs led, shut or not.
 abbrev pub HasServedFrom : Terms → ℕ → State → store.State → Bool → Type 0

@@ -15,7 +15,7 @@ use desk_program::{Performed, ProgramFault, adopt, perform_task, performed_of};
 use desk_server::{AccessLog, ServingFault, listen_at, local_at, serve_listener};
 use plant_base::Text;
 use plant_desk_store::Desk;
-use plant_http_requests::{Profile, Terms};
+use plant_http_requests::{Now, Profile, Terms};
 use sqlite::{Alter, Connection};
 use std::io;
 use std::net::TcpListener;
@@ -133,7 +133,9 @@ fn terms_of(serving: &Serving) -> Terms<'_>
         operator_field: field_of(&serving.operator_field),
         needs_references: serving.needs_references,
         most_ahead: serving.most_ahead,
-        now: None,
+        name: &serving.name,
+        language: &serving.language,
+        now: Now::unknown(),
     }
 }
 

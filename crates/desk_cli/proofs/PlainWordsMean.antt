@@ -107,9 +107,9 @@ serve_port_rows : (name file : Text) → begins_with_dash file ≡ false → sub
 unfolding clap_on_literals
 serve_port_rows name file h = rw (not_dashes file h, not_long file h, not_short file h) (refl {a = Some (codes "serve", rows_of_serve file (unset (codes "log") ∷ unset (codes "page") ∷ unset (codes "references") ∷ []))})
 
-serve_port : (name file : Text) → begins_with_dash file ≡ false → Mean (name ∷ codes "serve" ∷ file ∷ codes "8080" ∷ codes "1000" ∷ []) (file, work.Serve (record { port = 8080; count = 1000; is_logged = false; page = None; most_ahead = None; needs_references = false; operator_field = None }))
+serve_port : (name file : Text) → begins_with_dash file ≡ false → Mean (name ∷ codes "serve" ∷ file ∷ codes "8080" ∷ codes "1000" ∷ []) (file, work.Serve (record { port = 8080; count = 1000; is_logged = false; page = None; most_ahead = None; needs_references = false; operator_field = None; name = None; language = None }))
 unfolding work_in number_in
-serve_port name file h = by_rows (name ∷ codes "serve" ∷ file ∷ codes "8080" ∷ codes "1000" ∷ []) (rows_of_serve file (unset (codes "log") ∷ unset (codes "page") ∷ unset (codes "references") ∷ [])) (file, work.Serve (record { port = 8080; count = 1000; is_logged = false; page = None; most_ahead = None; needs_references = false; operator_field = None })) (serve_port_taken name file h) (serve_port_rows name file h) refl
+serve_port name file h = by_rows (name ∷ codes "serve" ∷ file ∷ codes "8080" ∷ codes "1000" ∷ []) (rows_of_serve file (unset (codes "log") ∷ unset (codes "page") ∷ unset (codes "references") ∷ [])) (file, work.Serve (record { port = 8080; count = 1000; is_logged = false; page = None; most_ahead = None; needs_references = false; operator_field = None; name = None; language = None })) (serve_port_taken name file h) (serve_port_rows name file h) refl
 
 serve_logged_taken : (name file : Text) → begins_with_dash file ≡ false → fault_of the_program (name ∷ codes "serve" ∷ file ∷ codes "8080" ∷ codes "1000" ∷ codes "--log" ∷ []) ≡ []
 unfolding clap_on_literals
@@ -119,9 +119,9 @@ serve_logged_rows : (name file : Text) → begins_with_dash file ≡ false → s
 unfolding clap_on_literals
 serve_logged_rows name file h = rw (not_dashes file h, not_long file h, not_short file h) (refl {a = Some (codes "serve", rows_of_serve file (given (codes "log") (codes "true" ∷ []) ∷ unset (codes "page") ∷ unset (codes "references") ∷ []))})
 
-serve_logged : (name file : Text) → begins_with_dash file ≡ false → Mean (name ∷ codes "serve" ∷ file ∷ codes "8080" ∷ codes "1000" ∷ codes "--log" ∷ []) (file, work.Serve (record { port = 8080; count = 1000; is_logged = true; page = None; most_ahead = None; needs_references = false; operator_field = None }))
+serve_logged : (name file : Text) → begins_with_dash file ≡ false → Mean (name ∷ codes "serve" ∷ file ∷ codes "8080" ∷ codes "1000" ∷ codes "--log" ∷ []) (file, work.Serve (record { port = 8080; count = 1000; is_logged = true; page = None; most_ahead = None; needs_references = false; operator_field = None; name = None; language = None }))
 unfolding work_in number_in
-serve_logged name file h = by_rows (name ∷ codes "serve" ∷ file ∷ codes "8080" ∷ codes "1000" ∷ codes "--log" ∷ []) (rows_of_serve file (given (codes "log") (codes "true" ∷ []) ∷ unset (codes "page") ∷ unset (codes "references") ∷ [])) (file, work.Serve (record { port = 8080; count = 1000; is_logged = true; page = None; most_ahead = None; needs_references = false; operator_field = None })) (serve_logged_taken name file h) (serve_logged_rows name file h) refl
+serve_logged name file h = by_rows (name ∷ codes "serve" ∷ file ∷ codes "8080" ∷ codes "1000" ∷ codes "--log" ∷ []) (rows_of_serve file (given (codes "log") (codes "true" ∷ []) ∷ unset (codes "page") ∷ unset (codes "references") ∷ [])) (file, work.Serve (record { port = 8080; count = 1000; is_logged = true; page = None; most_ahead = None; needs_references = false; operator_field = None; name = None; language = None })) (serve_logged_taken name file h) (serve_logged_rows name file h) refl
 
 serve_page_taken : (name file : Text) → begins_with_dash file ≡ false → fault_of the_program (name ∷ codes "serve" ∷ file ∷ codes "8080" ∷ codes "1000" ∷ codes "--page" ∷ []) ≡ []
 unfolding clap_on_literals
@@ -131,9 +131,9 @@ serve_page_rows : (name file : Text) → begins_with_dash file ≡ false → sub
 unfolding clap_on_literals
 serve_page_rows name file h = rw (not_dashes file h, not_long file h, not_short file h) (refl {a = Some (codes "serve", rows_of_serve file (given (codes "page") (codes "true" ∷ []) ∷ unset (codes "log") ∷ unset (codes "references") ∷ []))})
 
-serve_page : (name file : Text) → begins_with_dash file ≡ false → Mean (name ∷ codes "serve" ∷ file ∷ codes "8080" ∷ codes "1000" ∷ codes "--page" ∷ []) (file, work.Serve (record { port = 8080; count = 1000; is_logged = false; page = Some (hosts_of_names []); most_ahead = Some 300; needs_references = false; operator_field = None }))
+serve_page : (name file : Text) → begins_with_dash file ≡ false → Mean (name ∷ codes "serve" ∷ file ∷ codes "8080" ∷ codes "1000" ∷ codes "--page" ∷ []) (file, work.Serve (record { port = 8080; count = 1000; is_logged = false; page = Some (hosts_of_names []); most_ahead = Some 300; needs_references = false; operator_field = None; name = None; language = None }))
 unfolding work_in number_in
-serve_page name file h = by_rows (name ∷ codes "serve" ∷ file ∷ codes "8080" ∷ codes "1000" ∷ codes "--page" ∷ []) (rows_of_serve file (given (codes "page") (codes "true" ∷ []) ∷ unset (codes "log") ∷ unset (codes "references") ∷ [])) (file, work.Serve (record { port = 8080; count = 1000; is_logged = false; page = Some (hosts_of_names []); most_ahead = Some 300; needs_references = false; operator_field = None })) (serve_page_taken name file h) (serve_page_rows name file h) refl
+serve_page name file h = by_rows (name ∷ codes "serve" ∷ file ∷ codes "8080" ∷ codes "1000" ∷ codes "--page" ∷ []) (rows_of_serve file (given (codes "page") (codes "true" ∷ []) ∷ unset (codes "log") ∷ unset (codes "references") ∷ [])) (file, work.Serve (record { port = 8080; count = 1000; is_logged = false; page = Some (hosts_of_names []); most_ahead = Some 300; needs_references = false; operator_field = None; name = None; language = None })) (serve_page_taken name file h) (serve_page_rows name file h) refl
 
 serve_hosts_taken : (name file : Text) → begins_with_dash file ≡ false → fault_of the_program (name ∷ codes "serve" ∷ file ∷ codes "8080" ∷ codes "1000" ∷ codes "--page" ∷ codes "--host" ∷ codes "a.example" ∷ codes "--host" ∷ codes "b" ∷ []) ≡ []
 unfolding clap_on_literals
@@ -143,9 +143,9 @@ serve_hosts_rows : (name file : Text) → begins_with_dash file ≡ false → su
 unfolding clap_on_literals
 serve_hosts_rows name file h = rw (not_dashes file h, not_long file h, not_short file h) (refl {a = Some (codes "serve", rows_of_serve file (given (codes "page") (codes "true" ∷ []) ∷ given (codes "host") (codes "a.example" ∷ codes "b" ∷ []) ∷ unset (codes "log") ∷ unset (codes "references") ∷ []))})
 
-serve_hosts : (name file : Text) → begins_with_dash file ≡ false → Mean (name ∷ codes "serve" ∷ file ∷ codes "8080" ∷ codes "1000" ∷ codes "--page" ∷ codes "--host" ∷ codes "a.example" ∷ codes "--host" ∷ codes "b" ∷ []) (file, work.Serve (record { port = 8080; count = 1000; is_logged = false; page = Some (hosts_of_names (codes "a.example" ∷ codes "b" ∷ [])); most_ahead = Some 300; needs_references = false; operator_field = None }))
+serve_hosts : (name file : Text) → begins_with_dash file ≡ false → Mean (name ∷ codes "serve" ∷ file ∷ codes "8080" ∷ codes "1000" ∷ codes "--page" ∷ codes "--host" ∷ codes "a.example" ∷ codes "--host" ∷ codes "b" ∷ []) (file, work.Serve (record { port = 8080; count = 1000; is_logged = false; page = Some (hosts_of_names (codes "a.example" ∷ codes "b" ∷ [])); most_ahead = Some 300; needs_references = false; operator_field = None; name = None; language = None }))
 unfolding work_in number_in
-serve_hosts name file h = by_rows (name ∷ codes "serve" ∷ file ∷ codes "8080" ∷ codes "1000" ∷ codes "--page" ∷ codes "--host" ∷ codes "a.example" ∷ codes "--host" ∷ codes "b" ∷ []) (rows_of_serve file (given (codes "page") (codes "true" ∷ []) ∷ given (codes "host") (codes "a.example" ∷ codes "b" ∷ []) ∷ unset (codes "log") ∷ unset (codes "references") ∷ [])) (file, work.Serve (record { port = 8080; count = 1000; is_logged = false; page = Some (hosts_of_names (codes "a.example" ∷ codes "b" ∷ [])); most_ahead = Some 300; needs_references = false; operator_field = None })) (serve_hosts_taken name file h) (serve_hosts_rows name file h) refl
+serve_hosts name file h = by_rows (name ∷ codes "serve" ∷ file ∷ codes "8080" ∷ codes "1000" ∷ codes "--page" ∷ codes "--host" ∷ codes "a.example" ∷ codes "--host" ∷ codes "b" ∷ []) (rows_of_serve file (given (codes "page") (codes "true" ∷ []) ∷ given (codes "host") (codes "a.example" ∷ codes "b" ∷ []) ∷ unset (codes "log") ∷ unset (codes "references") ∷ [])) (file, work.Serve (record { port = 8080; count = 1000; is_logged = false; page = Some (hosts_of_names (codes "a.example" ∷ codes "b" ∷ [])); most_ahead = Some 300; needs_references = false; operator_field = None; name = None; language = None })) (serve_hosts_taken name file h) (serve_hosts_rows name file h) refl
 
 serve_ahead_taken : (name file : Text) → begins_with_dash file ≡ false → fault_of the_program (name ∷ codes "serve" ∷ file ∷ codes "8080" ∷ codes "1000" ∷ codes "--ahead" ∷ codes "60" ∷ []) ≡ []
 unfolding clap_on_literals
@@ -155,9 +155,9 @@ serve_ahead_rows : (name file : Text) → begins_with_dash file ≡ false → su
 unfolding clap_on_literals
 serve_ahead_rows name file h = rw (not_dashes file h, not_long file h, not_short file h) (refl {a = Some (codes "serve", rows_of_serve file (number (codes "ahead") (codes "60") ∷ unset (codes "log") ∷ unset (codes "page") ∷ unset (codes "references") ∷ []))})
 
-serve_ahead : (name file : Text) → begins_with_dash file ≡ false → Mean (name ∷ codes "serve" ∷ file ∷ codes "8080" ∷ codes "1000" ∷ codes "--ahead" ∷ codes "60" ∷ []) (file, work.Serve (record { port = 8080; count = 1000; is_logged = false; page = None; most_ahead = Some 60; needs_references = false; operator_field = None }))
+serve_ahead : (name file : Text) → begins_with_dash file ≡ false → Mean (name ∷ codes "serve" ∷ file ∷ codes "8080" ∷ codes "1000" ∷ codes "--ahead" ∷ codes "60" ∷ []) (file, work.Serve (record { port = 8080; count = 1000; is_logged = false; page = None; most_ahead = Some 60; needs_references = false; operator_field = None; name = None; language = None }))
 unfolding work_in number_in
-serve_ahead name file h = by_rows (name ∷ codes "serve" ∷ file ∷ codes "8080" ∷ codes "1000" ∷ codes "--ahead" ∷ codes "60" ∷ []) (rows_of_serve file (number (codes "ahead") (codes "60") ∷ unset (codes "log") ∷ unset (codes "page") ∷ unset (codes "references") ∷ [])) (file, work.Serve (record { port = 8080; count = 1000; is_logged = false; page = None; most_ahead = Some 60; needs_references = false; operator_field = None })) (serve_ahead_taken name file h) (serve_ahead_rows name file h) refl
+serve_ahead name file h = by_rows (name ∷ codes "serve" ∷ file ∷ codes "8080" ∷ codes "1000" ∷ codes "--ahead" ∷ codes "60" ∷ []) (rows_of_serve file (number (codes "ahead") (codes "60") ∷ unset (codes "log") ∷ unset (codes "page") ∷ unset (codes "references") ∷ [])) (file, work.Serve (record { port = 8080; count = 1000; is_logged = false; page = None; most_ahead = Some 60; needs_references = false; operator_field = None; name = None; language = None })) (serve_ahead_taken name file h) (serve_ahead_rows name file h) refl
 
 serve_any_ahead_taken : (name file : Text) → begins_with_dash file ≡ false → fault_of the_program (name ∷ codes "serve" ∷ file ∷ codes "8080" ∷ codes "1000" ∷ codes "--page" ∷ codes "--ahead" ∷ codes "0" ∷ []) ≡ []
 unfolding clap_on_literals
@@ -167,9 +167,9 @@ serve_any_ahead_rows : (name file : Text) → begins_with_dash file ≡ false �
 unfolding clap_on_literals
 serve_any_ahead_rows name file h = rw (not_dashes file h, not_long file h, not_short file h) (refl {a = Some (codes "serve", rows_of_serve file (given (codes "page") (codes "true" ∷ []) ∷ number (codes "ahead") (codes "0") ∷ unset (codes "log") ∷ unset (codes "references") ∷ []))})
 
-serve_any_ahead : (name file : Text) → begins_with_dash file ≡ false → Mean (name ∷ codes "serve" ∷ file ∷ codes "8080" ∷ codes "1000" ∷ codes "--page" ∷ codes "--ahead" ∷ codes "0" ∷ []) (file, work.Serve (record { port = 8080; count = 1000; is_logged = false; page = Some (hosts_of_names []); most_ahead = None; needs_references = false; operator_field = None }))
+serve_any_ahead : (name file : Text) → begins_with_dash file ≡ false → Mean (name ∷ codes "serve" ∷ file ∷ codes "8080" ∷ codes "1000" ∷ codes "--page" ∷ codes "--ahead" ∷ codes "0" ∷ []) (file, work.Serve (record { port = 8080; count = 1000; is_logged = false; page = Some (hosts_of_names []); most_ahead = None; needs_references = false; operator_field = None; name = None; language = None }))
 unfolding work_in number_in
-serve_any_ahead name file h = by_rows (name ∷ codes "serve" ∷ file ∷ codes "8080" ∷ codes "1000" ∷ codes "--page" ∷ codes "--ahead" ∷ codes "0" ∷ []) (rows_of_serve file (given (codes "page") (codes "true" ∷ []) ∷ number (codes "ahead") (codes "0") ∷ unset (codes "log") ∷ unset (codes "references") ∷ [])) (file, work.Serve (record { port = 8080; count = 1000; is_logged = false; page = Some (hosts_of_names []); most_ahead = None; needs_references = false; operator_field = None })) (serve_any_ahead_taken name file h) (serve_any_ahead_rows name file h) refl
+serve_any_ahead name file h = by_rows (name ∷ codes "serve" ∷ file ∷ codes "8080" ∷ codes "1000" ∷ codes "--page" ∷ codes "--ahead" ∷ codes "0" ∷ []) (rows_of_serve file (given (codes "page") (codes "true" ∷ []) ∷ number (codes "ahead") (codes "0") ∷ unset (codes "log") ∷ unset (codes "references") ∷ [])) (file, work.Serve (record { port = 8080; count = 1000; is_logged = false; page = Some (hosts_of_names []); most_ahead = None; needs_references = false; operator_field = None; name = None; language = None })) (serve_any_ahead_taken name file h) (serve_any_ahead_rows name file h) refl
 
 serve_references_taken : (name file : Text) → begins_with_dash file ≡ false → fault_of the_program (name ∷ codes "serve" ∷ file ∷ codes "8080" ∷ codes "1000" ∷ codes "--references" ∷ []) ≡ []
 unfolding clap_on_literals
@@ -179,9 +179,9 @@ serve_references_rows : (name file : Text) → begins_with_dash file ≡ false �
 unfolding clap_on_literals
 serve_references_rows name file h = rw (not_dashes file h, not_long file h, not_short file h) (refl {a = Some (codes "serve", rows_of_serve file (given (codes "references") (codes "true" ∷ []) ∷ unset (codes "log") ∷ unset (codes "page") ∷ []))})
 
-serve_references : (name file : Text) → begins_with_dash file ≡ false → Mean (name ∷ codes "serve" ∷ file ∷ codes "8080" ∷ codes "1000" ∷ codes "--references" ∷ []) (file, work.Serve (record { port = 8080; count = 1000; is_logged = false; page = None; most_ahead = None; needs_references = true; operator_field = None }))
+serve_references : (name file : Text) → begins_with_dash file ≡ false → Mean (name ∷ codes "serve" ∷ file ∷ codes "8080" ∷ codes "1000" ∷ codes "--references" ∷ []) (file, work.Serve (record { port = 8080; count = 1000; is_logged = false; page = None; most_ahead = None; needs_references = true; operator_field = None; name = None; language = None }))
 unfolding work_in number_in
-serve_references name file h = by_rows (name ∷ codes "serve" ∷ file ∷ codes "8080" ∷ codes "1000" ∷ codes "--references" ∷ []) (rows_of_serve file (given (codes "references") (codes "true" ∷ []) ∷ unset (codes "log") ∷ unset (codes "page") ∷ [])) (file, work.Serve (record { port = 8080; count = 1000; is_logged = false; page = None; most_ahead = None; needs_references = true; operator_field = None })) (serve_references_taken name file h) (serve_references_rows name file h) refl
+serve_references name file h = by_rows (name ∷ codes "serve" ∷ file ∷ codes "8080" ∷ codes "1000" ∷ codes "--references" ∷ []) (rows_of_serve file (given (codes "references") (codes "true" ∷ []) ∷ unset (codes "log") ∷ unset (codes "page") ∷ [])) (file, work.Serve (record { port = 8080; count = 1000; is_logged = false; page = None; most_ahead = None; needs_references = true; operator_field = None; name = None; language = None })) (serve_references_taken name file h) (serve_references_rows name file h) refl
 
 serve_operator_field_taken : (name file : Text) → begins_with_dash file ≡ false → fault_of the_program (name ∷ codes "serve" ∷ file ∷ codes "8080" ∷ codes "1000" ∷ codes "--operator-field" ∷ codes "X-Operator" ∷ []) ≡ []
 unfolding clap_on_literals
@@ -191,9 +191,9 @@ serve_operator_field_rows : (name file : Text) → begins_with_dash file ≡ fal
 unfolding clap_on_literals
 serve_operator_field_rows name file h = rw (not_dashes file h, not_long file h, not_short file h) (refl {a = Some (codes "serve", rows_of_serve file (given (codes "operator-field") (codes "X-Operator" ∷ []) ∷ unset (codes "log") ∷ unset (codes "page") ∷ unset (codes "references") ∷ []))})
 
-serve_operator_field : (name file : Text) → begins_with_dash file ≡ false → Mean (name ∷ codes "serve" ∷ file ∷ codes "8080" ∷ codes "1000" ∷ codes "--operator-field" ∷ codes "X-Operator" ∷ []) (file, work.Serve (record { port = 8080; count = 1000; is_logged = false; page = None; most_ahead = None; needs_references = false; operator_field = Some (codes "X-Operator") }))
+serve_operator_field : (name file : Text) → begins_with_dash file ≡ false → Mean (name ∷ codes "serve" ∷ file ∷ codes "8080" ∷ codes "1000" ∷ codes "--operator-field" ∷ codes "X-Operator" ∷ []) (file, work.Serve (record { port = 8080; count = 1000; is_logged = false; page = None; most_ahead = None; needs_references = false; operator_field = Some (codes "X-Operator"); name = None; language = None }))
 unfolding work_in number_in
-serve_operator_field name file h = by_rows (name ∷ codes "serve" ∷ file ∷ codes "8080" ∷ codes "1000" ∷ codes "--operator-field" ∷ codes "X-Operator" ∷ []) (rows_of_serve file (given (codes "operator-field") (codes "X-Operator" ∷ []) ∷ unset (codes "log") ∷ unset (codes "page") ∷ unset (codes "references") ∷ [])) (file, work.Serve (record { port = 8080; count = 1000; is_logged = false; page = None; most_ahead = None; needs_references = false; operator_field = Some (codes "X-Operator") })) (serve_operator_field_taken name file h) (serve_operator_field_rows name file h) refl
+serve_operator_field name file h = by_rows (name ∷ codes "serve" ∷ file ∷ codes "8080" ∷ codes "1000" ∷ codes "--operator-field" ∷ codes "X-Operator" ∷ []) (rows_of_serve file (given (codes "operator-field") (codes "X-Operator" ∷ []) ∷ unset (codes "log") ∷ unset (codes "page") ∷ unset (codes "references") ∷ [])) (file, work.Serve (record { port = 8080; count = 1000; is_logged = false; page = None; most_ahead = None; needs_references = false; operator_field = Some (codes "X-Operator"); name = None; language = None })) (serve_operator_field_taken name file h) (serve_operator_field_rows name file h) refl
 
 field_with_colon_rows : (name file : Text) → begins_with_dash file ≡ false → subcommand_of the_program (name ∷ codes "serve" ∷ file ∷ codes "8080" ∷ codes "1000" ∷ codes "--operator-field" ∷ codes "X:" ∷ []) ≡ Some (codes "serve", rows_of_serve file (given (codes "operator-field") (codes "X:" ∷ []) ∷ unset (codes "log") ∷ unset (codes "page") ∷ unset (codes "references") ∷ []))
 unfolding clap_on_literals
@@ -202,6 +202,34 @@ field_with_colon_rows name file h = rw (not_dashes file h, not_long file h, not_
 field_with_colon : (name file : Text) → begins_with_dash file ≡ false → Break (name ∷ codes "serve" ∷ file ∷ codes "8080" ∷ codes "1000" ∷ codes "--operator-field" ∷ codes "X:" ∷ []) argument.OperatorField
 unfolding work_in number_in
 field_with_colon name file h = broken_by_rows (name ∷ codes "serve" ∷ file ∷ codes "8080" ∷ codes "1000" ∷ codes "--operator-field" ∷ codes "X:" ∷ []) (rows_of_serve file (given (codes "operator-field") (codes "X:" ∷ []) ∷ unset (codes "log") ∷ unset (codes "page") ∷ unset (codes "references") ∷ [])) argument.OperatorField (field_with_colon_rows name file h) refl
+
+serve_presented_taken : (name file : Text) → begins_with_dash file ≡ false → fault_of the_program (name ∷ codes "serve" ∷ file ∷ codes "8080" ∷ codes "1000" ∷ codes "--name" ∷ codes "Bakery 1" ∷ codes "--language" ∷ codes "de" ∷ []) ≡ []
+unfolding clap_on_literals
+serve_presented_taken name file h = rw (not_dashes file h, not_long file h, not_short file h) (refl {a = []})
+
+serve_presented_rows : (name file : Text) → begins_with_dash file ≡ false → subcommand_of the_program (name ∷ codes "serve" ∷ file ∷ codes "8080" ∷ codes "1000" ∷ codes "--name" ∷ codes "Bakery 1" ∷ codes "--language" ∷ codes "de" ∷ []) ≡ Some (codes "serve", rows_of_serve file (given (codes "name") (codes "Bakery 1" ∷ []) ∷ given (codes "language") (codes "de" ∷ []) ∷ unset (codes "log") ∷ unset (codes "page") ∷ unset (codes "references") ∷ []))
+unfolding clap_on_literals
+serve_presented_rows name file h = rw (not_dashes file h, not_long file h, not_short file h) (refl {a = Some (codes "serve", rows_of_serve file (given (codes "name") (codes "Bakery 1" ∷ []) ∷ given (codes "language") (codes "de" ∷ []) ∷ unset (codes "log") ∷ unset (codes "page") ∷ unset (codes "references") ∷ []))})
+
+serve_presented : (name file : Text) → begins_with_dash file ≡ false → Mean (name ∷ codes "serve" ∷ file ∷ codes "8080" ∷ codes "1000" ∷ codes "--name" ∷ codes "Bakery 1" ∷ codes "--language" ∷ codes "de" ∷ []) (file, work.Serve (record { port = 8080; count = 1000; is_logged = false; page = None; most_ahead = None; needs_references = false; operator_field = None; name = Some (codes "Bakery 1"); language = Some (codes "de") }))
+unfolding work_in number_in
+serve_presented name file h = by_rows (name ∷ codes "serve" ∷ file ∷ codes "8080" ∷ codes "1000" ∷ codes "--name" ∷ codes "Bakery 1" ∷ codes "--language" ∷ codes "de" ∷ []) (rows_of_serve file (given (codes "name") (codes "Bakery 1" ∷ []) ∷ given (codes "language") (codes "de" ∷ []) ∷ unset (codes "log") ∷ unset (codes "page") ∷ unset (codes "references") ∷ [])) (file, work.Serve (record { port = 8080; count = 1000; is_logged = false; page = None; most_ahead = None; needs_references = false; operator_field = None; name = Some (codes "Bakery 1"); language = Some (codes "de") })) (serve_presented_taken name file h) (serve_presented_rows name file h) refl
+
+other_language_rows : (name file : Text) → begins_with_dash file ≡ false → subcommand_of the_program (name ∷ codes "serve" ∷ file ∷ codes "8080" ∷ codes "1000" ∷ codes "--language" ∷ codes "fr" ∷ []) ≡ Some (codes "serve", rows_of_serve file (given (codes "language") (codes "fr" ∷ []) ∷ unset (codes "log") ∷ unset (codes "page") ∷ unset (codes "references") ∷ []))
+unfolding clap_on_literals
+other_language_rows name file h = rw (not_dashes file h, not_long file h, not_short file h) (refl {a = Some (codes "serve", rows_of_serve file (given (codes "language") (codes "fr" ∷ []) ∷ unset (codes "log") ∷ unset (codes "page") ∷ unset (codes "references") ∷ []))})
+
+other_language : (name file : Text) → begins_with_dash file ≡ false → Break (name ∷ codes "serve" ∷ file ∷ codes "8080" ∷ codes "1000" ∷ codes "--language" ∷ codes "fr" ∷ []) argument.Language
+unfolding work_in number_in
+other_language name file h = broken_by_rows (name ∷ codes "serve" ∷ file ∷ codes "8080" ∷ codes "1000" ∷ codes "--language" ∷ codes "fr" ∷ []) (rows_of_serve file (given (codes "language") (codes "fr" ∷ []) ∷ unset (codes "log") ∷ unset (codes "page") ∷ unset (codes "references") ∷ [])) argument.Language (other_language_rows name file h) refl
+
+empty_name_rows : (name file : Text) → begins_with_dash file ≡ false → subcommand_of the_program (name ∷ codes "serve" ∷ file ∷ codes "8080" ∷ codes "1000" ∷ codes "--name" ∷ codes "" ∷ []) ≡ Some (codes "serve", rows_of_serve file (given (codes "name") (codes "" ∷ []) ∷ unset (codes "log") ∷ unset (codes "page") ∷ unset (codes "references") ∷ []))
+unfolding clap_on_literals
+empty_name_rows name file h = rw (not_dashes file h, not_long file h, not_short file h) (refl {a = Some (codes "serve", rows_of_serve file (given (codes "name") (codes "" ∷ []) ∷ unset (codes "log") ∷ unset (codes "page") ∷ unset (codes "references") ∷ []))})
+
+empty_name : (name file : Text) → begins_with_dash file ≡ false → Break (name ∷ codes "serve" ∷ file ∷ codes "8080" ∷ codes "1000" ∷ codes "--name" ∷ codes "" ∷ []) argument.Name
+unfolding work_in number_in
+empty_name name file h = broken_by_rows (name ∷ codes "serve" ∷ file ∷ codes "8080" ∷ codes "1000" ∷ codes "--name" ∷ codes "" ∷ []) (rows_of_serve file (given (codes "name") (codes "" ∷ []) ∷ unset (codes "log") ∷ unset (codes "page") ∷ unset (codes "references") ∷ [])) argument.Name (empty_name_rows name file h) refl
 
 field_wants : (name file : Text) → begins_with_dash file ≡ false → AreWrong (name ∷ codes "serve" ∷ file ∷ codes "8080" ∷ codes "1000" ∷ codes "--operator-field" ∷ [])
 unfolding clap_on_literals
@@ -262,6 +290,9 @@ serve_words = record {
   serve_operator_field = serve_operator_field;
   field_with_colon = field_with_colon;
   field_wants = field_wants;
+  serve_presented = serve_presented;
+  other_language = other_language;
+  empty_name = empty_name;
   serve_hosts = serve_hosts;
   host_alone = host_alone;
   host_with_port = host_with_port;

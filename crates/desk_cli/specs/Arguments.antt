@@ -18,6 +18,8 @@ name_of argument.Count = codes "count"
 name_of argument.Host = codes "host"
 name_of argument.Ahead = codes "ahead"
 name_of argument.OperatorField = codes "operator-field"
+name_of argument.Name = codes "name"
+name_of argument.Language = codes "language"
 
 abbrev pub rule_text : Argument → List ℕ
 rule_text argument.Word = codes "the word is one of init, run, import, trace, record, verify and serve"
@@ -33,6 +35,8 @@ rule_text argument.Count = codes "COUNT is a whole number from 1 to 1000000"
 rule_text argument.Host = codes "NAME of --host is 1 to 60 of a to z, 0 to 9, - and ., the first no - and no .; 8 of them at most, and only with --page"
 rule_text argument.Ahead = codes "SECONDS of --ahead is a whole number from 0 to 1000000"
 rule_text argument.OperatorField = codes "NAME of --operator-field is 1 to 60 of A to Z, a to z, 0 to 9 and -"
+rule_text argument.Name = codes "TEXT of --name is 1 to 60 characters from the space to ~"
+rule_text argument.Language = codes "LANGUAGE of --language is en or de"
 
 -- the lines that refuse arguments with such a value
 abbrev pub refusal_text : Argument → List ℕ

@@ -102,6 +102,20 @@ operator_field_rule = record (new_rule (codes "operator-field")) {
   value_names = 1;
 }
 
+-- the name that the page shows
+abbrev pub name_rule : Rule
+name_rule = record (new_rule (codes "name")) {
+  long = Some (codes "name");
+  value_names = 1;
+}
+
+-- the language of the page
+abbrev pub language_rule : Rule
+language_rule = record (new_rule (codes "language")) {
+  long = Some (codes "language");
+  value_names = 1;
+}
+
 -- ---- subcommands
 
 -- a subcommand that takes a file
@@ -125,8 +139,12 @@ port_app = with_rule (with_rule (with_rule (word_app (codes "serve")) port_rule)
 abbrev pub page_app : App
 page_app = with_rule (with_rule (with_rule port_app page_rule) host_rule) ahead_rule
 
+-- the same with the arguments about commands
+abbrev pub commands_app : App
+commands_app = with_rule (with_rule page_app references_rule) operator_field_rule
+
 abbrev pub serve_app : App
-serve_app = with_rule (with_rule page_app references_rule) operator_field_rule
+serve_app = with_rule (with_rule commands_app name_rule) language_rule
 
 -- the program's name alone: the subcommand `help` has no meaning of its own
 abbrev pub bare_program : App

@@ -11,7 +11,7 @@ use Rattle.plant_trace.specs.{Direction}
 use Rattle.plant_trace.specs.declared.direction.Direction.TheVariants.{Back, Forward}
 use Rattle.desk_cli.specs.Arguments.{name_of, refusal_text}
 use Rattle.desk_cli.specs.CommandLine.{the_program, greatest_ahead, greatest_port, most_connections}
-use Rattle.desk_cli.specs.FieldNames.{is_field_name}
+use Rattle.desk_cli.specs.FieldNames.{is_field_name, is_language, is_shown_name}
 use Rattle.desk_cli.specs.Hosts.{hosts_of, hosts_of_names}
 use Rattle.desk_cli.specs.declared.hosts.Hosts.{Hosts}
 use Rattle.desk_cli.specs.declared.argument.Argument.{Argument}
@@ -120,6 +120,8 @@ serving_in rows = do
   page ← page_in rows
   ahead ← if_named argument.Ahead (number_in 0 greatest_ahead) (first_of (codes "ahead") rows)
   operator_field ← if_named argument.OperatorField (only is_field_name) (first_of (codes "operator-field") rows)
+  name ← if_named argument.Name (only is_shown_name) (first_of (codes "name") rows)
+  language ← if_named argument.Language (only is_language) (first_of (codes "language") rows)
   Ok (record {
     port = port;
     count = count;
@@ -128,6 +130,8 @@ serving_in rows = do
     most_ahead = most_ahead_of (is_some page) ahead;
     needs_references = is_set (first_of (codes "references") rows);
     operator_field = operator_field;
+    name = name;
+    language = language;
   })
 
 -- ---- subcommands

@@ -97,37 +97,45 @@ pub record ImportWords : Type 0 where
 pub record ServeWords : Type 0 where
   pub serve_port : (name file : Text) → begins_with_dash file ≡ false
       → Mean (name ∷ codes "serve" ∷ file ∷ codes "8080" ∷ codes "1000" ∷ [])
-      (file, work.Serve (record { port = 8080; count = 1000; is_logged = false; page = None; most_ahead = None; needs_references = false; operator_field = None }))
+      (file, work.Serve (record { port = 8080; count = 1000; is_logged = false; page = None; most_ahead = None; needs_references = false; operator_field = None; name = None; language = None }))
   -- each request is noted only where that is asked for
   pub serve_logged : (name file : Text) → begins_with_dash file ≡ false
       → Mean (name ∷ codes "serve" ∷ file ∷ codes "8080" ∷ codes "1000" ∷ codes "--log" ∷ [])
-      (file, work.Serve (record { port = 8080; count = 1000; is_logged = true; page = None; most_ahead = None; needs_references = false; operator_field = None }))
+      (file, work.Serve (record { port = 8080; count = 1000; is_logged = true; page = None; most_ahead = None; needs_references = false; operator_field = None; name = None; language = None }))
   -- the page is served where that is asked for, under further names where these are given
   pub serve_page : (name file : Text) → begins_with_dash file ≡ false
       → Mean (name ∷ codes "serve" ∷ file ∷ codes "8080" ∷ codes "1000" ∷ codes "--page" ∷ [])
-      (file, work.Serve (record { port = 8080; count = 1000; is_logged = false; page = Some (hosts_of_names []); most_ahead = Some 300; needs_references = false; operator_field = None }))
+      (file, work.Serve (record { port = 8080; count = 1000; is_logged = false; page = Some (hosts_of_names []); most_ahead = Some 300; needs_references = false; operator_field = None; name = None; language = None }))
   pub serve_hosts : (name file : Text) → begins_with_dash file ≡ false
       → Mean (name ∷ codes "serve" ∷ file ∷ codes "8080" ∷ codes "1000" ∷ codes "--page" ∷ codes "--host" ∷ codes "a.example" ∷ codes "--host" ∷ codes "b" ∷ [])
-      (file, work.Serve (record { port = 8080; count = 1000; is_logged = false; page = Some (hosts_of_names (codes "a.example" ∷ codes "b" ∷ [])); most_ahead = Some 300; needs_references = false; operator_field = None }))
+      (file, work.Serve (record { port = 8080; count = 1000; is_logged = false; page = Some (hosts_of_names (codes "a.example" ∷ codes "b" ∷ [])); most_ahead = Some 300; needs_references = false; operator_field = None; name = None; language = None }))
   -- a command may be ahead by as many seconds as are said, and with 0 by any
   pub serve_ahead : (name file : Text) → begins_with_dash file ≡ false
       → Mean (name ∷ codes "serve" ∷ file ∷ codes "8080" ∷ codes "1000" ∷ codes "--ahead" ∷ codes "60" ∷ [])
-      (file, work.Serve (record { port = 8080; count = 1000; is_logged = false; page = None; most_ahead = Some 60; needs_references = false; operator_field = None }))
+      (file, work.Serve (record { port = 8080; count = 1000; is_logged = false; page = None; most_ahead = Some 60; needs_references = false; operator_field = None; name = None; language = None }))
   pub serve_any_ahead : (name file : Text) → begins_with_dash file ≡ false
       → Mean (name ∷ codes "serve" ∷ file ∷ codes "8080" ∷ codes "1000" ∷ codes "--page" ∷ codes "--ahead" ∷ codes "0" ∷ [])
-      (file, work.Serve (record { port = 8080; count = 1000; is_logged = false; page = Some (hosts_of_names []); most_ahead = None; needs_references = false; operator_field = None }))
+      (file, work.Serve (record { port = 8080; count = 1000; is_logged = false; page = Some (hosts_of_names []); most_ahead = None; needs_references = false; operator_field = None; name = None; language = None }))
   -- references are needed where that is asked for, and a field says whose commands a request may bring where one is named
   pub serve_references : (name file : Text) → begins_with_dash file ≡ false
       → Mean (name ∷ codes "serve" ∷ file ∷ codes "8080" ∷ codes "1000" ∷ codes "--references" ∷ [])
-      (file, work.Serve (record { port = 8080; count = 1000; is_logged = false; page = None; most_ahead = None; needs_references = true; operator_field = None }))
+      (file, work.Serve (record { port = 8080; count = 1000; is_logged = false; page = None; most_ahead = None; needs_references = true; operator_field = None; name = None; language = None }))
   pub serve_operator_field : (name file : Text) → begins_with_dash file ≡ false
       → Mean (name ∷ codes "serve" ∷ file ∷ codes "8080" ∷ codes "1000" ∷ codes "--operator-field" ∷ codes "X-Operator" ∷ [])
-      (file, work.Serve (record { port = 8080; count = 1000; is_logged = false; page = None; most_ahead = None; needs_references = false; operator_field = Some (codes "X-Operator") }))
+      (file, work.Serve (record { port = 8080; count = 1000; is_logged = false; page = None; most_ahead = None; needs_references = false; operator_field = Some (codes "X-Operator"); name = None; language = None }))
   -- the name of a field has no colon, and comes after its option
   pub field_with_colon : (name file : Text) → begins_with_dash file ≡ false
       → Break (name ∷ codes "serve" ∷ file ∷ codes "8080" ∷ codes "1000" ∷ codes "--operator-field" ∷ codes "X:" ∷ []) argument.OperatorField
   pub field_wants : (name file : Text) → begins_with_dash file ≡ false
       → AreWrong (name ∷ codes "serve" ∷ file ∷ codes "8080" ∷ codes "1000" ∷ codes "--operator-field" ∷ [])
+  -- the name that the page shows has a character at least, and its language is English or German
+  pub serve_presented : (name file : Text) → begins_with_dash file ≡ false
+      → Mean (name ∷ codes "serve" ∷ file ∷ codes "8080" ∷ codes "1000" ∷ codes "--name" ∷ codes "Bakery 1" ∷ codes "--language" ∷ codes "de" ∷ [])
+      (file, work.Serve (record { port = 8080; count = 1000; is_logged = false; page = None; most_ahead = None; needs_references = false; operator_field = None; name = Some (codes "Bakery 1"); language = Some (codes "de") }))
+  pub other_language : (name file : Text) → begins_with_dash file ≡ false
+      → Break (name ∷ codes "serve" ∷ file ∷ codes "8080" ∷ codes "1000" ∷ codes "--language" ∷ codes "fr" ∷ []) argument.Language
+  pub empty_name : (name file : Text) → begins_with_dash file ≡ false
+      → Break (name ∷ codes "serve" ∷ file ∷ codes "8080" ∷ codes "1000" ∷ codes "--name" ∷ codes "" ∷ []) argument.Name
   -- a name is given with the page alone, has no port and no upper case, and comes after its option
   pub host_alone : (name file : Text) → begins_with_dash file ≡ false
       → Break (name ∷ codes "serve" ∷ file ∷ codes "8080" ∷ codes "1000" ∷ codes "--host" ∷ codes "a" ∷ []) argument.Host

@@ -33,6 +33,10 @@ pub enum Argument {
     Ahead,
     /// The name of the field of a head that says whose commands a request may bring.
     OperatorField,
+    /// The name that the page shows.
+    Name,
+    /// The language of the page.
+    Language,
 }
 
 impl Argument {
@@ -54,6 +58,8 @@ impl Argument {
             Argument::Host => "host",
             Argument::Ahead => "ahead",
             Argument::OperatorField => "operator-field",
+            Argument::Name => "name",
+            Argument::Language => "language",
         }
     }
 }
@@ -85,6 +91,8 @@ impl fmt::Display for Argument {
             Argument::OperatorField => {
                 "NAME of --operator-field is 1 to 60 of A to Z, a to z, 0 to 9 and -"
             }
+            Argument::Name => "TEXT of --name is 1 to 60 characters from the space to ~",
+            Argument::Language => "LANGUAGE of --language is en or de",
         })
     }
 }

@@ -5,6 +5,7 @@ ghost use Rattle.desk_cli.specs.CommandLine.{ahead_rule, bare_program, import_ap
 ghost use Rattle.desk_cli.specs.CommandLine.{log_rule, page_rule, port_app, port_rule, record_app};
 ghost use Rattle.desk_cli.specs.CommandLine.{serve_app, the_program, trace_app, required_rule};
 ghost use Rattle.desk_cli.specs.CommandLine.{operator_field_rule, page_app, references_rule};
+ghost use Rattle.desk_cli.specs.CommandLine.{commands_app, language_rule, name_rule};
 ghost use Rattle.desk_cli.specs.CommandLine.{word_app, at_rule, by_rule, reference_rule};
 ghost use Rattle.desk_cli.specs.CommandLine.{with_taking, with_report_words, IsLocal};
 
@@ -142,6 +143,27 @@ fn operator_field_argument<'a>(alloc: Global) -> Arg<'a>
         )
 }
 
+/// `--name TEXT`, the name that the page shows.
+fn name_argument<'a>(alloc: Global) -> Arg<'a>
+    ensures rule { rule_of result ≡ name_rule }
+    ensures local { result.global ≡ false }
+{
+    Arg::new(alloc, "name").long("name").value_name("TEXT").help(
+        "The name of the desk that the page shows: 1 to 60 characters of ASCII",
+    )
+}
+
+/// `--language LANGUAGE`, the language of the page.
+fn language_argument<'a>(alloc: Global) -> Arg<'a>
+    ensures rule { rule_of result ≡ language_rule }
+    ensures local { result.global ≡ false }
+{
+    Arg::new(alloc, "language")
+        .long("language")
+        .value_name("LANGUAGE")
+        .help("The language of the page, en or de; the browser's unless said")
+}
+
 /// The subcommand `name`, which takes the name of a file alone.
 fn word_command<'a>(
     alloc: Global,
@@ -275,7 +297,7 @@ fn with_page<'a>(alloc: Global, word: Command<'a>) -> Result<Command<'a>, AllocE
         .arg(ahead_argument(alloc))
 }
 
-/// The subcommand `serve` without the arguments about commands.
+/// The subcommand `serve` without the arguments about commands and without what the page shows.
 fn page_command<'a>(alloc: Global) -> Result<Command<'a>, AllocError>
     ensures app { IfOk result (λ c. app_of c ≡ page_app) }
     ensures local { IfOk result (λ c. IsLocal c) }
@@ -283,14 +305,24 @@ fn page_command<'a>(alloc: Global) -> Result<Command<'a>, AllocError>
     with_page(alloc, port_command(alloc)?)
 }
 
-/// The subcommand `serve`.
-fn serve_command<'a>(alloc: Global) -> Result<Command<'a>, AllocError>
-    ensures app { IfOk result (λ c. app_of c ≡ serve_app) }
+/// The subcommand `serve` without what the page shows.
+fn commands_command<'a>(alloc: Global) -> Result<Command<'a>, AllocError>
+    ensures app { IfOk result (λ c. app_of c ≡ commands_app) }
     ensures local { IfOk result (λ c. IsLocal c) }
 {
     page_command(alloc)?
         .arg(references_argument(alloc))?
         .arg(operator_field_argument(alloc))
+}
+
+/// The subcommand `serve`.
+fn serve_command<'a>(alloc: Global) -> Result<Command<'a>, AllocError>
+    ensures app { IfOk result (λ c. app_of c ≡ serve_app) }
+    ensures local { IfOk result (λ c. IsLocal c) }
+{
+    commands_command(alloc)?
+        .arg(name_argument(alloc))?
+        .arg(language_argument(alloc))
 }
 
 /// The program with no subcommand.

@@ -10,7 +10,7 @@ use crate::hosts::{Hosts, hosts_of};
 use crate::meaning::{Serving, Task, Words, Work};
 use crate::values::{
     direction_at, id_at, moment_at, number_at, optional_field_name_at, optional_id_at,
-    optional_number_at, text_at, value_of, values_of,
+    optional_language_at, optional_name_at, optional_number_at, text_at, value_of, values_of,
 };
 use clap::ArgMatches;
 
@@ -115,6 +115,8 @@ fn serving_in(matches: &ArgMatches<'_>) -> Result<Serving, Argument>
     let page = page_in(matches)?;
     let ahead = optional_number_at(matches, Argument::Ahead, GREATEST_AHEAD)?;
     let operator_field = optional_field_name_at(matches, Argument::OperatorField)?;
+    let name = optional_name_at(matches, Argument::Name)?;
+    let language = optional_language_at(matches, Argument::Language)?;
     Ok(Serving {
         port: port as u16,
         count: count as u32,
@@ -123,6 +125,8 @@ fn serving_in(matches: &ArgMatches<'_>) -> Result<Serving, Argument>
         most_ahead: most_ahead_of(page.is_some(), ahead),
         needs_references: is_set(matches, "references"),
         operator_field,
+        name,
+        language,
     })
 }
 

@@ -74,6 +74,10 @@ pub struct Serving {
     /// The name of the field of a head that says whose commands the request may bring, of letters, digits and `-`; `None` where it may bring
     /// anyone's.
     pub operator_field: Option<Text>,
+    /// The name that the page shows, which isn't empty; `None` where it shows none.
+    pub name: Option<Text>,
+    /// The language of the page, `en` or `de` (RFC 5646); `None` where it is the browser's.
+    pub language: Option<Text>,
 }
 
 /// Why the arguments give nothing to do.

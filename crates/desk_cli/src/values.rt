@@ -3,11 +3,11 @@ ghost use Rattle.std.specs.Prelude.{◌≡◌, ◌<◌, ◌^◌, ◌≤◌, IfOk
 ghost use Rattle.clap.specs.Words.{all_of, first_of, found_of, rows_of};
 ghost use Rattle.plant_base.specs.{greatest_moment, is_id, is_text, only};
 ghost use Rattle.desk_cli.specs.Arguments.{name_of};
-ghost use Rattle.desk_cli.specs.FieldNames.{is_field_name};
+ghost use Rattle.desk_cli.specs.FieldNames.{is_field_name, is_language, is_shown_name};
 ghost use Rattle.desk_cli.specs.Meaning.{direction_of, if_named, number_in, value_in};
 
 use crate::argument::Argument;
-use crate::field_names::read_field_name;
+use crate::field_names::{read_field_name, read_language, read_shown_name};
 use clap::ArgMatches;
 use plant_base::{GREATEST_MOMENT, Id, Moment, Text};
 use plant_trace::Direction;
@@ -89,6 +89,40 @@ pub(crate) fn optional_field_name_at(
     match value_of(matches, argument.name()) {
         Some(text) => match read_field_name(text) {
             Some(name) => Ok(Some(name)),
+            None => Err(argument),
+        },
+        None => Ok(None),
+    }
+}
+
+/// The name of a desk that an argument is, where it is given.
+pub(crate) fn optional_name_at(
+    matches: &ArgMatches<'_>,
+    argument: Argument,
+) -> Result<Option<Text>, Argument>
+    ensures { result ≡ if_named argument (only is_shown_name)
+        (first_of (name_of argument) (rows_of (found_of matches.now))) }
+{
+    match value_of(matches, argument.name()) {
+        Some(text) => match read_shown_name(text) {
+            Some(name) => Ok(Some(name)),
+            None => Err(argument),
+        },
+        None => Ok(None),
+    }
+}
+
+/// The language that an argument names, where it is given.
+pub(crate) fn optional_language_at(
+    matches: &ArgMatches<'_>,
+    argument: Argument,
+) -> Result<Option<Text>, Argument>
+    ensures { result ≡ if_named argument (only is_language)
+        (first_of (name_of argument) (rows_of (found_of matches.now))) }
+{
+    match value_of(matches, argument.name()) {
+        Some(text) => match read_language(text) {
+            Some(language) => Ok(Some(language)),
             None => Err(argument),
         },
         None => Ok(None),

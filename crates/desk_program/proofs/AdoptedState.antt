@@ -4,7 +4,7 @@ use Rattle.sqlite.specs.State as store
 use Rattle.sqlite.specs.State.{Survives}
 use Rattle.sqlite.specs.Tree.{Trees}
 use Rattle.plant_base.specs.{State, opening}
-use Rattle.plant_desk.specs.{States}
+use Rattle.plant_keeper.specs.{States}
 use Rattle.plant_desk_store.specs.{IsNewlyOpened, AdoptedFrom, HasForeignTables, IsDurablyAt, KeepsForeignTables, Represents}
 use Rattle.desk_program.specs.{WasHonest}
 

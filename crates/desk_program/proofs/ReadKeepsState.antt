@@ -2,7 +2,7 @@
 use Rattle.std.proofs.Common.{◌≡◌, ℕ, Result, Ok, Err, subst, sym, IfOk}
 use Rattle.plant_base.specs.{State}
 use Rattle.plant_answers.specs.{answer}
-use Rattle.plant_desk.specs.{States, Asks}
+use Rattle.plant_keeper.specs.{States, Asks}
 use Rattle.plant_questions.specs.{Answer, DeskFault, Question}
 use Rattle.plant_questions.specs.declared.question.Answer.TheVariants as A
 use Rattle.plant_questions.specs.declared.question.Question.TheVariants as Q

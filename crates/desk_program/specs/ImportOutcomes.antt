@@ -3,7 +3,7 @@ use Rattle.std.specs.Prelude.{◌≡◌, ◌⊎◌, ℕ, List, Bool, true, false
 use Rattle.std.specs.Io.KnownBytes.{Appends}
 use Rattle.sqlite.specs.State as store
 use Rattle.plant_base.specs.{Agrees, State, newest_schema, OrderRow}
-use Rattle.plant_desk.specs.{States}
+use Rattle.plant_keeper.specs.{States}
 use Rattle.plant_questions.specs.declared.reply.DeskFault.TheVariants as desk
 use Rattle.plant_desk_store.specs.{Represents, HasCrashStates}
 use Rattle.plant_orders.specs.{import, orders_of, csv_text, FaultOfFile, CsvFault, ImportMetadata, OrdersFault}

@@ -4,7 +4,7 @@ use Rattle.std.specs.Io.KnownBytes.{Consumes}
 use Rattle.sqlite.specs.State as store
 use Rattle.sqlite.specs.State.{HasCleanDisk}
 use Rattle.plant_base.specs.{State, newest_schema}
-use Rattle.plant_desk.specs.{States}
+use Rattle.plant_keeper.specs.{States}
 use Rattle.plant_desk_store.specs.{IsNewlyOpened, AdoptedFrom, HasRefused, KeepsForeignTables, Represents, HasCrashStates, AdoptFault}
 use Rattle.plant_text.specs.{Ends, CrashStatesOfRun, RunEnd}
 use Rattle.desk_program.specs.Faults.{adopt_fault, outcome_of}

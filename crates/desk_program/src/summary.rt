@@ -2,11 +2,11 @@
 ghost use Rattle.std.specs.Prelude.{◌≡◌, ◌≢◌, false, IfOk, IfErr};
 ghost use Rattle.desk_program.specs.Faults.{IsPrintFault};
 ghost use Rattle.plant_base.specs.{State};
-ghost use Rattle.plant_desk.specs.{IsSameDesk};
+ghost use Rattle.plant_keeper.specs.{IsSameDesk};
 ghost use Rattle.desk_program.specs.Faults as spec;
 
 use crate::fault::ProgramFault;
-use plant_desk::Keeper;
+use plant_keeper::Keeper;
 use plant_questions::{Answer, DeskFault, Question};
 
 /// The schema of a keeper's tables, and how many commands it has accepted.

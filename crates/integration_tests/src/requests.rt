@@ -4,7 +4,7 @@ use crate::stores::{desk_over, in_memory};
 use crate::streams::{Narrow, Trickle};
 use plant_desk::{Answer, Keeper, ListKeeper, Question};
 use plant_http::{ServeFault, Served, serve_one};
-use plant_http_requests::{Profile, Routes, Terms};
+use plant_http_requests::{Now, Profile, Routes, Terms};
 use std::alloc::AllocGlobal;
 use std::process::Abort;
 use std::test::Fail;
@@ -119,7 +119,9 @@ fn served<K: Keeper>(
             operator_field: None,
             needs_references: false,
             most_ahead: None,
-            now: None,
+            name: &None,
+            language: &None,
+            now: Now::unknown(),
         },
         request,
         &mut writer,

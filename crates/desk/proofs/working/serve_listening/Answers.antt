@@ -1,6 +1,6 @@
 use Rattle.std.proofs.Common.{[], arith}
 use Rattle.sqlite.specs.Held.{state}
-use Rattle.plant_desk.proofs.SameDesk.{same_itself}
+use Rattle.plant_keeper.proofs.SameDesk.{same_itself}
 use Rattle.plant_desk_store.specs.{HasCrashStates, Represents}
 use Rattle.desk_server.proofs.ServedRequests.{open_served}
 use Rattle.desk.proofs.working.serve_listening.Goals as goal

@@ -26,9 +26,10 @@ PAGE, SOURCES = TOP / "page", TOP / "crates/desk_page/src"
 SCRIPTS = {
     "desk.js": (
         "texts", "amounts", "moments", "ids", "addresses", "csv", "cursors", "recipes", "records", "words", "scans", "barcode", "taking", "sorting", "figures", "groups", "balances", "names",
-        "elements", "store", "language", "typed", "who", "focus", "scanner", "parts", "questions", "frame", "saved", "lots", "forms", "paper", "label", "book",
+        "elements", "store", "language", "typed", "who", "focus", "scanner", "parts", "questions", "frame", "sorts", "saved", "lots", "forms", "paper", "label", "book",
+        "plots", "alarm", "help",
     ),
-    "views.js": ("plots", "alarm", "help", "today", "genealogy", "record", "sheet", "inputs", "balance", "stands", "release", "planner", "shift",
+    "views.js": ("today", "genealogy", "record", "sheet", "inputs", "balance", "stands", "release", "lacks", "chooser", "planner", "shift",
         "goods", "places", "warehouse", "quality", "finder", "start",
     ),
 }

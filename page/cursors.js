@@ -12,6 +12,7 @@ const LISTS = {
   classes: ["classes", (it) => it.class],
   definitions: ["definitions", (it) => it.def],
   recipes: ["recipes", (it) => `${it.recipe}.${it.version}`],
+  commands: ["commands", (it) => it.seq],
   movements: ["movements", (it) => `${it.seq}.${it.line}`],
 };
 

@@ -1,6 +1,8 @@
 // Figures of a desk as it is: what is late, what is short, how much of what was asked was made, and what there was of a material day by day.
 
 import { dayOf } from "./moments.js";
+import { scaled } from "./recipes.js";
+import { inAll } from "./sorting.js";
 
 // The day so many days after another one, or before it.
 export function dayAfter(day, days) {
@@ -36,6 +38,12 @@ export function shortage(demands, made, stocks) {
     all.set(it.def, { ...one, short: one.asked - there });
   }
   return [...all.values()].filter((it) => it.short > 0).sort((a, b) => (a.from < b.from ? -1 : a.from > b.from ? 1 : a.def < b.def ? -1 : 1));
+}
+
+// What an order of a size wants more of than is free, by the lines of its recipe.
+export function lacksOf({ lines, base }, size, stocks) {
+  const asked = inAll(lines.filter((it) => it.kind === "in").map((it) => ({ def: it.def, unit: it.unit || "", amount: scaled(it.qty, base, size) })));
+  return asked.map((it) => ({ def: it.def, unit: it.unit, short: it.asked - (stocks.get(it.def)?.usable || 0) })).filter((it) => it.short > 0);
 }
 
 // How much of a product was asked and booked, in percent; null where nothing was asked.

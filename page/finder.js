@@ -7,7 +7,7 @@ import { at, h } from "./elements.js";
 import { desk } from "./questions.js";
 
 // What can be shown, by how the desk's answer names it.
-const KINDS = { lots: "lot", batches: "batch", orders: "order", recalls: "recall", definitions: "material" };
+const KINDS = { lots: "lot", batches: "batch", orders: "order", recalls: "recall", definitions: "material", recipes: "recipe" };
 
 // For how many milliseconds nothing more is typed before the desk is asked, so that no scan asks.
 const REST = 250;

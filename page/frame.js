@@ -165,11 +165,18 @@ function drawStatus() {
   tellStatus(isAhead ? "warn" : "", desk.seq === 0 ? t`no booking yet` : isAhead ? t`${count}, ahead: ${last}` : t`${count}, last ${last}`);
   at("stand").title = isAhead ? t`The desk's last booking is later than its machine's clock. Bookings take the desk's moment.` : "";
 }
+
+// The name that the desk is served under, null where it has none.
+export let deskName = null;
+export function present(name) {
+  deskName = name;
+  if (name !== null) at("desk").textContent = name;
+}
 const TITLES = { today: "today^view", planner: "planner^view", shift: "shift^view", warehouse: "warehouse^view", quality: "quality^view", board: "board^view" };
 function markRole(name) {
   for (const it of document.querySelectorAll("header nav a")) {
     if (it.hash === "#" + name) it.setAttribute("aria-current", "page");
     else it.removeAttribute("aria-current");
   }
-  document.title = t`Desk: ${t(TITLES[name])}`;
+  document.title = `${deskName ?? t`Desk`}: ${t(TITLES[name])}`;
 }

@@ -1,11 +1,12 @@
-// The language of the page: the one that was chosen in this browser, else the first that the browser wants and the page has, else English.
+// The language of the page: the one that was chosen in this browser, else the one that the desk is served in, else the first that the browser wants and
+// the page has, else English.
 
 import { sayAs, t } from "./texts.js";
 import { keep, kept } from "./store.js";
 
 // The languages, each with its own name; and where the desk has the texts of those that the modules don't have.
 const NAMES = { en: "English", de: "Deutsch" }, TABLES = { de: "/german.json" };
-const wanted = () => [kept("language", null), ...navigator.languages.map((it) => it.split("-")[0])].find((it) => Object.hasOwn(NAMES, it)) || "en";
+const wanted = (served) => [kept("language", null), served, ...navigator.languages.map((it) => it.split("-")[0])].find((it) => Object.hasOwn(NAMES, it)) || "en";
 
 // The language in which texts are said.
 let spoken = "en";
@@ -17,8 +18,8 @@ export const numbersOf = () => (spoken === "en" ? navigator.language : spoken);
 
 // Has the texts loaded that are wanted, and says those that are in the page already, also the number that the style has on each page of paper. Without an
 // answer they stay English.
-export async function loadTexts() {
-  const language = wanted(), table = TABLES[language];
+export async function loadTexts(served) {
+  const language = wanted(served), table = TABLES[language];
   if (!table) return;
   try {
     const reply = await fetch(table, { redirect: "error" });

@@ -28,7 +28,7 @@ export const choice = (name, options, on, pick) => h("div", { class: "choice", r
 
 // Places of the view that is shown keep its filters.
 const hashOf = (place) => `#${placeFrom(location.hash, place)}`;
-export const link = (place, text) => h("a", { href: hashOf(place) }, text);
+export const link = (place, text, more) => h("a", { href: hashOf(place), ...more }, text);
 export const lotLink = (id, sub) => [link("quality/lot/" + id, id), sub ? "/" + sub : ""];
 export const batchLink = (id) => link("shift/" + id, id);
 export function go(...parts) { location.hash = hashOf(parts.filter(Boolean).join("/")); }

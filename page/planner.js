@@ -3,10 +3,9 @@
 import { t } from "./texts.js";
 import { grouped } from "./amounts.js";
 import { dated, day } from "./moments.js";
-import { withFilter } from "./addresses.js";
 import { LINES_EXAMPLE, LINES_HINT, linesText, recipeLines, withPath } from "./recipes.js";
 import { FILE_FAULTS, wordOf } from "./words.js";
-import { ORDER_SORTS, filteredOrders, sortedOrders } from "./sorting.js";
+import { filteredOrders, sortedOrders } from "./sorting.js";
 import { dialog, h } from "./elements.js";
 import {
   batchLink, button, buttonsCell, card, cell, fact, facts, firstSteps, go, idCell, link, listed, none, notice, numberCell, pill, row, table,
@@ -14,9 +13,12 @@ import {
 import { csvButton } from "./saved.js";
 import { desk, want, whyNot } from "./questions.js";
 import { dropFilter, filterChoice, filterOf, more, setFilter, setText, show, textOf } from "./frame.js";
-import { amountField, halfField, idField, noteField, noted, openDialog, say, selectField } from "./forms.js";
+import { listOrder } from "./sorts.js";
+import { amountField, halfField, idField, noteField, noted, openDialog, ownField, say, selectField } from "./forms.js";
 import { act, bookAtOnce, bookingForm } from "./book.js";
 import { release, releaseSeveral } from "./release.js";
+import { wantsOf } from "./lacks.js";
+import { chooseLines } from "./chooser.js";
 
 const ORDER_STATES = ["open", "released", "finished", "cancelled"], WITHDRAWN = ["hidden", "shown"];
 
@@ -25,9 +27,9 @@ export async function planner([id]) {
   const orders = await desk.orders(orderState, wantedOrders(orderState));
   const approved = await desk.recipes("approved", want("recipes")), drafts = await desk.recipes("draft", want("recipes"));
   const withdrawn = isWithdrawnShown ? await desk.recipes("withdrawn", want("recipes")) : [];
-  const one = id && (await desk.foundOrder(id));
+  const one = id && (await desk.foundOrder(id)), wants = await wantsOf(orders, orderState === "open");
   return ["side",
-    h("div", { class: "stack" }, desk.seq === 0 && firstSteps(), id && orderCard(id, one), listed(ordersCard(orders, orderState, approved))),
+    h("div", { class: "stack" }, desk.seq === 0 && firstSteps(), id && orderCard(id, one), listed(ordersCard(orders, orderState, approved, wants))),
     listed(h("div", { class: "stack" }, takeInCard(approved), recipesCard(approved, drafts, isWithdrawnShown && withdrawn)))];
 }
 
@@ -37,17 +39,19 @@ const MOST_AT_ONCE = 50;
 
 // Where orders are filtered or sorted otherwise than they come, so many of them are read.
 const MOST_READ = 2000;
-const isAsTheyCome = () => !textOf("recipe") && !textOf("text") && typed === null && filterOf("sort", ORDER_SORTS) === "due" && filterOf("way", WAYS) === "up";
+const isAsTheyCome = () => !textOf("recipe") && !textOf("text") && typed === null && listOrder(SORT_HEADS).isAsItComes;
 const wantedOrders = (state) => (isAsTheyCome() ? want("orders " + state) : Math.max(MOST_READ, want("orders " + state)));
-const WAYS = ["up", "down"];
 
-function ordersCard(orders, orderState, approved) {
+// The heads by which orders are sorted; at first by their due dates.
+const SORT_HEADS = { due: "Due", order: "Order", priority: "#Priority", recipe: "Recipe", size: "#Size" };
+
+function ordersCard(orders, orderState, approved, wants) {
   const recipes = new Map(approved.map((it) => [`${it.recipe}.${it.version}`, it])), recipeOf = (it) => recipes.get(`${it.recipe}.${it.version}`);
-  const sort = filterOf("sort", ORDER_SORTS), way = filterOf("way", WAYS), isFiltered = Boolean(textOf("recipe") || typedText());
-  const meant = filteredOrders(orders, textOf("recipe"), typedText(), (it) => recipeOf(it)?.title || ""), sorted = sortedOrders(meant, sort, way === "down");
+  const order = listOrder(SORT_HEADS), isFiltered = Boolean(textOf("recipe") || typedText());
+  const meant = filteredOrders(orders, textOf("recipe"), typedText(), (it) => recipeOf(it)?.title || ""), sorted = sortedOrders(meant, order.by, order.isBack);
   const isOpen = orderState === "open", bar = chosenBar();
   for (const it of [...chosenOrders.keys()]) if (!isOpen || !orders.some((one) => one.order === it)) chosenOrders.delete(it);
-  const rows = sorted.map((it) => orderRow(it, orderState, recipeOf(it), () => drawChosenOrders(bar)));
+  const rows = sorted.map((it) => orderRow(it, orderState, recipeOf(it), wants, () => drawChosenOrders(bar)));
   drawChosenOrders(bar);
   const late = MAY_BE_LATE.includes(orderState) ? orders.filter((it) => it.due < desk.today()).length : 0;
   const states = filterChoice(t`State of the orders`, "orders", ORDER_STATES);
@@ -56,23 +60,13 @@ function ordersCard(orders, orderState, approved) {
     : t`No order is ${wordOf(orderState)}.`;
   const isAll = late === orders.length && orders.more, heads = ["Order", "Due", "#Priority", "Recipe", "#Size", ""];
   return card(t`Orders`, [late > 0 && pill(isAll ? t`${grouped(late)} and more late` : t`${grouped(late)} late`, "bad"), csv, states],
-    orders.length > 0 && filterRow(orders, sort, way), table(isOpen ? ["Choose", ...heads] : heads, rows, without, false, sortsOf(sort, way)),
+    orders.length > 0 && filterRow(orders, order), table(isOpen ? ["Choose", ...heads] : heads, rows, without, false, order.heads),
     more(orders, "orders " + orderState, firstOrders), isOpen && bar);
 }
 
 // What is said where there are more orders than are read.
 const firstOrders = (count) => (isAsTheyCome() ? t`The first ${count} by their due dates are shown, and there are more.`
   : t`The first ${count} by their due dates are looked through; those that fit are shown, and there are more.`);
-
-// The heads by which orders are sorted, and the same as a field where heads aren't seen.
-const SORT_HEADS = { order: "Order", due: "Due", priority: "#Priority", recipe: "Recipe", size: "#Size" };
-const SORTS = { order: "by order", due: "by due date", priority: "by priority", recipe: "by recipe", size: "by size" };
-function setSort(by, way) {
-  const other = withFilter(`#${withFilter(location.hash || "#planner", "sort", by === "due" ? null : by)}`, "way", way === "up" ? null : way);
-  location.hash = `#${other}`;
-}
-const sortsOf = (sort, way) => Object.fromEntries(Object.entries(SORT_HEADS).map(([by, head]) => [head, { way: by === sort ? way : null,
-  press: () => setSort(by, by === sort && way === "up" ? "down" : "up") }]));
 
 // What is typed into the filter and isn't in the address yet: a pause of so many milliseconds puts it there.
 const TYPING = 300;
@@ -83,18 +77,16 @@ function typeText(value) {
   clearTimeout(typing);
   typing = setTimeout(() => { typed = null; setText("text", value.trim(), true); }, TYPING);
 }
-function filterRow(orders, sort, way) {
+function filterRow(orders, order) {
   const recipe = textOf("recipe"), ids = [...new Set([...orders.map((it) => it.recipe), ...(recipe ? [recipe] : [])])].sort();
   const option = (value, label, isOn) => h("option", { value, selected: isOn }, label);
   const text = h("input", { type: "search", id: "ordertext", maxlength: 60, placeholder: t`Filter by a text`, "aria-label": t`Filter the orders by a text`,
     autocomplete: "off", oninput: (event) => typeText(event.target.value) });
   text.value = typedText();
-  const sorts = Object.entries(SORTS).flatMap(([by, words]) => WAYS.map((it) => option(`${by}.${it}`, `${t(words)}, ${t(it)}`,
-    by === sort && it === way)));
   return h("div", { class: "body row filter" }, text,
     h("select", { id: "orderrecipe", "aria-label": t`Filter the orders by a recipe`, onchange: (event) => setText("recipe", event.target.value) },
       option("", t`all recipes`, !recipe), ids.map((it) => option(it, it, it === recipe))),
-    h("select", { id: "ordersort", class: "phone", "aria-label": t`Sort the orders`, onchange: (event) => setSort(...event.target.value.split(".")) }, sorts),
+    order.field(t`Sort the orders`),
     (recipe || typedText()) && button(t`No filter`, () => { typed = null; clearTimeout(typing); setText("text", ""); setText("recipe", ""); }));
 }
 
@@ -118,7 +110,7 @@ function orderBox(order, isOff, told) {
   const name = t`Choose ${order.order} to be released`;
   return h("input", { type: "checkbox", "aria-label": name, checked: chosenOrders.has(order.order), disabled: isOff, onchange: choose });
 }
-function orderRow(order, orderState, recipe, told) {
+function orderRow(order, orderState, recipe, wants, told) {
   const isOpen = orderState === "open", name = `${order.recipe} ${order.version}`;
   const title = recipe && recipe.title ? [recipe.title, " ", h("span", { class: "soft small" }, name)] : name;
   const mark = isOpen && !recipe && [" ", pill(t`not approved`, "warn")];
@@ -126,7 +118,8 @@ function orderRow(order, orderState, recipe, told) {
   const buttons = isOpen ? open : orderState !== "cancelled" && button(t`Batch`, () => showBatchOf(order.order));
   return row(order.order, [isOpen && cell(orderBox(order, !recipe, told)), idCell(link("planner/" + order.order, order.order)), cell(due(order, orderState)),
     h("td", { class: "num" }, order.priority),
-    cell(title, mark), numberCell(order.size), buttonsCell(buttons)].filter(Boolean));
+    cell(title, mark, wants.lack(order)), h("td", { class: "num" }, h("span", {}, grouped(order.size), " ", wants.unit(order))),
+    buttonsCell(buttons)].filter(Boolean));
 }
 const MAY_BE_LATE = ["open", "released"];
 function due(order, state) {
@@ -177,6 +170,7 @@ function oneOrder(approved) {
   const recipes = approved.map((it) => ({ value: `${it.recipe}.${it.version}`, label: label(it) }));
   const priorities = [9, 8, 7, 6, 5, 4, 3, 2, 1].map((it) => ({ value: it, label: it }));
   const fields = [
+    say(t`An order can't be changed: a slip is cancelled, and taken in anew under another id.`),
     idField("order", t`New order`), selectField("recipe", t`Recipe`, recipes), { ...amountField(), name: "size", label: t`Size` },
     halfField("due", "date", t`Due`, { value: day(new Date(Date.now() + 7 * 86400e3)) }),
     halfField("priority", "select", t`Priority, 9 before 1`, { value: 5, options: priorities }),
@@ -235,16 +229,18 @@ function withdraw(it) {
 }
 
 function newRecipe(values = {}) {
+  const chooser = h("div", { class: "lines", role: "group", "aria-label": t`Lines, one by one` });
   const fields = [
     say(t`A draft can't be changed: a slip wants another version.`), halfField("recipe", "id", t`Recipe`),
     halfField("version", "amount", t`Version, 1 to 999`, { value: 1, more: { pattern: "0*[1-9][0-9]{0,2}" } }),
     halfField("title", "text", t`Title`), halfField("product", "id", t`Product, a material`),
     { name: "base", kind: "amount", label: t`Base size, for which the lines are written` },
-    halfField("min", "amount", t`Least size of an order`), halfField("max", "amount", t`Greatest size`),
+    halfField("min", "amount", t`Least size of an order`), halfField("max", "amount", t`Greatest size`), ownField(chooser),
     { name: "lines", kind: "lines", label: t`Lines`, hint: t(LINES_HINT), more: { placeholder: LINES_EXAMPLE } },
   ].map((it) => ({ ...it, value: values[it.name] ?? it.value }));
   bookingForm(values.recipe ? t`New version of recipe ${values.recipe}` : t`New recipe`, fields, t`Make a draft`, ({ lines: text, ...header }, tell) => {
     const [lines, wrong] = recipeLines(text);
     return wrong || tell(t`Recipe ${header.recipe} ${header.version} drafted`, { do: "add_recipe", ...header, lines });
   });
+  chooseLines(chooser, dialog.querySelector("[name=lines]"), desk.named().catch(() => []));
 }

@@ -37,7 +37,8 @@ export async function quality([kind, id]) {
 // Who gave which command, also an approval or the end of a hold.
 function commandsCard(commands) {
   const rows = commands.map((it) => row(it.seq, [numberCell(it.seq), momentCell(it.at), cell(it.by), cell(commandWord(it.do)), cell(it.note), cell(it.ref)]));
-  return card(t`The last commands with references`, null, table(["#Number", "When", "By", "What", "Note", "Reference"], rows, t`None.`));
+  const csv = csvButton("commands", "commands", () => desk.commands(Infinity));
+  return card(t`The last commands with references`, commands.length > 0 && csv, table(["#Number", "When", "By", "What", "Note", "Reference"], rows, t`None.`));
 }
 // The holds of all lots.
 function holdsCard(holds) {
@@ -120,13 +121,14 @@ async function recallCards(id, recalls) {
     none(t`It is lifted, and reaches nothing any more.`)), stands];
   const since = open ? [fact(t`Since`, moment(open.at)), fact(t`By`, open.by), open.note && fact(t`Why`, open.note)] : [];
   const lots = it.nodes.filter((node) => node.lot), batches = it.nodes.filter((node) => node.batch);
-  const links = (kind, ids) => h("div", { class: "body row" }, ids.map((one) => link(`quality/${kind}/${one}`, one)));
+  const links = (kind, ids, named) => h("div", { class: "body row" }, ids.map((one) => link(`quality/${kind}/${one}`, one, named && { "aria-label": named(one) })));
   return [
     card(t`Recall ${id}`, [pill(t`open`, "bad"), print, button(t`Lift`, () => lift(it), null, { "aria-label": t`Lift the recall ${id}` })], printedLine(),
       facts(fact(t`Lot`, lotLink(it.lot)), since, fact(t`Reaches`, `${counted(lots.length, "lot", "lots")}, ${counted(batches.length, "batch", "batches")}`))),
     await runningCard(batches), stands,
     card(t`${counted(lots.length, "lot", "lots")} reached`, null, links("lot", lots.map((node) => node.lot))),
-    card(t`${counted(batches.length, "batch", "batches")} reached`, null, links("batch", batches.map((node) => node.batch))),
+    card(t`${counted(batches.length, "batch", "batches")} reached`, null, links("batch", batches.map((node) => node.batch),
+      (one) => t`${one}: record and genealogy`)),
   ];
 }
 

@@ -126,6 +126,11 @@ export const desk = {
   foundBatch: (id) => found("/v1/batches/" + id),
   foundOrder: (id) => found("/v1/orders/" + id),
 
+  // The name that it is served under, and the language of its page, each null where none is said; also where it doesn't answer.
+  async presented() {
+    try { return await askedAnew("/v1/health"); } catch { return { name: null, language: null }; }
+  },
+
   // The operator whom a login names, null where the desk looks at no login.
   loggedIn: async () => (await found("/v1/operator"))?.operator ?? null,
 
@@ -176,6 +181,7 @@ export const desk = {
     const behind = this.seq > count ? "/" + (this.seq - count) : "";
     return [...(await asked("/v1/lists/commands" + behind)).commands].reverse();
   },
+  commands: (wanted) => list("commands", wanted),
   allHolds: (wanted) => list("all_holds", wanted),
   recalls: (wanted) => list("recalls", wanted),
   liftedRecalls: (wanted) => list("lifted_recalls", wanted),

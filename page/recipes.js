@@ -30,6 +30,17 @@ const LINE_TEXTS = { in: (it) => `in ${it.def} ${it.qty}`, out: (it) => `out ${i
   phase: (it) => `phase ${it.unit} ${it.oper} ${it.phase}` };
 export const linesText = (lines) => lines.map((it) => LINE_TEXTS[it.kind](it)).join("\n");
 
+// Lines that are being written, each with its kind and as many words as that has, ids in capitals; the value of a parameter is one word. Another line has no
+// kind, and itself as its word. And such a line as it is written.
+const COUNTS = { in: 2, out: 2, par: 2, phase: 3 };
+export const lineWords = (text) => text.split("\n").map((it) => it.trim()).filter(Boolean).map((line) => {
+  const [kind, ...rest] = line.split(/\s+/), count = Object.hasOwn(COUNTS, kind) && COUNTS[kind];
+  const words = kind === "par" ? [rest[0], rest.slice(1).join(" ")] : rest;
+  const word = (it, k) => (k === 0 || kind === "phase" ? it.toUpperCase() : it);
+  return count && words.length <= count ? { kind, words: Array.from({ length: count }, (_, k) => word(words[k] || "", k)) } : { kind: null, words: [line] };
+});
+export const lineOf = ({ kind, words }) => (kind ? [kind, ...words].join(" ").trim() : words[0]);
+
 // An amount of a recipe for a base size, scaled to another size as the desk scales it: halves are rounded up.
 export function scaled(amount, base, size) {
   const [q, b, s] = [amount, base, size].map(BigInt);

@@ -9,7 +9,7 @@ import { h, operator } from "./elements.js";
 import { button, card, cell, fact, facts, idCell, link, numberCell, overCell, pill, row, table } from "./parts.js";
 import { rowsOfRecord } from "./csv.js";
 import { csvButton } from "./saved.js";
-import { filterChoice, filterOf } from "./frame.js";
+import { deskName, filterChoice, filterOf } from "./frame.js";
 
 const FORMS_OF_RECORD = ["tables", "text"];
 export function recordCard(batch, ...more) {
@@ -28,7 +28,8 @@ export function recordCard(batch, ...more) {
 export const printedLine = () => h("p", { class: "printed" });
 addEventListener("beforeprint", () => {
   for (const it of document.querySelectorAll(".printed")) {
-    it.textContent = t`Printed ${moment(desk.time(), true)} by ${operator.value.trim() || t`nobody named`}, of the web page of the desk at ${location.host}.`;
+    const printed = t`Printed ${moment(desk.time(), true)} by ${operator.value.trim() || t`nobody named`}, of the web page of the desk at ${location.host}.`;
+    it.textContent = deskName === null ? printed : `${deskName}. ${printed}`;
   }
 });
 

@@ -8,6 +8,7 @@ import { isMaterial, procedureOf } from "./recipes.js";
 import { lotOf } from "./scans.js";
 import { MAY_CLOSE, MOVES, STATES, TONES, wordOf } from "./words.js";
 import { openInputs } from "./taking.js";
+import { sortedBy, upTo } from "./sorting.js";
 import { at, h } from "./elements.js";
 import {
   batchLink, button, buttonsCell, card, cell, fact, firstSteps, idCell, link, listed, lotLink, none, notice, numberCell, overCell, pill, row, table,
@@ -15,6 +16,7 @@ import {
 import { csvButton } from "./saved.js";
 import { desk, want } from "./questions.js";
 import { filterChoice, filterOf, isNarrow, more, setText, show, textOf } from "./frame.js";
+import { listOrder } from "./sorts.js";
 import { partsToOffer } from "./lots.js";
 import { amountField, lotField, newLotField, noteField, noted, openForm, placeField, say, selectField, textField } from "./forms.js";
 import { act, bookingForm } from "./book.js";
@@ -27,25 +29,36 @@ const WHICH = ["open", "closed"];
 let batchShown = null;
 
 export async function shift([id]) {
-  const areClosedShown = filterOf("batches", WHICH) === "closed";
-  const unit = areClosedShown ? "" : textOf("unit"), wanted = unit ? Math.max(MOST_READ_BATCHES, want("batches")) : want("batches");
-  const read = areClosedShown ? await desk.closedBatches(want("closed")) : (await desk.batches(wanted)).sort(byDueDate);
-  const batches = Object.assign(read.filter((it) => !unit || it.phase_unit === unit), { more: read.more });
+  const areClosedShown = filterOf("batches", WHICH) === "closed", unit = areClosedShown ? "" : textOf("unit"), list = areClosedShown ? "closed" : "batches";
+  const order = listOrder(areClosedShown ? CLOSED_HEADS : OPEN_HEADS), read = await readBatches(areClosedShown, order);
+  const batches = upTo(sortedBatches(read.filter((it) => !unit || it.phase_unit === unit), order), want(list), read.more);
   const shown = id || (!isNarrow() && batches[0] && batches[0].batch);
   if (!shown || batchShown?.batch !== shown) batchShown = null;
   const rows = batches.map((it) => batchRow(it, it.batch === shown, areClosedShown));
   const noneOpen = unit ? t`No batch has its next phase on ${unit}.` : t`No batch is open. The planner releases an order, which makes its batch.`;
-  const all = h("div", { class: "batches" }, table(["Batch", "State", "#Due"], rows, areClosedShown ? t`No batch is closed.` : noneOpen, true));
+  const all = h("div", { class: "batches" }, table(["Batch", "State", "#Due"], rows, areClosedShown ? t`No batch is closed.` : noneOpen, true,
+    order.heads));
   const which = filterChoice(t`Which batches`, "batches", WHICH);
   const csv = csvButton("batches", `batches-${areClosedShown ? "closed" : "open"}`, async () => (await (areClosedShown ? desk.closedBatches(Infinity)
     : desk.batches(Infinity))).map((it) => ({ ...it, ...it.planned, closed: areClosedShown })));
   const without = card(t`No batch`, null, none(t`Once an order is released, its batch is started, booked and closed here.`));
   const one = shown ? await batchCards(shown) : desk.seq === 0 ? firstSteps() : !isNarrow() && without;
-  return ["list", listed(card(t`Batches`, [csv, which], !areClosedShown && unitRow(read, unit), all, more(batches, areClosedShown ? "closed" : "batches"))),
+  return ["list", listed(card(t`Batches`, [csv, which], !areClosedShown && unitRow(read, unit), all, more(batches, list))),
     h("div", { class: "stack" }, one)];
 }
-// The units of the next phases, of which one can be chosen: what is left is the unit's worklist. So many batches are read then.
-const MOST_READ_BATCHES = 2000;
+
+// By what batches are sorted: open ones at first by the due dates of their orders, closed ones as the desk has them. So many are read for it.
+const OPEN_HEADS = { due: "#Due", batch: "Batch", state: "State" }, CLOSED_HEADS = { batch: "Batch", state: "State", due: "#Due" }, MOST_READ_BATCHES = 2000;
+function readBatches(areClosed, { isAsItComes }) {
+  const wanted = want(areClosed ? "closed" : "batches"), many = Math.max(MOST_READ_BATCHES, wanted);
+  return areClosed ? desk.closedBatches(isAsItComes ? wanted : many) : desk.batches(many);
+}
+function sortedBatches(batches, { by, isBack }) {
+  if (by !== "due") return sortedBy(batches, by === "batch" ? (it) => it.batch : (it) => wordOf(it.state), isBack);
+  return [...batches].sort((one, other) => (isBack ? -1 : 1) * byDueDate(one, other));
+}
+
+// The units of the next phases, of which one can be chosen: what is left is the unit's worklist.
 function unitRow(batches, unit) {
   const units = [...new Set([...batches.map((it) => it.phase_unit), unit].filter(Boolean))].sort(), option = (value, label) => h("option", { value,
     selected: value === unit }, label);

@@ -2,9 +2,20 @@
 
 import { dated } from "./moments.js";
 
-// What orders are sorted by; at first by their due date, and of one day those of a higher priority first.
-export const ORDER_SORTS = ["due", "order", "priority", "recipe", "size"];
 const compared = (a, b) => (a < b ? -1 : a > b ? 1 : 0);
+
+// Items in the order of what `of` gives of each, numbers by their size and words by their letters, or the other way round; those that are alike stay as they
+// come.
+export const sortedBy = (items, of, isBack) => [...items].sort((a, b) => (isBack ? -1 : 1) * compared(of(a), of(b)));
+
+// What parts of lots are sorted by: when their lots came, or their lot, material, place or amount.
+const OF_PARTS = { came: (it) => it.at ?? 0, lot: (it) => it.lot, material: (it) => it.def, place: (it) => it.place, stock: (it) => it.stock };
+export const partValue = (by) => OF_PARTS[by];
+
+// The first so many of items, and whether there are others: since more are there than these, or more than were read.
+export const upTo = (items, count, isMore) => Object.assign(items.slice(0, count), { more: isMore || items.length > count });
+
+// What orders are sorted by; at first by their due date, and of one day those of a higher priority first.
 const bySooner = (a, b) => compared(a.due, b.due) || b.priority - a.priority;
 const BY = {
   due: bySooner, order: (a, b) => compared(a.order, b.order), priority: (a, b) => b.priority - a.priority, size: (a, b) => a.size - b.size,

@@ -3,9 +3,11 @@
 import { t } from "./texts.js";
 import { counted, grouped } from "./amounts.js";
 import { TONES, wordOf } from "./words.js";
+import { partValue, sortedBy } from "./sorting.js";
 import { h } from "./elements.js";
 import { keep, kept } from "./store.js";
 import { batchLink, card, cell, idCell, link, lotLink, numberCell, pill, row, table } from "./parts.js";
+import { listOrder } from "./sorts.js";
 import { csvButton } from "./saved.js";
 import { desk } from "./questions.js";
 
@@ -32,8 +34,10 @@ function totals(parts, units) {
 }
 
 // The table of the goods of `of`, a lot or a recall; `nodes` are what its lot leads to, each with its unit.
+const STAND_HEADS = { place: "Place", lot: "Lot", material: "Material", stock: "#Amount" };
 export function standsCard(of, lots, nodes) {
-  const units = new Map(nodes.filter((it) => it.lot).map((it) => [it.lot, it.unit])), parts = partsToSee(lots);
+  const order = listOrder(STAND_HEADS), parts = sortedBy(partsToSee(lots), partValue(order.by), order.isBack);
+  const units = new Map(nodes.filter((it) => it.lot).map((it) => [it.lot, it.unit]));
   const seen = new Set(kept(nameOfTicks(of), [])), told = h("span", { class: "soft small" });
   const count = () => { told.textContent = t`${grouped(parts.filter((it) => seen.has(it.key)).length)} of ${counted(parts.length, "row", "rows")} ticked`; };
   const ticked = (it, isOn) => {
@@ -49,7 +53,8 @@ export function standsCard(of, lots, nodes) {
   const rows = parts.map((it) => row(it.key, cells(it)));
   const csv = csvButton("stands", `goods-of-${of.split(" ")[1]}`, () => parts.map((it) => ({ ...it, unit: units.get(it.lot), seen: seen.has(it.key) })));
   return card(t`Where its goods are`, parts.length > 0 && [told, csv],
-    table(["Seen", "Place", "Lot", "Material", "#Amount", "On hold", "Recalled"], rows, t`Nothing of it is in stock.`),
+    parts.length > 1 && h("div", { class: "body row filter" }, order.field(t`Sort the goods`)),
+    table(["Seen", "Place", "Lot", "Material", "#Amount", "On hold", "Recalled"], rows, t`Nothing of it is in stock.`, false, order.heads),
     parts.length > 0 && [h("h3", {}, t`In all`), table(["Material", "#Amount", "#Parts"], totals(parts, units), "", true)]);
 }
 

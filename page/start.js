@@ -11,7 +11,7 @@ import { focusAgain, isWriting } from "./focus.js";
 import { listenToScans, onceAlone, tone } from "./scanner.js";
 import { button, go, notice } from "./parts.js";
 import { desk, whyNot } from "./questions.js";
-import { VIEWS, isDayOver, isDrawnBefore, place, show, tellStatus } from "./frame.js";
+import { VIEWS, isDayOver, isDrawnBefore, place, present, show, tellStatus } from "./frame.js";
 import { focusBehind, openForm } from "./forms.js";
 import { drawWaiting, sending } from "./book.js";
 import { namedSo, offerBegun } from "./finder.js";
@@ -19,19 +19,21 @@ import { help } from "./help.js";
 import { board, today } from "./today.js";
 import { chosenOrders, planner } from "./planner.js";
 import { focusNextPhase, scanAtBatch, shift } from "./shift.js";
+import { placeNamed } from "./places.js";
 import { chosen, warehouse } from "./warehouse.js";
 import { quality } from "./quality.js";
 
 // How many materials of one name are said.
 const MOST_NAMED = 10;
 
-// Finds a lot, a batch, an order, a recall or a material by its id, a supplier's code being that of a lot, and shows it where the role looks at such
-// things. Says whether it did.
+// Finds a lot, a batch, an order, a recall, a material or a recipe by its id, a supplier's code being that of a lot, or else a place by its name, and shows it
+// where the role looks at such things. Says whether it did.
 async function find(code) {
   const { lot: id } = lotOf(code);
-  if (!id) return miss(t`An id has ${t(ID_RULE)}.`);
-  if (await showFound(id)) return true;
-  return miss(t`There is no lot, no batch, no order, no recall and no material ${id}.`);
+  if (id && await showFound(id)) return true;
+  const where = await placeNamed(code);
+  if (where) { location.hash = `#warehouse/place/${encodeURIComponent(where)}`; return true; }
+  return miss(id ? t`There is no lot, no batch, no order, no recall, no material, no recipe and no place ${id}.` : t`An id has ${t(ID_RULE)}.`);
 }
 function miss(why) { notice("bad", why); return false; }
 
@@ -52,7 +54,9 @@ async function showFound(id) {
       : await desk.foundOrder(id) ? ["planner", id] : await desk.recall(id) ? ["quality", "recall", id]
         : await desk.definition(id) ? ["warehouse", id] : null;
   if (where) go(...where);
-  return where !== null;
+  else if ((await desk.find(id)).recipes.includes(id)) location.hash = `#planner?recipe=${id}`;
+  else return false;
+  return true;
 }
 at("find").addEventListener("input", offerBegun);
 at("finder").addEventListener("submit", async (event) => {
@@ -126,7 +130,9 @@ addEventListener("desk-named", drawWaiting);
 addEventListener("hashchange", () => { if (dialog.open && !sending) dialog.close(); show(); });
 
 async function begin() {
-  await loadTexts();
+  const { name, language } = await desk.presented();
+  await loadTexts(language);
+  present(name);
   drawWaiting();
   try { nameByLogin(await desk.loggedIn()); } catch (error) { notice("bad", whyNot(error)); }
   show();

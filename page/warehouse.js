@@ -8,11 +8,13 @@ import {
   button, buttonsCell, card, cell, fact, facts, firstSteps, go, idCell, link, listed, lotLink, none, numberCell, pill, row, table,
 } from "./parts.js";
 import { partsOfLots } from "./csv.js";
+import { partValue, sortedBy, upTo } from "./sorting.js";
 import { csvButton } from "./saved.js";
 import { desk, want } from "./questions.js";
 import { isNarrow, more, show } from "./frame.js";
+import { listOrder } from "./sorts.js";
 import { amountField, idField, lotField, newLotField, noteField, noted, openForm, placeField, say, selectField, textField } from "./forms.js";
-import { wholeLot } from "./lots.js";
+import { partsOfLot, wholeLot } from "./lots.js";
 import { showLabels } from "./label.js";
 import { bookingForm } from "./book.js";
 import { moveGoods, scrap, split } from "./goods.js";
@@ -33,7 +35,10 @@ export async function warehouse([id, lotId]) {
   if (!def) return ["list", side, desk.seq === 0 ? firstSteps() : !all.length && without];
   const known = all.find((it) => it.def === def) || (await desk.stockOf(def));
   if (!known) return ["list", side, card(t`Lots`, null, none(t`There is no such material.`))];
-  const lotsOf = lotsCard(known, await desk.stock(def, want("lots " + def))), one = await wholeLot(lotId);
+  const order = listOrder(LOT_HEADS), wanted = want("lots " + def);
+  const lots = await desk.stock(def, order.isAsItComes ? wanted : Math.max(MOST_SORTED, wanted));
+  const others = Object.assign(lots.filter((it) => it.lot !== lotId), { more: lots.more });
+  const lotsOf = lotsCard(known, others, order), one = await wholeLot(lotId);
   return ["list", side, h("div", { class: "stack" }, lotId && oneLotCard(lotId, one, known), lotId ? listed(lotsOf) : lotsOf)];
 }
 
@@ -68,12 +73,19 @@ function newMaterial(classes) {
   (v, tell) => tell(t`Material ${v.def} made`, { do: "add_definition", def: v.def, class: v.group, name: v.name, unit: v.unit }));
 }
 
-function lotsCard(known, lots) {
+// By what the parts of a material's lots are sorted, at first by their age; so many of its oldest lots are read to be sorted otherwise.
+const LOT_HEADS = { came: "Came", lot: "Lot", place: "Place", stock: "#Stock" }, MOST_SORTED = 2000;
+const withState = (lot) => partsOfLot(lot).map((it) => ({ ...it, held: lot.held, recalled: lot.recalled }));
+
+function lotsCard(known, lots, order) {
   const amount = (name, n) => fact(name, grouped(n), " ", known.unit);
   const bar = h("div", { class: "chosen", hidden: true }, h("span", {}), button(t`Merge\u2026`, () => merge(known), "main"),
     button(t`Choose none`, () => { chosen.clear(); show(); }));
   const told = () => drawChosen(bar);
-  const rows = lots.flatMap((lot) => partRows(lot, known, told));
+  const parts = sortedBy(lots.flatMap(withState), partValue(order.by), order.isBack), name = "lots " + known.def;
+  const shown = order.isAsItComes ? parts : upTo(parts, want(name), lots.more), rows = shown.map((it) => partRow(it, known, told));
+  const further = order.isAsItComes ? more(lots, name, (count) => t`The first ${count} lots, the oldest first, are shown, and there are more.`)
+    : more(shown, name, (count) => t`The first ${count} parts of the ${grouped(lots.length)} oldest lots are shown, and there are more.`);
   told();
   const title = h("span", {}, known.name || known.def, known.name && [" ", h("span", { class: "soft small" }, known.def)]);
   const without = t`There is no ${known.def} in stock. Receive a lot, or have one produced. A lot that is used up is found by its id.`;
@@ -81,7 +93,8 @@ function lotsCard(known, lots) {
     .map((it) => ({ ...it, def: known.def, unit: known.unit })));
   return card(title, [csv, button(t`Receive a lot`, () => receive(known), "main")],
     facts(amount(t`Free`, known.usable), amount(t`On hold`, known.held), amount(t`Recalled`, known.recalled), fact(t`Lots with stock`, grouped(known.lots))),
-    table(PART_HEADS, rows, without), more(lots, "lots " + known.def, (count) => t`The first ${count} lots, the oldest first, are shown, and there are more.`), bar);
+    rows.length > 1 && h("div", { class: "body row filter" }, order.field(t`Sort the lots`)),
+    table(PART_HEADS, rows, without, false, order.heads), further, bar);
 }
 function drawChosen(bar) {
   bar.hidden = !chosen.size;
@@ -90,17 +103,14 @@ function drawChosen(bar) {
   bar.children[1].disabled = isTooMany;
 }
 const PART_HEADS = ["Choose", "Lot", "#Part", "Came", "Place", "#Stock", ""];
-// A row for each part of a lot, with what can be done with it; `told` is called once a part is chosen for a merge.
-function partRows(lot, known, told) {
-  const barred = lot.held ? t`on hold` : lot.recalled ? t`recalled` : "", isBarred = barred !== "";
-  const marks = [lot.held && [" ", pill(t`on hold`, "warn")], lot.recalled && [" ", pill(t`recalled`, "bad")]];
-  return lot.sublots.filter((it) => it.stock > 0).map((it) => {
-    const key = `${lot.lot}/${it.no}`, part = { lot: lot.lot, sub: it.no, stock: it.stock, place: it.place, at: lot.at, barred };
-    const buttons = [button(t`Label`, () => showLabels(part.lot, part.sub)), button(t`Move`, () => moveGoods(part, known)),
-      button(t`Split`, () => split(part, known), null, { disabled: isBarred }), button(t`Scrap`, () => scrap(part, known), "bad")];
-    return row(key, [cell(chooseBox(key, part, isBarred, told)), idCell(lotLink(lot.lot), marks), h("td", { class: "num" }, it.no),
-      cameCell(lot.at), cell(it.place || h("span", { class: "soft" }, t`no place`)), numberCell(it.stock, known.unit), buttonsCell(buttons)]);
-  });
+// The row of a part of a lot, with what can be done with it; `told` is called once it is chosen for a merge.
+function partRow(part, known, told) {
+  const key = keyOfPart(part), isBarred = part.barred !== "";
+  const marks = [part.held && [" ", pill(t`on hold`, "warn")], part.recalled && [" ", pill(t`recalled`, "bad")]];
+  const buttons = [button(t`Label`, () => showLabels(part.lot, part.sub)), button(t`Move`, () => moveGoods(part, known)),
+    button(t`Split`, () => split(part, known), null, { disabled: isBarred }), button(t`Scrap`, () => scrap(part, known), "bad")];
+  return row(key, [cell(chooseBox(key, part, isBarred, told)), idCell(lotLink(part.lot), marks), h("td", { class: "num" }, part.sub),
+    cameCell(part.at), cell(part.place || h("span", { class: "soft" }, t`no place`)), numberCell(part.stock, known.unit), buttonsCell(buttons)]);
 }
 function chooseBox(key, part, isBarred, told) {
   if (chosen.has(key)) chosen.set(key, part);
@@ -116,7 +126,7 @@ function chooseBox(key, part, isBarred, told) {
 function oneLotCard(id, lot, known) {
   const away = button(t`Close this`, () => go("warehouse", known.def));
   if (!lot) return card(t`Lot ${id}`, away, none(t`There is no such lot.`));
-  return card(t`Lot ${id}`, away, table(PART_HEADS, partRows(lot, known, show), t`Nothing is left of it.`));
+  return card(t`Lot ${id}`, away, table(PART_HEADS, withState(lot).map((it) => partRow(it, known, show)), t`Nothing is left of it.`));
 }
 
 function receive({ def, unit }) {

@@ -89,6 +89,7 @@ export const MOVES = { start: "Start", pause: "Pause", hold: "Hold^batch", stop:
 const SAID = [
   ...Object.keys(STATES), "open", "released", "finished", "cancelled", "draft", "approved", "withdrawn", "in", "out", "par", "phase",
   "received", "consumed", "produced", "scrapped", "divided", "split", "merged", "lot", "batch", "order", "recall", "material",
+  "recipe",
 ];
 const COMMANDS = [
   "add_class", "add_definition", "add_recipe", "approve", "withdraw", "import_orders", "cancel_order", "release", "batch", "phase_done", "settle",

@@ -14,13 +14,13 @@ pub const PAGE: &[u8] = br##"<!doctype html>
 </head>
 <body>
 <header>
-  <h1>Desk</h1>
+  <h1 id="desk">Desk</h1>
   <nav aria-label="Views">
     <a href="#today">Today</a><a href="#planner">Planner</a><a href="#shift">Shift</a><a href="#warehouse">Warehouse</a><a href="#quality">Quality</a>
   </nav>
   <form id="finder" role="search">
     <input id="find" data-id list="begun" maxlength="24" autocomplete="off" spellcheck="false" placeholder="Find by id or name"
-      aria-label="Find a lot, a batch, an order, a recall or a material by its id, a material also by its name">
+      aria-label="Find a lot, a batch, an order, a recall, a material or a recipe by its id, a material or a place by its name">
     <datalist id="begun"></datalist>
     <button>Find</button>
   </form>
@@ -45,4 +45,4 @@ pub const PAGE: &[u8] = br##"<!doctype html>
 "##;
 
 /// Its entity tag.
-pub const PAGE_TAG: &str = "\"ed349dab693febe051d18ab1f7e4c379\"";
+pub const PAGE_TAG: &str = "\"a33cba59e29f9e8838b26b2684c43ff4\"";

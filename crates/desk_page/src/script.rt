@@ -120,6 +120,8 @@ const COLUMNS = {
     ["Number", (it) => it.seq]],
   ledger: [["Number", (it) => it.seq], "line", WHEN, "by", ["What", (it) => it.kind], AMOUNT, "unit", "lot", ["Part", (it) => it.sub], ["To lot", (it) => it.to],
     ["To part", (it) => it.to_sub], "batch", "note"],
+  places: [["Place", (it) => it.place], ["Parts", (it) => it.parts.length], ["Materials", (it) => it.materials]],
+  commands: [["Number", (it) => it.seq], ["When", (it) => it.at && stamp(it.at)], "by", ["What", (it) => it.do], "note", ["Reference", (it) => it.ref]],
   holds: ["lot", "hold", WHEN, "by", "note"],
   recalls: ["recall", "lot", WHEN, "by", "note", ["Lifted", (it) => it.lift && stamp(it.lift.at)], ["Lifted by", (it) => it.lift?.by],
     ["Lifted for", (it) => it.lift?.note]],
@@ -151,6 +153,7 @@ const LISTS = {
   classes: ["classes", (it) => it.class],
   definitions: ["definitions", (it) => it.def],
   recipes: ["recipes", (it) => `${it.recipe}.${it.version}`],
+  commands: ["commands", (it) => it.seq],
   movements: ["movements", (it) => `${it.seq}.${it.line}`],
 };
 const PAGE = 100;
@@ -180,6 +183,14 @@ function recipeLine([kind, ...words]) {
 const LINE_TEXTS = { in: (it) => `in ${it.def} ${it.qty}`, out: (it) => `out ${it.def} ${it.qty}`, par: (it) => `par ${it.name} ${it.value}`.trim(),
   phase: (it) => `phase ${it.unit} ${it.oper} ${it.phase}` };
 const linesText = (lines) => lines.map((it) => LINE_TEXTS[it.kind](it)).join("\n");
+const COUNTS = { in: 2, out: 2, par: 2, phase: 3 };
+const lineWords = (text) => text.split("\n").map((it) => it.trim()).filter(Boolean).map((line) => {
+  const [kind, ...rest] = line.split(/\s+/), count = Object.hasOwn(COUNTS, kind) && COUNTS[kind];
+  const words = kind === "par" ? [rest[0], rest.slice(1).join(" ")] : rest;
+  const word = (it, k) => (k === 0 || kind === "phase" ? it.toUpperCase() : it);
+  return count && words.length <= count ? { kind, words: Array.from({ length: count }, (_, k) => word(words[k] || "", k)) } : { kind: null, words: [line] };
+});
+const lineOf = ({ kind, words }) => (kind ? [kind, ...words].join(" ").trim() : words[0]);
 function scaled(amount, base, size) {
   const [q, b, s] = [amount, base, size].map(BigInt);
   return Number((2n * q * s + b) / (2n * b));
@@ -306,6 +317,7 @@ const MOVES = { start: "Start", pause: "Pause", hold: "Hold^batch", stop: "Stop"
 const SAID = [
   ...Object.keys(STATES), "open", "released", "finished", "cancelled", "draft", "approved", "withdrawn", "in", "out", "par", "phase",
   "received", "consumed", "produced", "scrapped", "divided", "split", "merged", "lot", "batch", "order", "recall", "material",
+  "recipe",
 ];
 const COMMANDS = [
   "add_class", "add_definition", "add_recipe", "approve", "withdraw", "import_orders", "cancel_order", "release", "batch", "phase_done", "settle",
@@ -395,8 +407,11 @@ function partsByPlace(parts) {
   return [...all].sort(([a], [b]) => (a < b ? -1 : 1)).map(([place, some]) => ({ place, parts: some.sort(byAge),
     materials: new Set(some.map((it) => it.def)).size }));
 }
-const ORDER_SORTS = ["due", "order", "priority", "recipe", "size"];
 const compared = (a, b) => (a < b ? -1 : a > b ? 1 : 0);
+const sortedBy = (items, of, isBack) => [...items].sort((a, b) => (isBack ? -1 : 1) * compared(of(a), of(b)));
+const OF_PARTS = { came: (it) => it.at ?? 0, lot: (it) => it.lot, material: (it) => it.def, place: (it) => it.place, stock: (it) => it.stock };
+const partValue = (by) => OF_PARTS[by];
+const upTo = (items, count, isMore) => Object.assign(items.slice(0, count), { more: isMore || items.length > count });
 const bySooner = (a, b) => compared(a.due, b.due) || b.priority - a.priority;
 const BY = {
   due: bySooner, order: (a, b) => compared(a.order, b.order), priority: (a, b) => b.priority - a.priority, size: (a, b) => a.size - b.size,
@@ -439,6 +454,10 @@ function shortage(demands, made, stocks) {
     all.set(it.def, { ...one, short: one.asked - there });
   }
   return [...all.values()].filter((it) => it.short > 0).sort((a, b) => (a.from < b.from ? -1 : a.from > b.from ? 1 : a.def < b.def ? -1 : 1));
+}
+function lacksOf({ lines, base }, size, stocks) {
+  const asked = inAll(lines.filter((it) => it.kind === "in").map((it) => ({ def: it.def, unit: it.unit || "", amount: scaled(it.qty, base, size) })));
+  return asked.map((it) => ({ def: it.def, unit: it.unit, short: it.asked - (stocks.get(it.def)?.usable || 0) })).filter((it) => it.short > 0);
 }
 function yieldOf(lines, product) {
   const outputs = lines.filter((it) => it.kind === "out" && it.def === product), sum = (what) => outputs.reduce((all, it) => all + it[what], 0);
@@ -577,13 +596,13 @@ function keep(name, value) {
   } catch { memory.set(name, value); }
 }
 const NAMES = { en: "English", de: "Deutsch" }, TABLES = { de: "/german.json" };
-const wanted = () => [kept("language", null), ...navigator.languages.map((it) => it.split("-")[0])].find((it) => Object.hasOwn(NAMES, it)) || "en";
+const wanted = (served) => [kept("language", null), served, ...navigator.languages.map((it) => it.split("-")[0])].find((it) => Object.hasOwn(NAMES, it)) || "en";
 let spoken = "en";
 const languages = Object.values(NAMES);
 const spokenName = () => NAMES[spoken];
 const numbersOf = () => (spoken === "en" ? navigator.language : spoken);
-async function loadTexts() {
-  const language = wanted(), table = TABLES[language];
+async function loadTexts(served) {
+  const language = wanted(served), table = TABLES[language];
   if (!table) return;
   try {
     const reply = await fetch(table, { redirect: "error" });
@@ -760,7 +779,7 @@ const facts = (...all) => h("div", { class: "body" }, h("div", { class: "facts" 
 const choice = (name, options, on, pick) => h("div", { class: "choice", role: "group", "aria-label": name },
   options.map((it) => button(t(it), () => pick(it), null, { "aria-pressed": String(it === on) })));
 const hashOf = (place) => `#${placeFrom(location.hash, place)}`;
-const link = (place, text) => h("a", { href: hashOf(place) }, text);
+const link = (place, text, more) => h("a", { href: hashOf(place), ...more }, text);
 const lotLink = (id, sub) => [link("quality/lot/" + id, id), sub ? "/" + sub : ""];
 const batchLink = (id) => link("shift/" + id, id);
 function go(...parts) { location.hash = hashOf(parts.filter(Boolean).join("/")); }
@@ -888,6 +907,9 @@ const desk = {
   foundLot: (id) => found("/v1/lots/" + id),
   foundBatch: (id) => found("/v1/batches/" + id),
   foundOrder: (id) => found("/v1/orders/" + id),
+  async presented() {
+    try { return await askedAnew("/v1/health"); } catch { return { name: null, language: null }; }
+  },
   loggedIn: async () => (await found("/v1/operator"))?.operator ?? null,
   definition: (id) => found("/v1/definitions/" + id),
   recipe: (id, version) => asked(`/v1/recipes/${id}/${version}`),
@@ -921,6 +943,7 @@ const desk = {
     const behind = this.seq > count ? "/" + (this.seq - count) : "";
     return [...(await asked("/v1/lists/commands" + behind)).commands].reverse();
   },
+  commands: (wanted) => list("commands", wanted),
   allHolds: (wanted) => list("all_holds", wanted),
   recalls: (wanted) => list("recalls", wanted),
   liftedRecalls: (wanted) => list("lifted_recalls", wanted),
@@ -1083,13 +1106,33 @@ function drawStatus() {
   tellStatus(isAhead ? "warn" : "", desk.seq === 0 ? t`no booking yet` : isAhead ? t`${count}, ahead: ${last}` : t`${count}, last ${last}`);
   at("stand").title = isAhead ? t`The desk's last booking is later than its machine's clock. Bookings take the desk's moment.` : "";
 }
+let deskName = null;
+function present(name) {
+  deskName = name;
+  if (name !== null) at("desk").textContent = name;
+}
 const TITLES = { today: "today^view", planner: "planner^view", shift: "shift^view", warehouse: "warehouse^view", quality: "quality^view", board: "board^view" };
 function markRole(name) {
   for (const it of document.querySelectorAll("header nav a")) {
     if (it.hash === "#" + name) it.setAttribute("aria-current", "page");
     else it.removeAttribute("aria-current");
   }
-  document.title = t`Desk: ${t(TITLES[name])}`;
+  document.title = `${deskName ?? t`Desk`}: ${t(TITLES[name])}`;
+}
+const WAYS = ["up", "down"];
+function setOrder(value, way) {
+  const other = withFilter(`#${withFilter(location.hash || `#${place()[0]}`, "sort", value)}`, "way", way === "up" ? null : way);
+  location.hash = `#${other}`;
+}
+function listOrder(heads) {
+  const names = Object.keys(heads), by = filterOf("sort", names), way = filterOf("way", WAYS), set = (it, to) => setOrder(it === names[0] ? null : it, to);
+  const option = (it, to) => h("option", { value: `${it}.${to}`, selected: it === by && to === way }, `${t(heads[it].replace("#", ""))}, ${t(to)}`);
+  return {
+    by, isBack: way === "down", isAsItComes: by === names[0] && way === "up",
+    heads: Object.fromEntries(names.map((it) => [heads[it], { way: it === by ? way : null, press: () => set(it, it === by && way === "up" ? "down" : "up") }])),
+    field: (label) => h("select", { class: "phone", "aria-label": label, onchange: (event) => set(...event.target.value.split(".")) },
+      names.flatMap((it) => WAYS.map((to) => option(it, to)))),
+  };
 }
 const LINK_LASTS = 60_000;
 function save(name, text) {
@@ -1594,7 +1637,128 @@ function bookingForm(title, fields, label, take, more) {
   };
   form(title, fields, label, (v) => take(v, command), { ...more, contentOf });
 }
+const EDGE = { left: 52, right: 10, top: 12, bottom: 24, high: 190, mostWide: 860, leastWide: 290 }, ON_BOARD = { wide: 400, high: 128 };
+function sizeOf() {
+  const wide = document.documentElement.clientWidth;
+  if (location.hash.startsWith("#board")) return ON_BOARD;
+  return { wide: Math.round(Math.max(EDGE.leastWide, Math.min(EDGE.mostWide, wide / (wide < 980 ? 1 : 2) - 66))), high: EDGE.high };
+}
+function plot(said, values, top, lines, unit, inner) {
+  const { wide, high } = sizeOf(), across = (wide - EDGE.left - EDGE.right) / values.length, down = high - EDGE.top - EDGE.bottom;
+  const x = (k) => EDGE.left + k * across, y = (n) => EDGE.top + down * (1 - n / top);
+  const line = (n) => [svg("line", { class: "axis", x1: EDGE.left, x2: wide - EDGE.right, y1: y(n), y2: y(n) }),
+    svg("text", { class: "tick", x: EDGE.left - 6, y: y(n) + 4, "text-anchor": "end" }, shortly(n), unit)];
+  const ticks = [0, Math.floor((values.length - 1) / 2), values.length - 1].filter((k, at, all) => all.indexOf(k) === at && values[k].tick);
+  const anchor = (k) => (k === 0 ? "start" : k === values.length - 1 ? "end" : "middle");
+  const at = (k) => (k === 0 ? EDGE.left : k === values.length - 1 ? wide - EDGE.right : x(k + 0.5));
+  const it = svg("svg", { width: wide, height: high, viewBox: `0 0 ${wide} ${high}`, role: "img", "aria-label": said }, lines.map(line),
+    ticks.map((k) => svg("text", { class: "tick", x: at(k), y: high - 7, "text-anchor": anchor(k) }, values[k].tick)), inner(x, y, across));
+  Object.assign(it.style, { maxWidth: "100%", height: "auto" });
+  return h("div", { class: "plot" }, it);
+}
+const SIZES = [[1e12, "T"], [1e9, "G"], [1e6, "M"], [1e4, "k"]];
+function shortly(n) {
+  const [size, word] = SIZES.find(([it]) => n >= it) || [1, ""], of = word === "k" ? 1e3 : size;
+  return marked(grouped(Number((n / of).toPrecision(3)))) + word;
+}
+const thick = (across) => Math.max(1, Math.min(32, across * 0.76));
+function barPlot(said, values, unit = "", mark = null) {
+  const most = Math.max(...values.map((it) => it.n)), top = mark ? Math.max(1.2 * mark, most) : roundUp(most);
+  return plot(said, values, top, mark ? [0, mark / 2, mark] : [0, top / 2, top], unit, (x, y, across) => [
+    values.map((it, k) => svg("rect", { class: `column ${it.tone || ""}`.trim(), x: x(k + 0.5) - thick(across) / 2, width: thick(across), y: y(it.n),
+      height: Math.max(0, y(0) - y(it.n)) }, svg("title", {}, it.said))),
+    mark !== null && svg("line", { class: "mark", x1: x(0), x2: x(values.length), y1: y(mark), y2: y(mark) })].filter(Boolean));
+}
+function stepPlot(said, values, unit = "") {
+  const top = roundUp(Math.max(...values.map((it) => it.n)));
+  return plot(said, values, top, [0, top / 2, top], unit, (x, y) => {
+    const path = values.map((it, k) => `${k ? "V" : `M${x(0)} `}${y(it.n)}H${x(k + 1)}`).join("");
+    return [svg("path", { class: "below", d: `${path}V${y(0)}H${x(0)}Z` }), svg("path", { class: "line", d: path })];
+  });
+}
+function valuesOf(what, heads, rows) {
+  return h("details", { class: "noprint" }, h("summary", { "aria-label": t`${what}: the values as a table` }, t`The values as a table`), table(heads, rows,
+    "", true));
+}
+const valueRow = (name, ...values) => row(`value ${name}`, [cell(name), ...values.map(([n, unit]) => numberCell(n, unit))]);
+function alarmBox() {
+  const change = (event) => { keep("alarm", event.target.checked); if (event.target.checked) tone(); };
+  return h("label", { class: "tick" }, h("input", { type: "checkbox", id: "alarm", checked: kept("alarm", false), onchange: change }),
+    h("span", {}, t`A tone and a flash at a new hold or recall`));
+}
+let known = null, knownOf = null;
+function watchFor(holds, recalls) {
+  const all = new Map([...recalls.map((it) => [`recall ${it.recall}`, t`Recall ${it.recall} of lot ${it.lot}, by ${it.by}.`]),
+    ...holds.map((it) => [`hold ${it.lot}.${it.hold}`, t`Hold ${it.hold} on lot ${it.lot}, by ${it.by}.`])]);
+  const news = known && knownOf === desk.name ? newIn(all.keys(), known) : [];
+  known = new Set(all.keys());
+  knownOf = desk.name;
+  if (news.length && kept("alarm", false)) alarm(news.map((it) => all.get(it)));
+}
+const TONES_OF_ALARM = 3, APART = 600, LASTS = 12_000;
+let ending;
+function alarm(texts) {
+  for (let k = 0; k < TONES_OF_ALARM; k += 1) setTimeout(tone, k * APART);
+  notice("bad", texts.join(" "));
+  document.body.classList.add("alarm");
+  clearTimeout(ending);
+  ending = setTimeout(() => document.body.classList.remove("alarm"), LASTS);
+}
+const KEYS = { 0: "today^view", 1: "planner^view", 2: "shift^view", 3: "warehouse^view", 4: "quality^view",
+  "/": "find a lot, a batch, an order or a recall", n: "to the button of a batch's next phase", r: "look again", "?": "this help",
+  Esc: "close a form, leave the board", Enter: "to the next field of a form; books in the last one" };
+const SCANS = "A scanner works wherever the cursor is, and books nothing: at a batch it opens the form with the scanned lot, in a form it chooses the lot, "
+  + "elsewhere it finds.";
+const BOOKINGS = "A booking can't be taken back: book the opposite, or scrap. It counts once, also where its answer is lost and it is sent again. Views look "
+  + "again every 20 seconds.";
+const WORDS = {
+  "Orders and recipes": {
+    "Draft, Approve, Withdraw": "A new version of a recipe is a draft. Once it is approved, orders of it can be taken in and released. A withdrawn "
+      + "one is for no further release; batches go on.",
+    "Order, Batch": "An order says what is wanted by when. Its release makes one batch, which the shift makes.",
+    "Open, Released, Finished": "An open order waits for its release. A released one has a batch. It is finished once that batch is closed.",
+    "Late": "Its due date is over, and it is neither finished nor cancelled.",
+  },
+  "Batches": {
+    "Consume, Produce": "Consume books what goes into a batch, of the lot that it is taken of. Produce books what comes out, as a new lot.",
+    "Asked, Booked, Left": "What the recipe wants at the order's size, what was consumed or produced so far, and what is missing of it.",
+    "Pause, Hold (of a batch)": "Both interrupt a batch. After a pause it is resumed, after a hold restarted. A hold of a lot is another thing: see below.",
+    "Stop, Abort": "Stop ends a batch in order before its time, Abort breaks it off. Both can be reset, and begin anew.",
+    "Reset, Attempt": "A reset batch begins anew from its first phase, as another attempt. What was booked on it stays booked.",
+    "Finish": "Pausing, stopping and the like take time. Finish says that the batch got there.",
+    "Complete, Close": "A complete batch has done its work, and still takes bookings. A closed one takes none, and its order is finished.",
+    "Parameter": "A value that the recipe gives for the phase after it, such as a temperature. The desk notes no measured value: book a step with a note.",
+  },
+  "Lots": {
+    "Class, Material, Lot, Part": "A class is a group of materials. A lot is an amount of one material that is known by its id. Its parts are where it "
+      + "is: F-1/2 is part 2 of lot F-1.",
+    "Free, On hold, Recalled": "Free goods may be used. A hold keeps one lot from being consumed, split and merged, a recall also all that came of it.",
+    "Hold, Recall": "Hold what may be wrong, and take the hold off once it is known. Recall what is wrong: it also reaches what was made of it, and "
+      + "running batches.",
+    "Take off, Lift": "A hold is taken off, a recall is lifted. The desk keeps who did it.",
+    "Move, Split": "Move brings an amount to another place: it stays the same lot, as another part; the ledger says divided. Split makes an amount a "
+      + "lot of its own.",
+    "Merge": "Makes one new lot of parts of several lots of the same material.",
+    "Scrap": "Books goods out that are spoiled or lost.",
+    "Genealogy, Ledger, Record": "The genealogy shows what a lot came of and what came of it. The ledger has each booking of a lot, the record all of a batch.",
+  },
+  "This page": {
+    "Number, Reference": "Each booking has a number, one after the other. Its reference keeps it from counting twice.",
+    "Send again": "No answer came to a booking, which may have been taken or not. Sent again, it counts once.",
+    "Short": "Orders and batches ask for more of a material than is free and is to be made until then.",
+  },
+};
+function help() {
+  const key = ([name, what]) => h("p", {}, h("kbd", {}, name), " ", t(what));
+  const words = Object.entries(WORDS).map(([about, all]) => [h("h3", {}, t(about)),
+    h("dl", {}, Object.entries(all).map(([name, what]) => [h("dt", {}, t(name)), h("dd", {}, t(what))]))]);
+  const end = h("div", { class: "end" }, h("button", { class: "main" }, t`Close`));
+  const it = h("form", { method: "dialog", class: "help" }, h("h2", { id: "title" }, t`Keys and help`),
+    h("p", { class: "row" }, choice(t`Language`, languages, spokenName(), chooseLanguage)), h("div", { class: "keys" }, Object.entries(KEYS).map(key)),
+    h("p", { class: "soft" }, t(SCANS)), h("p", { class: "soft" }, t(BOOKINGS)), h("h2", {}, t`Words`), words, end);
+  openDialog(it, end.firstChild);
+}
 "##;
 
 /// Its entity tag.
-pub const SCRIPT_TAG: &str = "\"0810f1ac067ff5191597fc273cca7d49\"";
+pub const SCRIPT_TAG: &str = "\"eecda484958e45abeae75c37a0b2a231\"";

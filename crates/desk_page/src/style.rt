@@ -92,7 +92,7 @@ th {
   white-space: nowrap;
 }
 button.sort { font-size: inherit; font-weight: inherit; border: 0; padding: 0; background: none; color: inherit; } button.sort:hover { color: var(--accent); }
-.card .filter { padding-bottom: 0; } .filter input { flex: 1 1 10em; max-width: 24em; } .filter .phone { display: none; }
+.card .filter { padding-bottom: 0; } .filter input { flex: 1 1 10em; max-width: 24em; } .filter .phone, .filter:has(> .phone:only-child) { display: none; }
 .needs td, .needs th { padding-inline: 0 6px; }
 .needs td:first-child, .needs th:first-child { padding-left: 0; } .needs td:last-child, .needs th:last-child { padding-right: 0; }
 td { padding: 6px 8px; border-bottom: 1px solid var(--faint); vertical-align: middle; overflow-wrap: break-word; }
@@ -169,7 +169,7 @@ dialog form > .half { grid-column: auto; align-self: end; }
 dialog h2 { margin: 0; font-size: 17px; overflow-wrap: anywhere; } dialog p { margin: 0; }
 dialog dl, dialog dd { margin: 0; } dialog dt { font-weight: 600; } dialog dd { color: var(--soft); margin-bottom: 6px; }
 dialog label { display: grid; gap: 3px; font-size: 13.5px; color: var(--soft); }
-dialog label input, dialog label select, dialog label textarea { color: var(--ink); font-size: 15px; }
+dialog label input, dialog label select, dialog label textarea { color: var(--ink); font-size: 15px; } dialog label > .small:empty { position: absolute; }
 dialog .wrong { color: var(--bad); background: var(--bad-ground); border-radius: 6px; padding: 8px 12px; }
 dialog .lot { display: grid; gap: 8px; } dialog .said { color: var(--good); font-weight: 600; } dialog .said:empty { display: none; }
 dialog .foreseen { color: var(--soft); margin: 0; } dialog .wrong:empty, dialog .foreseen:empty { display: none; }
@@ -179,6 +179,17 @@ dialog .end { display: flex; justify-content: flex-end; align-items: center; gap
 .inputs .part input { flex: none; } .inputs .part span { flex: 1 1 auto; min-width: 0; overflow-wrap: anywhere; } .inputs .part b { white-space: nowrap; }
 .still { background: var(--warn-ground); color: var(--warn); border-radius: 8px; padding: 10px 14px; } .still div { display: grid; gap: 8px; margin-top: 8px; }
 .still button { min-height: 50px; font-size: 17px; font-weight: 600; white-space: normal; }
+
+/* The lines of a recipe, one by one, and beside them as a text. */
+dialog:has(.lines) { width: min(560px, 94vw); } .lines { display: grid; gap: 6px; align-content: start; font-size: 13.5px; color: var(--soft); }
+.line { display: flex; gap: 6px; align-items: center; } .line .words { flex: 1 1 auto; display: flex; gap: 6px; align-items: center; min-width: 0; }
+.line .words > :is(input, select) { flex: 1 1 4em; width: 4em; } .line .words > select { flex-grow: 2; } .line > :is(select, button) { flex: none; }
+@media (max-width: 620px) { .line { flex-wrap: wrap; } .line .words { flex-basis: 100%; order: 1; } .line > select { margin-right: auto; } }
+@media (min-width: 980px) {
+  dialog:has(.lines) { width: min(1120px, 96vw); } dialog form:has(.lines) { grid-template-columns: 1fr 1fr 1fr 1fr; }
+  dialog form > .lines { grid-column: 1 / span 2; } dialog form > .lines + label { grid-column: 3 / span 2; align-content: start; }
+  .lines + label textarea { min-height: 17em; }
+}
 
 /* Paper: a dialog shows it, and it is printed alone. */
 #paper { display: none; } dialog:has(.sheets) { width: min(460px, 94vw); } .sheets { display: grid; gap: 12px; }
@@ -232,16 +243,9 @@ svg .amount { fill: var(--soft); font-size: 11px; paint-order: stroke; stroke: v
 svg .name { font-weight: 600; } svg .sub { fill: var(--soft); font-size: 11px; }
 svg .word { fill: var(--bad); font-weight: 600; font-size: 10px; }
 
-/* A narrow screen shows the list or the thing, and all that is pressed is high enough for a glove. Of the header, its first line scrolls away. */
-@media screen and (max-width: 979px) {
-  html { scroll-padding: 106px 0 60px; }
-  main { padding: 12px 14px 70px; } .thing .listed { display: none; } .stack:empty { display: none; }
-  header { top: -52px; gap: 0 8px; padding: 0 14px; }
-  header > h1, header > form, header > .who, header > #help { margin: 4px 0; }
-  header > form, header > .who { flex: 1 1 150px; min-width: 0; } header > form input, header > .who input { flex: 1 1 5em; width: 5em; }
-  header::after { content: ""; order: 4; width: 100%; } header nav, #back { order: 5; } header nav a { min-height: 44px; }
-  #back { display: flex; align-items: center; margin-left: auto; min-height: 44px; padding: 0 6px; color: var(--head-ink); }
-  #help { width: 44px; }
+/* On a narrow screen, and where a finger points, all that is pressed is high enough for a glove. */
+@media screen and (max-width: 979px), screen and (pointer: coarse) {
+  #help { min-width: 44px; }
   button, select, summary, input, dialog textarea { min-height: 44px; } button { padding: 7px 13px; }
   td a, .facts a, .top a { display: inline-block; padding: 12px 0; margin: -12px 0; min-width: 44px; }
   .tile p { gap: 0; } .tile p a { display: inline-flex; align-items: center; min-height: 44px; }
@@ -256,7 +260,18 @@ svg .word { fill: var(--bad); font-weight: 600; font-size: 10px; }
   }
   input[type=checkbox]:checked::before { content: "\2713"; background: var(--accent); border-color: var(--accent); }
   input[type=checkbox]:disabled { opacity: .45; }
-  footer { min-height: 30px; padding: 0 14px; } footer:has(button) { min-height: 50px; } .chosen { bottom: 30px; }
+  footer:has(button) { min-height: 50px; }
+}
+/* A narrow screen shows the list or the thing. Of the header, its first line scrolls away. */
+@media screen and (max-width: 979px) {
+  html { scroll-padding: 106px 0 60px; }
+  main { padding: 12px 14px 70px; } .thing .listed { display: none; } .stack:empty { display: none; }
+  header { top: -52px; gap: 0 8px; padding: 0 14px; }
+  header > h1, header > form, header > .who, header > #help { margin: 4px 0; }
+  header > form, header > .who { flex: 1 1 150px; min-width: 0; } header > form input, header > .who input { flex: 1 1 5em; width: 5em; }
+  header::after { content: ""; order: 4; width: 100%; } header nav, #back { order: 5; } header nav a { min-height: 44px; }
+  #back { display: flex; align-items: center; margin-left: auto; min-height: 44px; padding: 0 6px; color: var(--head-ink); }
+  footer { min-height: 30px; padding: 0 14px; } .chosen { bottom: 30px; }
   #notice:not(:empty) + #stand, #notice:empty { display: none; } #notice { width: 100%; }
   #notice > div { flex-wrap: nowrap; justify-content: space-between; margin: 3px -8px; }
 }
@@ -265,7 +280,7 @@ svg .word { fill: var(--bad); font-weight: 600; font-size: 10px; }
   .choice button { padding: 7px 8px; }
   header nav { width: 100%; justify-content: space-between; } header nav a { padding: 0 5px; } #back { width: 100%; }
   main { padding: 10px 10px 70px; }
-  .filter .phone { display: block; flex: 1 1 8em; } .sheet .block td { width: auto; }
+  .filter:has(> .phone:only-child) { display: flex; } .filter .phone { display: block; flex: 1 1 8em; } .sheet .block td { width: auto; }
   /* A row of a table stands as a block of named values. */
   table.block, .block tbody, .block tr, .block td { display: block; } .block thead { display: none; }
   .block tr { padding: 8px 16px; border-bottom: 1px solid var(--line); } .block tr:last-child { border-bottom: 0; }
@@ -284,7 +299,7 @@ svg .word { fill: var(--bad); font-weight: 600; font-size: 10px; }
     color-scheme: light; --ink: #000; --soft: #333; --line: #999; --faint: #ccc; --card: #fff; --ground: #fff; --bad: #a3202b; --good: #000;
     --warn: #000; --accent: #000; --good-ground: #fff; --warn-ground: #fff; --bad-ground: #fff; --idle-ground: #fff; --chosen: #fff; --field: #fff;
   }
-  .thing .listed { display: none; } header, footer, #clock, #waiting, button, .choice, .noprint, .chosen { display: none !important; }
+  .thing .listed { display: none; } header, footer, #clock, #waiting, button:not(.sort), .choice, .noprint, .chosen, .filter { display: none !important; }
   body { background: #fff; font-size: 10pt; } main, .stack { display: block; padding: 0; max-width: none; } .card { border: 0; }
   main:has(.record) .card:not(.record) { display: none; } tr, h3 { break-inside: avoid; } h3 { break-after: avoid; }
   .card .wide, .picture, pre { overflow: visible; max-height: none; } pre { white-space: pre-wrap; overflow-wrap: break-word; }
@@ -302,4 +317,4 @@ svg .word { fill: var(--bad); font-weight: 600; font-size: 10px; }
 "##;
 
 /// Its entity tag.
-pub const STYLE_TAG: &str = "\"5352a34e5c51fc33f260807e85da137b\"";
+pub const STYLE_TAG: &str = "\"cfcace95ffe547410515b3930ec2cf37\"";

@@ -2,127 +2,6 @@
 
 /// Its bytes: JavaScript in ASCII.
 pub const VIEWS: &[u8] = br##""use strict";
-const EDGE = { left: 52, right: 10, top: 12, bottom: 24, high: 190, mostWide: 860, leastWide: 290 }, ON_BOARD = { wide: 400, high: 128 };
-function sizeOf() {
-  const wide = document.documentElement.clientWidth;
-  if (location.hash.startsWith("#board")) return ON_BOARD;
-  return { wide: Math.round(Math.max(EDGE.leastWide, Math.min(EDGE.mostWide, wide / (wide < 980 ? 1 : 2) - 66))), high: EDGE.high };
-}
-function plot(said, values, top, lines, unit, inner) {
-  const { wide, high } = sizeOf(), across = (wide - EDGE.left - EDGE.right) / values.length, down = high - EDGE.top - EDGE.bottom;
-  const x = (k) => EDGE.left + k * across, y = (n) => EDGE.top + down * (1 - n / top);
-  const line = (n) => [svg("line", { class: "axis", x1: EDGE.left, x2: wide - EDGE.right, y1: y(n), y2: y(n) }),
-    svg("text", { class: "tick", x: EDGE.left - 6, y: y(n) + 4, "text-anchor": "end" }, shortly(n), unit)];
-  const ticks = [0, Math.floor((values.length - 1) / 2), values.length - 1].filter((k, at, all) => all.indexOf(k) === at && values[k].tick);
-  const anchor = (k) => (k === 0 ? "start" : k === values.length - 1 ? "end" : "middle");
-  const at = (k) => (k === 0 ? EDGE.left : k === values.length - 1 ? wide - EDGE.right : x(k + 0.5));
-  const it = svg("svg", { width: wide, height: high, viewBox: `0 0 ${wide} ${high}`, role: "img", "aria-label": said }, lines.map(line),
-    ticks.map((k) => svg("text", { class: "tick", x: at(k), y: high - 7, "text-anchor": anchor(k) }, values[k].tick)), inner(x, y, across));
-  Object.assign(it.style, { maxWidth: "100%", height: "auto" });
-  return h("div", { class: "plot" }, it);
-}
-const SIZES = [[1e12, "T"], [1e9, "G"], [1e6, "M"], [1e4, "k"]];
-function shortly(n) {
-  const [size, word] = SIZES.find(([it]) => n >= it) || [1, ""], of = word === "k" ? 1e3 : size;
-  return marked(grouped(Number((n / of).toPrecision(3)))) + word;
-}
-const thick = (across) => Math.max(1, Math.min(32, across * 0.76));
-function barPlot(said, values, unit = "", mark = null) {
-  const most = Math.max(...values.map((it) => it.n)), top = mark ? Math.max(1.2 * mark, most) : roundUp(most);
-  return plot(said, values, top, mark ? [0, mark / 2, mark] : [0, top / 2, top], unit, (x, y, across) => [
-    values.map((it, k) => svg("rect", { class: `column ${it.tone || ""}`.trim(), x: x(k + 0.5) - thick(across) / 2, width: thick(across), y: y(it.n),
-      height: Math.max(0, y(0) - y(it.n)) }, svg("title", {}, it.said))),
-    mark !== null && svg("line", { class: "mark", x1: x(0), x2: x(values.length), y1: y(mark), y2: y(mark) })].filter(Boolean));
-}
-function stepPlot(said, values, unit = "") {
-  const top = roundUp(Math.max(...values.map((it) => it.n)));
-  return plot(said, values, top, [0, top / 2, top], unit, (x, y) => {
-    const path = values.map((it, k) => `${k ? "V" : `M${x(0)} `}${y(it.n)}H${x(k + 1)}`).join("");
-    return [svg("path", { class: "below", d: `${path}V${y(0)}H${x(0)}Z` }), svg("path", { class: "line", d: path })];
-  });
-}
-function valuesOf(what, heads, rows) {
-  return h("details", { class: "noprint" }, h("summary", { "aria-label": t`${what}: the values as a table` }, t`The values as a table`), table(heads, rows,
-    "", true));
-}
-const valueRow = (name, ...values) => row(`value ${name}`, [cell(name), ...values.map(([n, unit]) => numberCell(n, unit))]);
-function alarmBox() {
-  const change = (event) => { keep("alarm", event.target.checked); if (event.target.checked) tone(); };
-  return h("label", { class: "tick" }, h("input", { type: "checkbox", id: "alarm", checked: kept("alarm", false), onchange: change }),
-    h("span", {}, t`A tone and a flash at a new hold or recall`));
-}
-let known = null, knownOf = null;
-function watchFor(holds, recalls) {
-  const all = new Map([...recalls.map((it) => [`recall ${it.recall}`, t`Recall ${it.recall} of lot ${it.lot}, by ${it.by}.`]),
-    ...holds.map((it) => [`hold ${it.lot}.${it.hold}`, t`Hold ${it.hold} on lot ${it.lot}, by ${it.by}.`])]);
-  const news = known && knownOf === desk.name ? newIn(all.keys(), known) : [];
-  known = new Set(all.keys());
-  knownOf = desk.name;
-  if (news.length && kept("alarm", false)) alarm(news.map((it) => all.get(it)));
-}
-const TONES_OF_ALARM = 3, APART = 600, LASTS = 12_000;
-let ending;
-function alarm(texts) {
-  for (let k = 0; k < TONES_OF_ALARM; k += 1) setTimeout(tone, k * APART);
-  notice("bad", texts.join(" "));
-  document.body.classList.add("alarm");
-  clearTimeout(ending);
-  ending = setTimeout(() => document.body.classList.remove("alarm"), LASTS);
-}
-const KEYS = { 0: "today^view", 1: "planner^view", 2: "shift^view", 3: "warehouse^view", 4: "quality^view",
-  "/": "find a lot, a batch, an order or a recall", n: "to the button of a batch's next phase", r: "look again", "?": "this help",
-  Esc: "close a form, leave the board", Enter: "to the next field of a form; books in the last one" };
-const SCANS = "A scanner works wherever the cursor is, and books nothing: at a batch it opens the form with the scanned lot, in a form it chooses the lot, "
-  + "elsewhere it finds.";
-const BOOKINGS = "A booking can't be taken back: book the opposite, or scrap. It counts once, also where its answer is lost and it is sent again. Views look "
-  + "again every 20 seconds.";
-const WORDS = {
-  "Orders and recipes": {
-    "Draft, Approve, Withdraw": "A new version of a recipe is a draft. Once it is approved, orders of it can be taken in and released. A withdrawn "
-      + "one is for no further release; batches go on.",
-    "Order, Batch": "An order says what is wanted by when. Its release makes one batch, which the shift makes.",
-    "Open, Released, Finished": "An open order waits for its release. A released one has a batch. It is finished once that batch is closed.",
-    "Late": "Its due date is over, and it is neither finished nor cancelled.",
-  },
-  "Batches": {
-    "Consume, Produce": "Consume books what goes into a batch, of the lot that it is taken of. Produce books what comes out, as a new lot.",
-    "Asked, Booked, Left": "What the recipe wants at the order's size, what was consumed or produced so far, and what is missing of it.",
-    "Pause, Hold (of a batch)": "Both interrupt a batch. After a pause it is resumed, after a hold restarted. A hold of a lot is another thing: see below.",
-    "Stop, Abort": "Stop ends a batch in order before its time, Abort breaks it off. Both can be reset, and begin anew.",
-    "Reset, Attempt": "A reset batch begins anew from its first phase, as another attempt. What was booked on it stays booked.",
-    "Finish": "Pausing, stopping and the like take time. Finish says that the batch got there.",
-    "Complete, Close": "A complete batch has done its work, and still takes bookings. A closed one takes none, and its order is finished.",
-    "Parameter": "A value that the recipe gives for the phase after it, such as a temperature. The desk notes no measured value: book a step with a note.",
-  },
-  "Lots": {
-    "Class, Material, Lot, Part": "A class is a group of materials. A lot is an amount of one material that is known by its id. Its parts are where it "
-      + "is: F-1/2 is part 2 of lot F-1.",
-    "Free, On hold, Recalled": "Free goods may be used. A hold keeps one lot from being consumed, split and merged, a recall also all that came of it.",
-    "Hold, Recall": "Hold what may be wrong, and take the hold off once it is known. Recall what is wrong: it also reaches what was made of it, and "
-      + "running batches.",
-    "Take off, Lift": "A hold is taken off, a recall is lifted. The desk keeps who did it.",
-    "Move, Split": "Move brings an amount to another place: it stays the same lot, as another part; the ledger says divided. Split makes an amount a "
-      + "lot of its own.",
-    "Merge": "Makes one new lot of parts of several lots of the same material.",
-    "Scrap": "Books goods out that are spoiled or lost.",
-    "Genealogy, Ledger, Record": "The genealogy shows what a lot came of and what came of it. The ledger has each booking of a lot, the record all of a batch.",
-  },
-  "This page": {
-    "Number, Reference": "Each booking has a number, one after the other. Its reference keeps it from counting twice.",
-    "Send again": "No answer came to a booking, which may have been taken or not. Sent again, it counts once.",
-    "Short": "Orders and batches ask for more of a material than is free and is to be made until then.",
-  },
-};
-function help() {
-  const key = ([name, what]) => h("p", {}, h("kbd", {}, name), " ", t(what));
-  const words = Object.entries(WORDS).map(([about, all]) => [h("h3", {}, t(about)),
-    h("dl", {}, Object.entries(all).map(([name, what]) => [h("dt", {}, t(name)), h("dd", {}, t(what))]))]);
-  const end = h("div", { class: "end" }, h("button", { class: "main" }, t`Close`));
-  const it = h("form", { method: "dialog", class: "help" }, h("h2", { id: "title" }, t`Keys and help`),
-    h("p", { class: "row" }, choice(t`Language`, languages, spokenName(), chooseLanguage)), h("div", { class: "keys" }, Object.entries(KEYS).map(key)),
-    h("p", { class: "soft" }, t(SCANS)), h("p", { class: "soft" }, t(BOOKINGS)), h("h2", {}, t`Words`), words, end);
-  openDialog(it, end.firstChild);
-}
 const MOST = 1000, MOST_LINES = 40, MOST_ROWS = 8, MOST_ON_WALL = 4;
 const firstOf = (rows, isBoard) => rows.slice(0, isBoard ? MOST_ON_WALL : MOST_ROWS);
 const AHEAD = ["7 days", "1 day", "30 days"], SPANS = ["1 day", "7 days", "30 days"];
@@ -413,7 +292,8 @@ function recordCard(batch, ...more) {
 const printedLine = () => h("p", { class: "printed" });
 addEventListener("beforeprint", () => {
   for (const it of document.querySelectorAll(".printed")) {
-    it.textContent = t`Printed ${moment(desk.time(), true)} by ${operator.value.trim() || t`nobody named`}, of the web page of the desk at ${location.host}.`;
+    const printed = t`Printed ${moment(desk.time(), true)} by ${operator.value.trim() || t`nobody named`}, of the web page of the desk at ${location.host}.`;
+    it.textContent = deskName === null ? printed : `${deskName}. ${printed}`;
   }
 });
 const SIGNED = ["Made by", "Checked by", "Released by"];
@@ -602,8 +482,10 @@ function totals(parts, units) {
   }
   return [...all].sort().map(([def, it]) => row(`total ${def}`, [idCell(link("warehouse/" + def, def)), numberCell(it.stock, it.unit), numberCell(it.count)]));
 }
+const STAND_HEADS = { place: "Place", lot: "Lot", material: "Material", stock: "#Amount" };
 function standsCard(of, lots, nodes) {
-  const units = new Map(nodes.filter((it) => it.lot).map((it) => [it.lot, it.unit])), parts = partsToSee(lots);
+  const order = listOrder(STAND_HEADS), parts = sortedBy(partsToSee(lots), partValue(order.by), order.isBack);
+  const units = new Map(nodes.filter((it) => it.lot).map((it) => [it.lot, it.unit]));
   const seen = new Set(kept(nameOfTicks(of), [])), told = h("span", { class: "soft small" });
   const count = () => { told.textContent = t`${grouped(parts.filter((it) => seen.has(it.key)).length)} of ${counted(parts.length, "row", "rows")} ticked`; };
   const ticked = (it, isOn) => {
@@ -619,7 +501,8 @@ function standsCard(of, lots, nodes) {
   const rows = parts.map((it) => row(it.key, cells(it)));
   const csv = csvButton("stands", `goods-of-${of.split(" ")[1]}`, () => parts.map((it) => ({ ...it, unit: units.get(it.lot), seen: seen.has(it.key) })));
   return card(t`Where its goods are`, parts.length > 0 && [told, csv],
-    table(["Seen", "Place", "Lot", "Material", "#Amount", "On hold", "Recalled"], rows, t`Nothing of it is in stock.`),
+    parts.length > 1 && h("div", { class: "body row filter" }, order.field(t`Sort the goods`)),
+    table(["Seen", "Place", "Lot", "Material", "#Amount", "On hold", "Recalled"], rows, t`Nothing of it is in stock.`, false, order.heads),
     parts.length > 0 && [h("h3", {}, t`In all`), table(["Material", "#Amount", "#Parts"], totals(parts, units), "", true)]);
 }
 async function runningCard(batches) {
@@ -676,30 +559,129 @@ async function releaseSeveral(orders, isDone) {
   form(t`Release ${counted(orders.length, "order", "orders")}`, fields, t`Release all`, take);
   mine = openForm();
 }
+const MOST_RECIPES = 60, SOON = 200, MOST_LACKS = 2;
+let recipesRead = new Map(), stocksRead = null;
+const versionOf = (it) => `${it.recipe} ${it.version}`;
+async function readWants(orders, areOpen) {
+  const all = new Map(orders.map((it) => [versionOf(it), it])), read = new Map();
+  for (const [name, it] of [...all].slice(0, MOST_RECIPES)) read.set(name, await desk.recipeOnce(it.recipe, it.version));
+  recipesRead = read;
+  if (areOpen) stocksRead = new Map((await desk.materials()).map((it) => [it.def, it]));
+}
+function writeLack(element, order) {
+  const recipe = recipesRead.get(versionOf(order)), lacks = recipe && stocksRead ? lacksOf(recipe, order.size, stocksRead) : [];
+  const named = lacks.slice(0, MOST_LACKS).map((it) => `${it.def} ${grouped(it.short)} ${it.unit}`).join(", "), left = lacks.length - MOST_LACKS;
+  element.textContent = !lacks.length ? "" : left > 0 ? t`short: ${named} and ${left} more` : t`short: ${named}`;
+}
+function writeUnit(element, order) { element.textContent = recipesRead.get(versionOf(order))?.unit || ""; }
+async function wantsOf(orders, areOpen) {
+  const reading = readWants(orders, areOpen).catch(() => {}), drawn = [];
+  const written = (tag, name, write) => (order) => {
+    const it = h(tag, { class: name });
+    write(it, order);
+    drawn.push(() => write(it, order));
+    return it;
+  };
+  onceDrawn(async () => {
+    await reading;
+    await released();
+    for (const draw of drawn) draw();
+  });
+  await Promise.race([reading, new Promise((done) => { setTimeout(done, SOON); })]);
+  return { lack: areOpen ? written("div", "over small", writeLack) : () => null, unit: written("span", null, writeUnit) };
+}
+const LINE_KINDS = { in: ["Material", "Amount"], out: ["Material", "Amount"], par: ["Name", "Value"], phase: ["Unit^equipment", "Operation", "Phase"] };
+const ADDED = { in: "Add an input", out: "Add an output", par: "Add a parameter", phase: "Add a phase" };
+function plainField(value, name) {
+  const it = h("input", { "aria-label": name });
+  it.value = value;
+  return it;
+}
+function wordField(kind, k, value, name, materials) {
+  const what = LINE_KINDS[kind][k];
+  if (what !== "Material") {
+    const isAmount = what === "Amount", isId = kind === "phase" || what === "Name";
+    const it = h("input", { "aria-label": name, placeholder: t(what), "data-id": isId, inputmode: isAmount ? "numeric" : null, autocomplete: "off",
+      spellcheck: "false", maxlength: isAmount ? 16 : isId ? 24 : 60 });
+    it.value = value;
+    return it;
+  }
+  const option = (id, text) => h("option", { value: id, selected: id === value }, text);
+  return h("select", { "aria-label": name }, !value && option("", t`choose a material`), value && !materials.has(value) && option(value, value),
+    [...materials.values()].map((it) => option(it.def, it.name ? `${it.def}: ${it.name}` : it.def)));
+}
+function chooseLines(element, text, reading) {
+  const materials = new Map();
+  let lines = lineWords(text.value), isOwn = false;
+  function write() {
+    isOwn = true;
+    text.value = lines.map(lineOf).join("\n");
+    text.dispatchEvent(new Event("input", { bubbles: true }));
+    isOwn = false;
+  }
+  function changed(at) {
+    write();
+    draw();
+    element.querySelectorAll(".line")[at]?.querySelector(".words > *").focus();
+  }
+  function lineRow(line, k) {
+    const name = (what) => t`${what} of line ${k + 1}`, { kind, words } = line, unit = kind && materials.get(words[0])?.unit;
+    const put = (at) => ({ target }) => { words[at] = target.matches("[data-id]") ? target.value.trim().toUpperCase() : target.value; write(); };
+    const fields = !kind ? [plainField(words[0], t`Line ${k + 1}`)]
+      : LINE_KINDS[kind].map((what, at) => wordField(kind, at, words[at], name(t(what)), materials));
+    fields.forEach((it, at) => it.addEventListener("input", put(at)));
+    if (kind === "in" || kind === "out") fields[0].addEventListener("change", (event) => { words[0] = event.target.value; changed(k); });
+    const choose = ({ target }) => {
+      const before = kind ? words : words[0].split(/\s+/).slice(1);
+      lines[k] = { kind: target.value, words: LINE_KINDS[target.value].map((_, at) => before[at] || "") };
+      changed(k);
+    };
+    const kinds = Object.keys(LINE_KINDS).map((it) => h("option", { value: it, selected: it === kind }, wordOf(it)));
+    const up = () => { [lines[k - 1], lines[k]] = [lines[k], lines[k - 1]]; changed(k - 1); };
+    const unknown = !kind && h("option", { value: "", selected: true }, "?");
+    return h("div", { class: "line" }, h("select", { "aria-label": name(t`Kind`), onchange: choose }, unknown, kinds),
+      h("div", { class: "words" }, fields, unit && h("span", { class: "soft" }, unit)),
+      button("\u2191", up, null, { "aria-label": t`Line ${k + 1} up`, disabled: k === 0 }),
+      button("\u00d7", () => { lines.splice(k, 1); changed(Math.min(k, lines.length - 1)); }, null, { "aria-label": t`Take line ${k + 1} away` }));
+  }
+  function draw() {
+    const add = (kind) => { lines.push({ kind, words: LINE_KINDS[kind].map(() => "") }); changed(lines.length - 1); };
+    element.replaceChildren(h("b", {}, t`Lines, one by one`), ...lines.map(lineRow),
+      h("div", { class: "row" }, Object.keys(ADDED).map((it) => button(t(ADDED[it]), () => add(it)))));
+  }
+  text.addEventListener("input", () => { if (!isOwn) { lines = lineWords(text.value); draw(); } });
+  draw();
+  reading.then((known) => {
+    const name = element.contains(document.activeElement) && document.activeElement.getAttribute("aria-label");
+    for (const it of known) materials.set(it.def, it);
+    draw();
+    if (name) [...element.querySelectorAll("[aria-label]")].find((it) => it.getAttribute("aria-label") === name)?.focus();
+  });
+}
 const ORDER_STATES = ["open", "released", "finished", "cancelled"], WITHDRAWN = ["hidden", "shown"];
 async function planner([id]) {
   const orderState = filterOf("orders", ORDER_STATES), isWithdrawnShown = filterOf("withdrawn", WITHDRAWN) === "shown";
   const orders = await desk.orders(orderState, wantedOrders(orderState));
   const approved = await desk.recipes("approved", want("recipes")), drafts = await desk.recipes("draft", want("recipes"));
   const withdrawn = isWithdrawnShown ? await desk.recipes("withdrawn", want("recipes")) : [];
-  const one = id && (await desk.foundOrder(id));
+  const one = id && (await desk.foundOrder(id)), wants = await wantsOf(orders, orderState === "open");
   return ["side",
-    h("div", { class: "stack" }, desk.seq === 0 && firstSteps(), id && orderCard(id, one), listed(ordersCard(orders, orderState, approved))),
+    h("div", { class: "stack" }, desk.seq === 0 && firstSteps(), id && orderCard(id, one), listed(ordersCard(orders, orderState, approved, wants))),
     listed(h("div", { class: "stack" }, takeInCard(approved), recipesCard(approved, drafts, isWithdrawnShown && withdrawn)))];
 }
 const chosenOrders = new Map();
 const MOST_AT_ONCE = 50;
 const MOST_READ = 2000;
-const isAsTheyCome = () => !textOf("recipe") && !textOf("text") && typed === null && filterOf("sort", ORDER_SORTS) === "due" && filterOf("way", WAYS) === "up";
+const isAsTheyCome = () => !textOf("recipe") && !textOf("text") && typed === null && listOrder(SORT_HEADS).isAsItComes;
 const wantedOrders = (state) => (isAsTheyCome() ? want("orders " + state) : Math.max(MOST_READ, want("orders " + state)));
-const WAYS = ["up", "down"];
-function ordersCard(orders, orderState, approved) {
+const SORT_HEADS = { due: "Due", order: "Order", priority: "#Priority", recipe: "Recipe", size: "#Size" };
+function ordersCard(orders, orderState, approved, wants) {
   const recipes = new Map(approved.map((it) => [`${it.recipe}.${it.version}`, it])), recipeOf = (it) => recipes.get(`${it.recipe}.${it.version}`);
-  const sort = filterOf("sort", ORDER_SORTS), way = filterOf("way", WAYS), isFiltered = Boolean(textOf("recipe") || typedText());
-  const meant = filteredOrders(orders, textOf("recipe"), typedText(), (it) => recipeOf(it)?.title || ""), sorted = sortedOrders(meant, sort, way === "down");
+  const order = listOrder(SORT_HEADS), isFiltered = Boolean(textOf("recipe") || typedText());
+  const meant = filteredOrders(orders, textOf("recipe"), typedText(), (it) => recipeOf(it)?.title || ""), sorted = sortedOrders(meant, order.by, order.isBack);
   const isOpen = orderState === "open", bar = chosenBar();
   for (const it of [...chosenOrders.keys()]) if (!isOpen || !orders.some((one) => one.order === it)) chosenOrders.delete(it);
-  const rows = sorted.map((it) => orderRow(it, orderState, recipeOf(it), () => drawChosenOrders(bar)));
+  const rows = sorted.map((it) => orderRow(it, orderState, recipeOf(it), wants, () => drawChosenOrders(bar)));
   drawChosenOrders(bar);
   const late = MAY_BE_LATE.includes(orderState) ? orders.filter((it) => it.due < desk.today()).length : 0;
   const states = filterChoice(t`State of the orders`, "orders", ORDER_STATES);
@@ -708,19 +690,11 @@ function ordersCard(orders, orderState, approved) {
     : t`No order is ${wordOf(orderState)}.`;
   const isAll = late === orders.length && orders.more, heads = ["Order", "Due", "#Priority", "Recipe", "#Size", ""];
   return card(t`Orders`, [late > 0 && pill(isAll ? t`${grouped(late)} and more late` : t`${grouped(late)} late`, "bad"), csv, states],
-    orders.length > 0 && filterRow(orders, sort, way), table(isOpen ? ["Choose", ...heads] : heads, rows, without, false, sortsOf(sort, way)),
+    orders.length > 0 && filterRow(orders, order), table(isOpen ? ["Choose", ...heads] : heads, rows, without, false, order.heads),
     more(orders, "orders " + orderState, firstOrders), isOpen && bar);
 }
 const firstOrders = (count) => (isAsTheyCome() ? t`The first ${count} by their due dates are shown, and there are more.`
   : t`The first ${count} by their due dates are looked through; those that fit are shown, and there are more.`);
-const SORT_HEADS = { order: "Order", due: "Due", priority: "#Priority", recipe: "Recipe", size: "#Size" };
-const SORTS = { order: "by order", due: "by due date", priority: "by priority", recipe: "by recipe", size: "by size" };
-function setSort(by, way) {
-  const other = withFilter(`#${withFilter(location.hash || "#planner", "sort", by === "due" ? null : by)}`, "way", way === "up" ? null : way);
-  location.hash = `#${other}`;
-}
-const sortsOf = (sort, way) => Object.fromEntries(Object.entries(SORT_HEADS).map(([by, head]) => [head, { way: by === sort ? way : null,
-  press: () => setSort(by, by === sort && way === "up" ? "down" : "up") }]));
 const TYPING = 300;
 let typed = null, typing;
 const typedText = () => (typed === null ? textOf("text") : typed);
@@ -729,18 +703,16 @@ function typeText(value) {
   clearTimeout(typing);
   typing = setTimeout(() => { typed = null; setText("text", value.trim(), true); }, TYPING);
 }
-function filterRow(orders, sort, way) {
+function filterRow(orders, order) {
   const recipe = textOf("recipe"), ids = [...new Set([...orders.map((it) => it.recipe), ...(recipe ? [recipe] : [])])].sort();
   const option = (value, label, isOn) => h("option", { value, selected: isOn }, label);
   const text = h("input", { type: "search", id: "ordertext", maxlength: 60, placeholder: t`Filter by a text`, "aria-label": t`Filter the orders by a text`,
     autocomplete: "off", oninput: (event) => typeText(event.target.value) });
   text.value = typedText();
-  const sorts = Object.entries(SORTS).flatMap(([by, words]) => WAYS.map((it) => option(`${by}.${it}`, `${t(words)}, ${t(it)}`,
-    by === sort && it === way)));
   return h("div", { class: "body row filter" }, text,
     h("select", { id: "orderrecipe", "aria-label": t`Filter the orders by a recipe`, onchange: (event) => setText("recipe", event.target.value) },
       option("", t`all recipes`, !recipe), ids.map((it) => option(it, it, it === recipe))),
-    h("select", { id: "ordersort", class: "phone", "aria-label": t`Sort the orders`, onchange: (event) => setSort(...event.target.value.split(".")) }, sorts),
+    order.field(t`Sort the orders`),
     (recipe || typedText()) && button(t`No filter`, () => { typed = null; clearTimeout(typing); setText("text", ""); setText("recipe", ""); }));
 }
 function chosenBar() {
@@ -762,7 +734,7 @@ function orderBox(order, isOff, told) {
   const name = t`Choose ${order.order} to be released`;
   return h("input", { type: "checkbox", "aria-label": name, checked: chosenOrders.has(order.order), disabled: isOff, onchange: choose });
 }
-function orderRow(order, orderState, recipe, told) {
+function orderRow(order, orderState, recipe, wants, told) {
   const isOpen = orderState === "open", name = `${order.recipe} ${order.version}`;
   const title = recipe && recipe.title ? [recipe.title, " ", h("span", { class: "soft small" }, name)] : name;
   const mark = isOpen && !recipe && [" ", pill(t`not approved`, "warn")];
@@ -770,7 +742,8 @@ function orderRow(order, orderState, recipe, told) {
   const buttons = isOpen ? open : orderState !== "cancelled" && button(t`Batch`, () => showBatchOf(order.order));
   return row(order.order, [isOpen && cell(orderBox(order, !recipe, told)), idCell(link("planner/" + order.order, order.order)), cell(due(order, orderState)),
     h("td", { class: "num" }, order.priority),
-    cell(title, mark), numberCell(order.size), buttonsCell(buttons)].filter(Boolean));
+    cell(title, mark, wants.lack(order)), h("td", { class: "num" }, h("span", {}, grouped(order.size), " ", wants.unit(order))),
+    buttonsCell(buttons)].filter(Boolean));
 }
 const MAY_BE_LATE = ["open", "released"];
 function due(order, state) {
@@ -817,6 +790,7 @@ function oneOrder(approved) {
   const recipes = approved.map((it) => ({ value: `${it.recipe}.${it.version}`, label: label(it) }));
   const priorities = [9, 8, 7, 6, 5, 4, 3, 2, 1].map((it) => ({ value: it, label: it }));
   const fields = [
+    say(t`An order can't be changed: a slip is cancelled, and taken in anew under another id.`),
     idField("order", t`New order`), selectField("recipe", t`Recipe`, recipes), { ...amountField(), name: "size", label: t`Size` },
     halfField("due", "date", t`Due`, { value: day(new Date(Date.now() + 7 * 86400e3)) }),
     halfField("priority", "select", t`Priority, 9 before 1`, { value: 5, options: priorities }),
@@ -872,40 +846,50 @@ function withdraw(it) {
       noted({ do: "withdraw", recipe: it.recipe, version: it.version }, v.note)), { isGrave: true });
 }
 function newRecipe(values = {}) {
+  const chooser = h("div", { class: "lines", role: "group", "aria-label": t`Lines, one by one` });
   const fields = [
     say(t`A draft can't be changed: a slip wants another version.`), halfField("recipe", "id", t`Recipe`),
     halfField("version", "amount", t`Version, 1 to 999`, { value: 1, more: { pattern: "0*[1-9][0-9]{0,2}" } }),
     halfField("title", "text", t`Title`), halfField("product", "id", t`Product, a material`),
     { name: "base", kind: "amount", label: t`Base size, for which the lines are written` },
-    halfField("min", "amount", t`Least size of an order`), halfField("max", "amount", t`Greatest size`),
+    halfField("min", "amount", t`Least size of an order`), halfField("max", "amount", t`Greatest size`), ownField(chooser),
     { name: "lines", kind: "lines", label: t`Lines`, hint: t(LINES_HINT), more: { placeholder: LINES_EXAMPLE } },
   ].map((it) => ({ ...it, value: values[it.name] ?? it.value }));
   bookingForm(values.recipe ? t`New version of recipe ${values.recipe}` : t`New recipe`, fields, t`Make a draft`, ({ lines: text, ...header }, tell) => {
     const [lines, wrong] = recipeLines(text);
     return wrong || tell(t`Recipe ${header.recipe} ${header.version} drafted`, { do: "add_recipe", ...header, lines });
   });
+  chooseLines(chooser, dialog.querySelector("[name=lines]"), desk.named().catch(() => []));
 }
 const WHICH = ["open", "closed"];
 let batchShown = null;
 async function shift([id]) {
-  const areClosedShown = filterOf("batches", WHICH) === "closed";
-  const unit = areClosedShown ? "" : textOf("unit"), wanted = unit ? Math.max(MOST_READ_BATCHES, want("batches")) : want("batches");
-  const read = areClosedShown ? await desk.closedBatches(want("closed")) : (await desk.batches(wanted)).sort(byDueDate);
-  const batches = Object.assign(read.filter((it) => !unit || it.phase_unit === unit), { more: read.more });
+  const areClosedShown = filterOf("batches", WHICH) === "closed", unit = areClosedShown ? "" : textOf("unit"), list = areClosedShown ? "closed" : "batches";
+  const order = listOrder(areClosedShown ? CLOSED_HEADS : OPEN_HEADS), read = await readBatches(areClosedShown, order);
+  const batches = upTo(sortedBatches(read.filter((it) => !unit || it.phase_unit === unit), order), want(list), read.more);
   const shown = id || (!isNarrow() && batches[0] && batches[0].batch);
   if (!shown || batchShown?.batch !== shown) batchShown = null;
   const rows = batches.map((it) => batchRow(it, it.batch === shown, areClosedShown));
   const noneOpen = unit ? t`No batch has its next phase on ${unit}.` : t`No batch is open. The planner releases an order, which makes its batch.`;
-  const all = h("div", { class: "batches" }, table(["Batch", "State", "#Due"], rows, areClosedShown ? t`No batch is closed.` : noneOpen, true));
+  const all = h("div", { class: "batches" }, table(["Batch", "State", "#Due"], rows, areClosedShown ? t`No batch is closed.` : noneOpen, true,
+    order.heads));
   const which = filterChoice(t`Which batches`, "batches", WHICH);
   const csv = csvButton("batches", `batches-${areClosedShown ? "closed" : "open"}`, async () => (await (areClosedShown ? desk.closedBatches(Infinity)
     : desk.batches(Infinity))).map((it) => ({ ...it, ...it.planned, closed: areClosedShown })));
   const without = card(t`No batch`, null, none(t`Once an order is released, its batch is started, booked and closed here.`));
   const one = shown ? await batchCards(shown) : desk.seq === 0 ? firstSteps() : !isNarrow() && without;
-  return ["list", listed(card(t`Batches`, [csv, which], !areClosedShown && unitRow(read, unit), all, more(batches, areClosedShown ? "closed" : "batches"))),
+  return ["list", listed(card(t`Batches`, [csv, which], !areClosedShown && unitRow(read, unit), all, more(batches, list))),
     h("div", { class: "stack" }, one)];
 }
-const MOST_READ_BATCHES = 2000;
+const OPEN_HEADS = { due: "#Due", batch: "Batch", state: "State" }, CLOSED_HEADS = { batch: "Batch", state: "State", due: "#Due" }, MOST_READ_BATCHES = 2000;
+function readBatches(areClosed, { isAsItComes }) {
+  const wanted = want(areClosed ? "closed" : "batches"), many = Math.max(MOST_READ_BATCHES, wanted);
+  return areClosed ? desk.closedBatches(isAsItComes ? wanted : many) : desk.batches(many);
+}
+function sortedBatches(batches, { by, isBack }) {
+  if (by !== "due") return sortedBy(batches, by === "batch" ? (it) => it.batch : (it) => wordOf(it.state), isBack);
+  return [...batches].sort((one, other) => (isBack ? -1 : 1) * byDueDate(one, other));
+}
 function unitRow(batches, unit) {
   const units = [...new Set([...batches.map((it) => it.phase_unit), unit].filter(Boolean))].sort(), option = (value, label) => h("option", { value,
     selected: value === unit }, label);
@@ -1142,20 +1126,28 @@ async function allParts() {
   }
   return { parts, left };
 }
+async function placeNamed(typed) {
+  const name = typed.trim().toLowerCase(), all = new Set((await allParts()).parts.map((it) => it.place));
+  const begun = [...all].filter((it) => it.toLowerCase().startsWith(name));
+  return (name && (begun.find((it) => it.toLowerCase() === name) || (begun.length === 1 && begun[0]))) || null;
+}
 const placeLink = (place, text) => link(`warehouse/place/${encodeURIComponent(place)}`, text || place || t`no place`);
 async function places(shown) {
   const { parts, left } = await allParts(), all = partsByPlace(parts), at = shown ?? (isNarrow() ? undefined : all[0]?.place);
   const rows = all.map((it) => row(encodeURIComponent(it.place), [cell(placeLink(it.place)), numberCell(it.parts.length), numberCell(it.materials)],
     `warehouse/place/${encodeURIComponent(it.place)}`, it.place === at));
-  const list = card(t`Places`, null, byChoice("by place"), table(["Place", "#Parts", "#Materials"], rows, t`Nothing is in stock.`, true),
+  const csv = csvButton("places", "places", () => all);
+  const list = card(t`Places`, all.length > 0 && csv, byChoice("by place"), table(["Place", "#Parts", "#Materials"], rows, t`Nothing is in stock.`, true),
     left.length > 0 && none(t`These materials have too many lots to be read here: ${left.join(", ")}.`));
   return ["list", listed(list), at !== undefined && h("div", { class: "stack" }, placeCard(at, all.find((it) => it.place === at)?.parts || []))];
 }
+const PLACE_HEADS = { came: "Came", lot: "Lot and part", material: "Material", stock: "#Stock" };
 function placeCard(place, parts) {
   const name = place || "no place", marks = (it) => it.barred && [" ", pill(it.barred, it.held ? "warn" : "bad")];
   const buttons = (it) => [button(t`Label`, () => showLabels(it.lot, it.sub)), button(t`Move`, () => moveGoods(it, it)),
     button(t`Scrap`, () => scrap(it, it), "bad")];
-  const rows = parts.map((it) => row(`${it.lot}/${it.sub}`, [idCell(lotLink(it.lot, it.sub), marks(it)),
+  const order = listOrder(PLACE_HEADS), sorted = sortedBy(parts, partValue(order.by), order.isBack);
+  const rows = sorted.map((it) => row(`${it.lot}/${it.sub}`, [idCell(lotLink(it.lot, it.sub), marks(it)),
     cell(link("warehouse/" + it.def, it.def), it.name && h("div", { class: "soft small" }, it.name)), cameCell(it.at), numberCell(it.stock, it.unit),
     buttonsCell(buttons(it))]));
   const totals = new Map();
@@ -1163,7 +1155,8 @@ function placeCard(place, parts) {
   const sums = [...totals.values()].map((it) => row(`total ${it.def}`, [idCell(it.def), numberCell(it.sum, it.unit)]));
   const csv = csvButton("stands", `place-${name}`, () => parts.map((it) => ({ ...it, place, seen: "" })));
   return card(place ? t`At ${place}` : t`At no place`, parts.length > 0 && [h("span", { class: "soft small" }, counted(parts.length, "part", "parts")), csv],
-    table(["Lot and part", "Material", "Came", "#Stock", ""], rows, t`Nothing in stock is there.`),
+    rows.length > 1 && h("div", { class: "body row filter" }, order.field(t`Sort the lots`)),
+    table(["Lot and part", "Material", "Came", "#Stock", ""], rows, t`Nothing in stock is there.`, false, order.heads),
     parts.length > 0 && [h("h3", {}, t`In all`), table(["Material", "#Stock"], sums, "", true)]);
 }
 const chosen = new Map();
@@ -1179,7 +1172,10 @@ async function warehouse([id, lotId]) {
   if (!def) return ["list", side, desk.seq === 0 ? firstSteps() : !all.length && without];
   const known = all.find((it) => it.def === def) || (await desk.stockOf(def));
   if (!known) return ["list", side, card(t`Lots`, null, none(t`There is no such material.`))];
-  const lotsOf = lotsCard(known, await desk.stock(def, want("lots " + def))), one = await wholeLot(lotId);
+  const order = listOrder(LOT_HEADS), wanted = want("lots " + def);
+  const lots = await desk.stock(def, order.isAsItComes ? wanted : Math.max(MOST_SORTED, wanted));
+  const others = Object.assign(lots.filter((it) => it.lot !== lotId), { more: lots.more });
+  const lotsOf = lotsCard(known, others, order), one = await wholeLot(lotId);
   return ["list", side, h("div", { class: "stack" }, lotId && oneLotCard(lotId, one, known), lotId ? listed(lotsOf) : lotsOf)];
 }
 function materialsSide(classes, def) {
@@ -1210,12 +1206,17 @@ function newMaterial(classes) {
       { pattern: "[A-Za-z0-9]{1,8}", title: t`1 to 8 letters and digits`, required: true })], t`Make it`,
   (v, tell) => tell(t`Material ${v.def} made`, { do: "add_definition", def: v.def, class: v.group, name: v.name, unit: v.unit }));
 }
-function lotsCard(known, lots) {
+const LOT_HEADS = { came: "Came", lot: "Lot", place: "Place", stock: "#Stock" }, MOST_SORTED = 2000;
+const withState = (lot) => partsOfLot(lot).map((it) => ({ ...it, held: lot.held, recalled: lot.recalled }));
+function lotsCard(known, lots, order) {
   const amount = (name, n) => fact(name, grouped(n), " ", known.unit);
   const bar = h("div", { class: "chosen", hidden: true }, h("span", {}), button(t`Merge\u2026`, () => merge(known), "main"),
     button(t`Choose none`, () => { chosen.clear(); show(); }));
   const told = () => drawChosen(bar);
-  const rows = lots.flatMap((lot) => partRows(lot, known, told));
+  const parts = sortedBy(lots.flatMap(withState), partValue(order.by), order.isBack), name = "lots " + known.def;
+  const shown = order.isAsItComes ? parts : upTo(parts, want(name), lots.more), rows = shown.map((it) => partRow(it, known, told));
+  const further = order.isAsItComes ? more(lots, name, (count) => t`The first ${count} lots, the oldest first, are shown, and there are more.`)
+    : more(shown, name, (count) => t`The first ${count} parts of the ${grouped(lots.length)} oldest lots are shown, and there are more.`);
   told();
   const title = h("span", {}, known.name || known.def, known.name && [" ", h("span", { class: "soft small" }, known.def)]);
   const without = t`There is no ${known.def} in stock. Receive a lot, or have one produced. A lot that is used up is found by its id.`;
@@ -1223,7 +1224,8 @@ function lotsCard(known, lots) {
     .map((it) => ({ ...it, def: known.def, unit: known.unit })));
   return card(title, [csv, button(t`Receive a lot`, () => receive(known), "main")],
     facts(amount(t`Free`, known.usable), amount(t`On hold`, known.held), amount(t`Recalled`, known.recalled), fact(t`Lots with stock`, grouped(known.lots))),
-    table(PART_HEADS, rows, without), more(lots, "lots " + known.def, (count) => t`The first ${count} lots, the oldest first, are shown, and there are more.`), bar);
+    rows.length > 1 && h("div", { class: "body row filter" }, order.field(t`Sort the lots`)),
+    table(PART_HEADS, rows, without, false, order.heads), further, bar);
 }
 function drawChosen(bar) {
   bar.hidden = !chosen.size;
@@ -1232,16 +1234,13 @@ function drawChosen(bar) {
   bar.children[1].disabled = isTooMany;
 }
 const PART_HEADS = ["Choose", "Lot", "#Part", "Came", "Place", "#Stock", ""];
-function partRows(lot, known, told) {
-  const barred = lot.held ? t`on hold` : lot.recalled ? t`recalled` : "", isBarred = barred !== "";
-  const marks = [lot.held && [" ", pill(t`on hold`, "warn")], lot.recalled && [" ", pill(t`recalled`, "bad")]];
-  return lot.sublots.filter((it) => it.stock > 0).map((it) => {
-    const key = `${lot.lot}/${it.no}`, part = { lot: lot.lot, sub: it.no, stock: it.stock, place: it.place, at: lot.at, barred };
-    const buttons = [button(t`Label`, () => showLabels(part.lot, part.sub)), button(t`Move`, () => moveGoods(part, known)),
-      button(t`Split`, () => split(part, known), null, { disabled: isBarred }), button(t`Scrap`, () => scrap(part, known), "bad")];
-    return row(key, [cell(chooseBox(key, part, isBarred, told)), idCell(lotLink(lot.lot), marks), h("td", { class: "num" }, it.no),
-      cameCell(lot.at), cell(it.place || h("span", { class: "soft" }, t`no place`)), numberCell(it.stock, known.unit), buttonsCell(buttons)]);
-  });
+function partRow(part, known, told) {
+  const key = keyOfPart(part), isBarred = part.barred !== "";
+  const marks = [part.held && [" ", pill(t`on hold`, "warn")], part.recalled && [" ", pill(t`recalled`, "bad")]];
+  const buttons = [button(t`Label`, () => showLabels(part.lot, part.sub)), button(t`Move`, () => moveGoods(part, known)),
+    button(t`Split`, () => split(part, known), null, { disabled: isBarred }), button(t`Scrap`, () => scrap(part, known), "bad")];
+  return row(key, [cell(chooseBox(key, part, isBarred, told)), idCell(lotLink(part.lot), marks), h("td", { class: "num" }, part.sub),
+    cameCell(part.at), cell(part.place || h("span", { class: "soft" }, t`no place`)), numberCell(part.stock, known.unit), buttonsCell(buttons)]);
 }
 function chooseBox(key, part, isBarred, told) {
   if (chosen.has(key)) chosen.set(key, part);
@@ -1256,7 +1255,7 @@ function chooseBox(key, part, isBarred, told) {
 function oneLotCard(id, lot, known) {
   const away = button(t`Close this`, () => go("warehouse", known.def));
   if (!lot) return card(t`Lot ${id}`, away, none(t`There is no such lot.`));
-  return card(t`Lot ${id}`, away, table(PART_HEADS, partRows(lot, known, show), t`Nothing is left of it.`));
+  return card(t`Lot ${id}`, away, table(PART_HEADS, withState(lot).map((it) => partRow(it, known, show)), t`Nothing is left of it.`));
 }
 function receive({ def, unit }) {
   bookingForm(t`Receive ${def}`, [newLotField("lot", t`Scan or type the new lot`), amountField(unit), placeField(), noteField()], t`Receive`,
@@ -1300,7 +1299,8 @@ async function quality([kind, id]) {
 }
 function commandsCard(commands) {
   const rows = commands.map((it) => row(it.seq, [numberCell(it.seq), momentCell(it.at), cell(it.by), cell(commandWord(it.do)), cell(it.note), cell(it.ref)]));
-  return card(t`The last commands with references`, null, table(["#Number", "When", "By", "What", "Note", "Reference"], rows, t`None.`));
+  const csv = csvButton("commands", "commands", () => desk.commands(Infinity));
+  return card(t`The last commands with references`, commands.length > 0 && csv, table(["#Number", "When", "By", "What", "Note", "Reference"], rows, t`None.`));
 }
 function holdsCard(holds) {
   const told = (it) => [it.hold, h("div", { class: "soft small" }, `${it.by}, ${moment(it.at)}`), it.note && h("div", { class: "small" }, it.note)];
@@ -1379,13 +1379,14 @@ async function recallCards(id, recalls) {
     none(t`It is lifted, and reaches nothing any more.`)), stands];
   const since = open ? [fact(t`Since`, moment(open.at)), fact(t`By`, open.by), open.note && fact(t`Why`, open.note)] : [];
   const lots = it.nodes.filter((node) => node.lot), batches = it.nodes.filter((node) => node.batch);
-  const links = (kind, ids) => h("div", { class: "body row" }, ids.map((one) => link(`quality/${kind}/${one}`, one)));
+  const links = (kind, ids, named) => h("div", { class: "body row" }, ids.map((one) => link(`quality/${kind}/${one}`, one, named && { "aria-label": named(one) })));
   return [
     card(t`Recall ${id}`, [pill(t`open`, "bad"), print, button(t`Lift`, () => lift(it), null, { "aria-label": t`Lift the recall ${id}` })], printedLine(),
       facts(fact(t`Lot`, lotLink(it.lot)), since, fact(t`Reaches`, `${counted(lots.length, "lot", "lots")}, ${counted(batches.length, "batch", "batches")}`))),
     await runningCard(batches), stands,
     card(t`${counted(lots.length, "lot", "lots")} reached`, null, links("lot", lots.map((node) => node.lot))),
-    card(t`${counted(batches.length, "batch", "batches")} reached`, null, links("batch", batches.map((node) => node.batch))),
+    card(t`${counted(batches.length, "batch", "batches")} reached`, null, links("batch", batches.map((node) => node.batch),
+      (one) => t`${one}: record and genealogy`)),
   ];
 }
 async function batchRecordCards(id) {
@@ -1393,7 +1394,7 @@ async function batchRecordCards(id) {
   const around = { back: await desk.back("batches", id), forward: await desk.forward("batches", id) };
   return [recordCard(batch, balanceButton("batches", id, t`batch ${id}`)), genealogyCard(around, "batch " + id)];
 }
-const KINDS = { lots: "lot", batches: "batch", orders: "order", recalls: "recall", definitions: "material" };
+const KINDS = { lots: "lot", batches: "batch", orders: "order", recalls: "recall", definitions: "material", recipes: "recipe" };
 const REST = 250;
 const option = (id, what) => h("option", { value: id, label: `${id}: ${what}` });
 function offersOf(found) {
@@ -1423,9 +1424,10 @@ async function offerBegun() {
 const MOST_NAMED = 10;
 async function find(code) {
   const { lot: id } = lotOf(code);
-  if (!id) return miss(t`An id has ${t(ID_RULE)}.`);
-  if (await showFound(id)) return true;
-  return miss(t`There is no lot, no batch, no order, no recall and no material ${id}.`);
+  if (id && await showFound(id)) return true;
+  const where = await placeNamed(code);
+  if (where) { location.hash = `#warehouse/place/${encodeURIComponent(where)}`; return true; }
+  return miss(id ? t`There is no lot, no batch, no order, no recall, no material, no recipe and no place ${id}.` : t`An id has ${t(ID_RULE)}.`);
 }
 function miss(why) { notice("bad", why); return false; }
 async function findTyped(typed) {
@@ -1444,7 +1446,9 @@ async function showFound(id) {
       : await desk.foundOrder(id) ? ["planner", id] : await desk.recall(id) ? ["quality", "recall", id]
         : await desk.definition(id) ? ["warehouse", id] : null;
   if (where) go(...where);
-  return where !== null;
+  else if ((await desk.find(id)).recipes.includes(id)) location.hash = `#planner?recipe=${id}`;
+  else return false;
+  return true;
 }
 at("find").addEventListener("input", offerBegun);
 at("finder").addEventListener("submit", async (event) => {
@@ -1508,7 +1512,9 @@ addEventListener("storage", drawWaiting);
 addEventListener("desk-named", drawWaiting);
 addEventListener("hashchange", () => { if (dialog.open && !sending) dialog.close(); show(); });
 async function begin() {
-  await loadTexts();
+  const { name, language } = await desk.presented();
+  await loadTexts(language);
+  present(name);
   drawWaiting();
   try { nameByLogin(await desk.loggedIn()); } catch (error) { notice("bad", whyNot(error)); }
   show();
@@ -1517,4 +1523,4 @@ begin();
 "##;
 
 /// Its entity tag.
-pub const VIEWS_TAG: &str = "\"d8f5a3ca36120d8a10680ade3060ba41\"";
+pub const VIEWS_TAG: &str = "\"65bc01e0dc780bec4ae47a820ebb4a36\"";

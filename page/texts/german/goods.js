@@ -18,6 +18,9 @@ export default {
   "There is no {0} in stock. Receive a lot, or have one produced. A lot that is used up is found by its id.":
     "Von {0} ist nichts im Bestand. Bitte ein Los annehmen oder erzeugen lassen. Ein aufgebrauchtes Los findet man nach der Kennung.",
   "The first {0} lots, the oldest first, are shown, and there are more.": "Die ersten {0} Lose, die ältesten zuerst, sind zu sehen, und es gibt mehr.",
+  "The first {0} parts of the {1} oldest lots are shown, and there are more.":
+    "Die ersten {0} Teile der {1} ältesten Lose sind zu sehen, und es gibt mehr.",
+  "Sort the lots": "Lose sortieren",
   "Lots with stock": "Lose mit Bestand",
   "Nothing is left of it.": "Davon ist nichts mehr da.",
   "Receive": "Annehmen",
@@ -92,10 +95,12 @@ export default {
   "Recall {0} is lifted": "Rückruf {0} ist aufgehoben",
   "It is lifted, and reaches nothing any more.": "Er ist aufgehoben und betrifft nichts mehr.",
   "{0} reached": "{0} betroffen",
+  "{0}: record and genealogy": "{0}: Protokoll und Genealogie",
   "Batches that still run": "Chargen, die noch laufen",
   "Part {0} at {1}": "Teil {0} ({1})",
   // Quality: where goods are, ledgers and balances.
   "Where its goods are": "Wo die Ware ist",
+  "Sort the goods": "Ware sortieren",
   "Nothing of it is in stock.": "Davon ist nichts im Bestand.",
   "{0} of {1} ticked": "{0} / {1} abgehakt",
   "{0} at {1} is seen": "{0} ({1}) ist gesehen",

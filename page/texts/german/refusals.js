@@ -102,7 +102,8 @@ export default {
   "An id has {0}.": "Eine Kennung hat {0}.",
   "letters, digits and -, a letter first, at most 24": "Buchstaben, Ziffern und -, einen Buchstaben zuerst, höchstens 24",
   "Several materials are named so: {0}{1}": "Mehrere Materialien heißen so: {0}{1}",
-  "There is no lot, no batch, no order, no recall and no material {0}.": "Weder Los noch Charge, Auftrag, Rückruf oder Material {0} gibt es.",
+  "There is no lot, no batch, no order, no recall, no material, no recipe and no place {0}.":
+    "Weder Los noch Charge, Auftrag, Rückruf, Material, Rezept oder Platz {0} gibt es.",
   "{0} was scanned twice within two seconds.": "{0} wurde zweimal in zwei Sekunden gescannt.",
   "It is booked once you say so.": "Gebucht wird auf einen weiteren Druck.",
   "This form takes no scan. Nothing was booked.": "Dieses Formular nimmt keinen Scan. Nichts wurde gebucht.",

@@ -38,6 +38,7 @@ export default {
   "orders": "Aufträge",
   "recall": "Rückruf",
   "material": "Material",
+  "recipe": "Rezept",
   "part": "Teil",
   "parts": "Teile",
   "booking": "Buchung",
@@ -140,7 +141,6 @@ export default {
   "lift^command": "Rückruf aufgehoben",
   // Views.
   "Desk": "Leitstand",
-  "Desk: {0}": "Leitstand: {0}",
   "Views": "Ansichten",
   "Today": "Heute",
   "Planner": "Planung",
@@ -157,8 +157,8 @@ export default {
   "your name": "Ihr Name",
   "Find": "Suchen",
   "Find by id or name": "Kennung oder Name",
-  "Find a lot, a batch, an order, a recall or a material by its id, a material also by its name":
-    "Ein Los, eine Charge, einen Auftrag, einen Rückruf oder ein Material nach der Kennung suchen, ein Material auch nach dem Namen",
+  "Find a lot, a batch, an order, a recall, a material or a recipe by its id, a material or a place by its name":
+    "Los, Charge, Auftrag, Rückruf, Material oder Rezept nach der Kennung suchen, Material oder Platz nach dem Namen",
   // Heads of tables, names of columns and of figures.
   "Amount": "Menge",
   "Amount or value": "Menge oder Wert",

@@ -41,6 +41,23 @@ class Worklist(BrowserTestCase):
             self.check(f"tables at {width} that are scrolled sideways", tab.run(wide), 0)
         self.check("what the console tells of errors", tab.errors(), [])
 
+    def test_batches_are_sorted_by_a_press_of_a_head(self) -> None:
+        self.serve()
+        self.served.told(at=self.served.ask("/moment")["at"], by="anna", do="release", order="O-5", batch="A-1")
+        rows = "[...document.querySelectorAll('.listed [data-row]')].map((it) => it.dataset.row).join(' ')"
+        tab = self.open("shift")
+        first = tab.run(rows)
+        for head, wanted in (
+            ("Batch", "A-1 B-2 B-3"), ("Batch \u25b4", "B-3 B-2 A-1"), ("State", "A-1 B-2 B-3"), ("Due", first), ("Due \u25b4", " ".join(reversed(first.split()))),
+        ):
+            tab.click(head)
+            tab.until(f"{rows} === '{wanted}'", f"the batches behind a press of {head}")
+        self.check("the address", tab.run("location.hash"), "#shift?way=down")
+        tab.run("location.hash = 'shift?batches=closed&sort=due'")
+        tab.until(f"{rows} === 'B-1'", "closed batches")
+        tab.has("Due \u25b4", "document.querySelector('.listed thead')")
+        self.check("what the console tells of errors", tab.errors(), [])
+
     def test_list_of_a_unit_has_the_batches_whose_next_phase_is_there(self) -> None:
         self.serve()
         for order, batch in (("O-4", "B-4"), ("O-5", "B-5")):

@@ -491,7 +491,7 @@ class Journeys(BrowserTestCase):
         for text in (None, "Cake", "dough", "300", "100", "900"):
             tab.key("Tab")
             tab.type(text) if text else None
-        tab.key("Tab")
+        tab.tab_to("Lines")
         for line in ("in flour 200", "out dough 300", "phase mix blend stir"):
             tab.type(line)
             tab.key("Enter")

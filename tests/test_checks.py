@@ -44,7 +44,7 @@ csv row 4 OrderConflict: row 1 has the same order with other values
 csv row 7 OrderConflict: row 1 has the same order with other values
 """
 
-HEADER = b"""csv row 0 Header: the first line isn't order,recipe,version,size,due,priority, with commas between and neither semicolons nor tabs
+HEADER = b"""csv row 0 Header: the first line isn't order,recipe,version,size,due,priority in UTF-8, with commas between and neither semicolons nor tabs
 """
 
 TOO_LONG = b"csv row 0 TooLong: the file is longer than 262144 bytes\n"
@@ -196,6 +196,7 @@ class OrderCheck(CheckTests, ProgramTestCase):
         for head in ORDER_HEAD, ORDER_HEAD[:-1], b"\xef\xbb\xbf" + ORDER_HEAD, b"\n" + ORDER_HEAD.replace(b"\n", b"\r\n\r\n"):
             self.check_tells(f"a header alone, {head!r}", head, 0, b"0 orders\n")
         self.check_tells("a header of spaces", ORDER_HEAD.replace(b",size", b", size"), 1, HEADER)
+        self.check_tells("a file in UTF-16", ORDER_HEAD.decode().encode("utf-16"), 1, HEADER)
 
     def test_thousand_orders_are_counted_and_no_more(self) -> None:
         rows = b"O-1,CAKE,1,500,2027-03-01,5\n"

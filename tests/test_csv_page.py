@@ -73,6 +73,8 @@ class SavedLists(BrowserTestCase):
     def test_each_list_is_saved(self) -> None:
         self.serve()
         self.served.told(at=self.now(), by="dora", do="recall", recall="RC-1", lot="F-1", note="moths, seen by \"erna\"")
+        later = {"order": "O-9", "recipe": "BREAD", "version": 1, "size": 100, "due": "2030-03-01", "priority": 5}
+        self.served.told(at=self.now(), by="dora", do="import_orders", orders=[later], ref="ORDERS-9")
         tab = self.open_saving("planner")
         for place, name, head, row in (
             ("planner", "orders-open", "Order,State,Due,Priority,Recipe,Version,Size", ("O-4", 6, "100")),
@@ -81,6 +83,8 @@ class SavedLists(BrowserTestCase):
             ("shift?batches=closed", "batches-closed", BATCHES, ("B-1", 15, "DOUGH")),
             ("warehouse/FLOUR", "materials", "Class,Material,Name,Unit,Lots,Free,On hold,Recalled", ("GOODS", 3, "pcs")),
             ("warehouse/FLOUR", "lots-FLOUR", "Lot,Material,Part,Place,Stock,Unit,On hold,Recalled,Came,By,Note,Number", ("F-2", 11, "14")),
+            ("warehouse/place", "places", "Place,Parts,Materials", ("A1", 1, "1")),
+            ("quality", "commands", "Number,When,By,What,Note,Reference", (str(MORNINGS + 2), 3, "import_orders")),
             ("quality", "holds", "Lot,Hold,When,By,Note", ("F-2", 4, "wet sacks")),
             ("quality", "recalls-open", "Recall,Lot,When,By,Note,Lifted,Lifted by,Lifted for", ("RC-1", 4, "moths, seen by \"erna\"")),
             ("quality/recall/RC-1", "goods-of-RC-1", "Place,Lot,Part,Material,Amount,Unit,On hold,Recalled,Seen", ("A1", 7, "yes")),

@@ -133,3 +133,31 @@ class German(BrowserTestCase):
         tab = self.german("quality", "const own = fetch; fetch = (path, ...more) => (path === '/german.json' ? Promise.reject(new TypeError()) : own(path, ...more));")
         tab.has("Recalls")
         self.check("the language", tab.run("document.documentElement.lang"), "en")
+
+    def test_language_that_the_desk_is_served_in_comes_before_the_browsers_own_and_after_a_chosen_one(self) -> None:
+        for served, wanted, chosen, language in (("de", '["en"]', "", "de"), ("en", '["de"]', "", "en"), ("de", '["fr"]', '"en"', "en")):
+            self.serve("--language", served)
+            kept = pages.KEPT + (f"localStorage.setItem('desk.language', '{chosen}');" if chosen else "")
+            tab = self.open("quality", WANTED % wanted, kept)
+            self.check(f"served in {served}, wanted {wanted}, chosen {chosen}", tab.run("document.documentElement.lang"), language)
+            self.served.end()
+
+
+class Named(BrowserTestCase):
+    """The name under which the desk is served."""
+
+    def test_name_is_in_the_header_the_title_and_on_paper(self) -> None:
+        for name in ("Bakery <1>", None):
+            self.serve(*(["--name", name] if name else []))
+            tab = self.open("quality/batch/B-1")
+            self.check("the header", tab.run("document.querySelector('h1').innerText"), name or "Desk")
+            self.check("the title", tab.run("document.title"), f"{name or 'Desk'}: quality")
+            tab.run("dispatchEvent(new Event('beforeprint')); true")
+            printed = tab.run("document.querySelector('.printed').textContent")
+            self.check_true(f"what is printed: {printed}", printed.startswith(f"{name}. Printed " if name else "Printed "))
+            self.served.end()
+
+    def test_page_that_learns_no_name_is_the_desks(self) -> None:
+        self.serve("--name", "Bakery")
+        tab = self.open("quality", "const own = fetch; fetch = (path, ...more) => (path === '/v1/health' ? Promise.reject(new TypeError()) : own(path, ...more));")
+        self.check("the header", tab.run("document.querySelector('h1').innerText"), "Desk")

@@ -9,6 +9,7 @@ from __future__ import annotations
 import contextlib
 import pathlib
 import resource
+import select
 import shutil
 import socket
 import time
@@ -16,12 +17,11 @@ from collections.abc import Iterable
 
 from tests.support import http, sessions, sqlite
 from tests.support.cases import DeskTestCase
-from tests.support.commands import GOODS
 from tests.support.faults import limited
-from tests.support.http import ACCEPTED, ASK, COMMAND, HOST, NEW, POST, Server, answer, connected, desk_answer, got, posted, rest_of, status_answer
-from tests.support.large import LimitTestCase, fan_tables
-from tests.support.program import SECONDS
-from tests.support.scenarios import traced
+from tests.support.http import (
+    ACCEPTED, ASK, COMMAND, HOST, NEW, POST, Server, answer, connected, desk_answer, got, posted, rest_of, small_connection, status_answer,
+)
+from tests.support.large import FanTestCase
 from tests.support.sessions import Session, lines_of
 
 # How many seconds a client may hold the server that says nothing, with what else a busy machine takes; and how many a client may pause.
@@ -35,14 +35,13 @@ MOST_TRICKLED, TRICKLE = 20, 0.5
 SILENCE = 10
 MOST_SILENT = 64
 
-# How many files the server may have open where they are few, and how many connections it serves that drops most.
-FEW_FILES, CONNECTIONS = 24, 1000
+# How many files the server may have open where they are few, and where they are too few; and how many connections it serves that drops most.
+FEW_FILES, LOWEST_FILES, CONNECTIONS = 24, 5, 1000
 
 # How many seconds lie between two pieces that are sent after an answer.
 PIECE = 0.1
 
-# How many lots an answer tells that no client reads, and for how many seconds it may stay as it is.
-UNREAD = 30_000
+# For how many seconds an answer may stay as it is.
 WAIT = 10
 
 # How many seconds the server waits at least for the end of its last client, and how often this is looked at where the machine is busy.
@@ -162,16 +161,6 @@ def padded(size: int) -> bytes:
     return HOST + name + b"a" * (size - len(HOST + name + end)) + end
 
 
-def small_connection(port: int) -> socket.socket:
-    """Returns a connection for which the system keeps few bytes that weren't read."""
-    client = socket.socket()
-    client.setsockopt(socket.SOL_SOCKET, socket.SO_RCVBUF, 4096)
-    client.setsockopt(socket.IPPROTO_TCP, socket.TCP_MAXSEG, 536)
-    client.settimeout(SECONDS)
-    client.connect(("127.0.0.1", port))
-    return client
-
-
 # Requests to new desks that come up to a limit or pass it, each with its answer.
 REQUESTS = [
     ("a head has 32 fields", HOST + b"A: b\r\n" * 31 + b"\r\n", NEW),
@@ -231,6 +220,34 @@ class BrokenRequests(DeskTestCase):
             self.check("the next behind it", server.answered(ASK), NEW)
             self.check("its server", server.end().status, 0)
 
+
+    def test_answer_that_needs_no_body_comes_without_one(self) -> None:
+        """Sends heads whose bodies never come: each is answered as soon as it is whole. One whose body is asked for is answered with that alone."""
+        served = POST.replace(b"Host: a\r\n", b"Host: localhost\r\n")
+        cases: list[tuple[str, list[str], bytes, bytes]] = [
+            ("a question with a body", [], HOST + b"Content-Length: 59\r\n\r\n" + COMMAND, b"200"),
+            ("two lengths", [], with_length(b"59\r\nContent-Length: 59"), b"400"),
+            ("another host", ["--page"], POST, b"403"),
+            ("another origin", ["--page"], served.replace(b"Content-", b"Origin: http://evil.test\r\nContent-"), b"403"),
+            ("a path that isn't there", [], posted("/v1/nothing", COMMAND), b"404"),
+            ("a method that isn't there", [], posted("/v1/desk", COMMAND), b"405"),
+            ("no length", [], POST.replace(b"Content-Length: 59\r\n", b""), b"411"),
+            ("a body that is too large", [], with_length(b"262145"), b"413"),
+            ("a head that is too large", [], POST.replace(b"Content-", b"X: " + b"a" * 8192 + b"\r\nContent-"), b"431"),
+            ("a body in chunks", [], POST.replace(b"Content-Length: 59", b"Transfer-Encoding: chunked"), b"501"),
+        ]
+        for case, options, request, status in cases:
+            with Server(self.desk, ":memory:", 1, *options) as server, connected(server.port) as it:
+                began = time.monotonic()
+                it.sendall(request[:-len(COMMAND)])
+                self.check(case, rest_of(it)[9:12], status)
+                held = time.monotonic() - began
+                self.check_true(f"{case}, answered within a bound, {held}", held < SILENCE / 2)
+        with Server(self.desk, ":memory:", 1, "--page") as server, connected(server.port) as it:
+            it.sendall(served[:-len(COMMAND)])
+            self.check("what comes before the body", select.select([it], [], [], PAUSE)[0], [])
+            it.sendall(COMMAND)
+            self.check("what comes with it", http.DATE.sub(b"", rest_of(it)), ACCEPTED)
 
     def test_answers_stay_whole_where_next_connections_come_at_once(self) -> None:
         """Opens connections and sends on each a request, and bytes behind it, before the answer of any is read: each answer comes whole."""
@@ -313,6 +330,29 @@ class Clients(DeskTestCase):
             self.check_true("the server goes on", server.is_running())
             for one in silent:
                 one.close()
+
+    def test_limit_of_open_files_that_leaves_room_for_a_connection_ends_no_server(self) -> None:
+        """Starts a server with each low limit of open files. With the lowest it doesn't listen; with those above it has no room for a connection, and the
+        first ends it; with all others it answers, also next to silent connections."""
+        ends = []
+        for most in range(LOWEST_FILES, FEW_FILES):
+            with Server(self.desk, "few.db", CONNECTIONS, how=limited(resource.RLIMIT_NOFILE, most)) as server, contextlib.ExitStack() as stack:
+                if not server.is_running():
+                    ends.append(0)
+                    continue
+                found = [server.answered_or_broken(ASK)]
+                if found == [b""]:
+                    self.check(f"the end, with {most} files", server.end(), http.NET)
+                    ends.append(1)
+                    continue
+                for _ in range(most):
+                    stack.enter_context(connected(server.port))
+                found += [server.answered(ASK) for _ in range(3)]
+                self.check(f"answers with {most} files", found, [NEW] * 4)
+                self.check_true(f"the server goes on with {most} files", server.is_running())
+                ends.append(2)
+        self.check("how servers end, by their limits", ends, sorted(ends))
+        self.check("the ends that there are", set(ends), {0, 1, 2})
 
     def test_half_a_request_holds_nobody_up_and_does_nothing(self) -> None:
         """Sends half a head, and half a body, and then nothing: the next client is served at once, and the half is dropped after ten seconds."""
@@ -419,20 +459,18 @@ def trickled(connection: socket.socket, text: bytes, end: float) -> int:
     return len(text)
 
 
-class Readers(LimitTestCase):
+class Readers(FanTestCase):
     """Clients that read no answer."""
 
     def test_client_that_never_reads_its_answer_holds_nobody_up(self) -> None:
         """Has a client ask for an answer of more bytes than the system keeps for it, and not read it: the next client is answered at once. The answer
         that isn't read is dropped after ten seconds, and not told as a whole one."""
-        file, lots = "fan.db", [f"T-{it:05}" for it in range(UNREAD)]
-        seq = self.send(file, *GOODS) + 1
-        sqlite.filled(self.path(file), fan_tables(seq, "T", lots), seq + UNREAD)
-        whole = len(answer(traced(lots)))
+        file, desk, answered = self.desk_with_fan()
+        whole = len(answered)
         with Server(self.desk, file, 2, "--log") as server, small_connection(server.port) as lazy:
             lazy.sendall(got("/v1/lots/T/forward"))
             began = time.monotonic()
-            self.check("a client behind one that doesn't read", server.answered(ASK), desk_answer(seq + UNREAD))
+            self.check("a client behind one that doesn't read", server.answered(ASK), desk)
             held = time.monotonic() - began
             self.check_true(f"it is served within a bound, {held}", held < WAIT / 2)
             time.sleep(WAIT + PAUSE)

@@ -6,21 +6,27 @@ pieces. A connection that is reset at any point changes nothing or is executed, 
 """
 from __future__ import annotations
 
+import collections
+import concurrent.futures
 import contextlib
 import itertools
+import os
+import pathlib
+import re
+import signal
 import socket
 import statistics
 import threading
 import time
 from collections.abc import Iterator
+from typing import NamedTuple
 
 from tests.support import http, sqlite
 from tests.support.cases import DeskTestCase
-from tests.support.commands import GOODS
-from tests.support.http import ASK, NEW, POST, Server, answer, connected, desk_answer, got, posted, rest_of, status_answer
-from tests.support.large import LimitTestCase, fan_tables
-from tests.support.program import wait_for
-from tests.support.scenarios import traced
+from tests.support.commands import PLANNED, begin_batch, consume, line, receive, replies
+from tests.support.http import ASK, NEW, POST, Server, answer, connected, desk_answer, got, posted, read_of, rest_of, small_connection, status_answer
+from tests.support.large import FanTestCase
+from tests.support.program import SECONDS, wait_for
 
 # Within how many seconds a question is answered in the middle, and each, whatever other clients do.
 PROMPT, MOST_PROMPT = 0.1, 2.0
@@ -34,14 +40,22 @@ TRICKLE = 0.2
 # How many seconds a connection may be silent, a request may take, an answer may wait, and what else a busy machine takes.
 SILENCE, WHOLE, MORE = 10, 20, 5
 
-# How many lots the answer has that slow clients don't read.
-UNREAD = 30_000
+# How many bookings the record of a batch has that slow clients don't read, and how many bytes at least.
+BOOKED, RECORD_BYTES = 900, 100_000
 
-# How many clients come at once.
-CROWD = 200
+# For how many seconds others are timed without slow clients, before and after, and with them; how often they are asked, in seconds; and how often
+# this is tried where the machine is busy.
+WITHOUT, WITH = 4, 24
+DUE = 0.025
+TRIES = 3
 
-# How many connections may be there at once.
+# How many clients come at once, and how often each sends its request at most.
+CROWD, MOST_SENT = 200, 50
+
+# How many connections may be there at once, how many bytes the head and the body of each may have, and how many all may take.
 MOST_CONNECTIONS = 64
+MOST_HEAD, MOST_BODY = 8192, 262_144
+MOST_BYTES = 24_000_000
 
 
 def named(name: str) -> bytes:
@@ -138,6 +152,148 @@ class SlowClients(ClientsTestCase):
             self.check_prompt("after ten of each kind", server, NEW, 3 * ASKED)
 
 
+class Kind(NamedTuple):
+    """A kind of slow client: what it begins with, what it sends then, byte by byte and again and again, and after how many seconds it comes again
+    at the latest."""
+
+    first: bytes
+    rest: bytes
+    lasts: float
+
+
+# The kinds of slow clients. All but the last are dropped by the server before they come again.
+KINDS = {
+    "trickles": Kind(http.HOST + b"X: ", b"a", WHOLE + 2),
+    "stops in its head": Kind(ASK[:9], b"", SILENCE + 2),
+    "sends on": Kind(got("/nothing"), b"-", SILENCE),
+    "never reads": Kind(got("/v1/batches/B-1/record"), b"", SILENCE + 2),
+}
+
+
+class Returning:
+    """A slow client that comes again: once its connection broke, or its time is over."""
+
+    def __init__(self, port: int, kind: Kind) -> None:
+        self.port, self.kind, self.times = port, kind, 0
+        self.come()
+
+    def come(self) -> None:
+        self.times += 1
+        self.until = time.monotonic() + self.kind.lasts
+        self.connection = small_connection(self.port)
+        self.connection.sendall(self.kind.first)
+
+    def go_on(self) -> None:
+        """Sends a byte more where it sends on, or comes again."""
+        try:
+            self.connection.sendall(self.kind.rest)
+            if time.monotonic() < self.until:
+                return
+        except OSError:
+            pass
+        self.connection.close()
+        self.come()
+
+
+@contextlib.contextmanager
+def returning(port: int) -> Iterator[None]:
+    """Has ten clients of each kind come, and come again."""
+    clients = [Returning(port, kind) for kind in KINDS.values() for _ in range(EACH)]
+    ended = threading.Event()
+
+    def go_on() -> None:
+        while not ended.wait(TRICKLE):
+            for client in clients:
+                client.go_on()
+
+    thread = threading.Thread(target=go_on, daemon=True)
+    thread.start()
+    try:
+        yield
+    finally:
+        ended.set()
+        thread.join()
+        for client in clients:
+            client.connection.close()
+
+
+# How late requests were answered that were due in a second, for each second.
+Latencies = list[list[float]]
+
+
+def within(latencies: Latencies) -> float:
+    """Returns within how many seconds 99 of 100 were answered."""
+    times = sorted(itertools.chain(*latencies))
+    return times[len(times) * 99 // 100]
+
+
+def told(latencies: Latencies) -> str:
+    """Returns how late they were answered, in milliseconds."""
+    times = list(itertools.chain(*latencies))
+    middle, most_of, most = statistics.median(times), within(latencies), max(times)
+    return f"{1000 * middle:.1f}, {1000 * most_of:.1f}, {1000 * most:.1f}"
+
+
+class Latency(ClientsTestCase):
+    """How late others are answered over the whole time, with slow clients of each kind and without."""
+
+    IN_MEMORY = IS_LONG = True
+
+    def batch_with_record(self) -> int:
+        """Makes a desk with a batch whose record is long; returns the number of its last command."""
+        first = [*PLANNED, receive("F-1", BOOKED, "FLOUR"), *begin_batch("B-1", 1)]
+        by = "by " * 20
+        told = b"".join(map(line, first)) + line(consume("B-1"), f'"at":200,"by":"{by}","note":"{by}"') * BOOKED
+        self.check_run("the batch", ["run", "plant.db"], (0, replies(1, len(first) + BOOKED), b""), told)
+        return len(first) + BOOKED
+
+    def latencies(self, server: Server, seconds: int) -> Latencies:
+        """Asks, and gives a command, in turn, each on a connection of its own, when it is due; returns how late each was answered. Each that is due
+        while another is answered late is late itself, so that nothing is missed."""
+        found: Latencies = [[] for _ in range(seconds)]
+        began = time.monotonic()
+        for number in range(int(seconds / DUE)):
+            due = began + number * DUE
+            time.sleep(max(0.0, due - time.monotonic()))
+            self.seq += number % 2
+            wanted = answer('{"ok":%d}' % self.seq) if number % 2 else desk_answer(self.seq)
+            self.check("an answer", server.answered(http.booked(http.command(name=f"N-{self.seq}", at=200)) if number % 2 else ASK), wanted)
+            found[int(number * DUE)].append(time.monotonic() - due)
+        return found
+
+    def test_others_are_answered_within_a_tenth_of_a_second_over_the_whole_time(self) -> None:
+        """Ten clients trickle, ten stop in the head, ten never read a record of 100 kB, and ten send on; each comes again once it is dropped."""
+        self.seq = self.batch_with_record()
+        log = self.folder / "log"
+        with open(log, "wb") as errors, Server(self.desk, "plant.db", 1_000_000, "--log", how={"stderr": errors}) as server:
+            record = server.answered(KINDS["never reads"].first)
+            self.check_true(f"a record of {len(record)} bytes", len(record) > RECORD_BYTES)
+            for _ in range(TRIES):
+                before = self.latencies(server, WITHOUT)
+                with returning(server.port):
+                    times = self.latencies(server, WITH)
+                    self.check("how many threads the server has", len(os.listdir(f"/proc/{server.process.pid}/task")), 1)
+                after = self.latencies(server, WITHOUT)
+                bound = PROMPT + within(before + after)
+                if within(times) < bound and all(statistics.median(it) < PROMPT for it in times):
+                    break
+        self.note(f"ms in the middle, of 99 of 100, at most, without slow clients: {told(before)}; {told(after)}; with: {told(times)}")
+        self.check_true(f"99 of 100 were answered within {bound} seconds: {within(times)}", within(times) < bound)
+        for second, it in enumerate(times):
+            middle, most = statistics.median(it), max(it)
+            self.check_true(f"second {second}: in {middle} and at most {most} seconds", middle < PROMPT and most < MOST_PROMPT)
+        self.check_dropped(log.read_text())
+
+    def check_dropped(self, log: str) -> None:
+        """Looks in the log whether the slow clients were dropped while the others were timed, each in its own way."""
+        lines = [it.split('"') for it in log.splitlines() if '"' in it]
+        unanswered = collections.Counter(first for _, first, rest in lines if rest.split()[0] == "0")
+        for first, least in (("GET /v1/desk HTTP/1.1", EACH), (ASK[:9].decode(), 2 * EACH), ("GET /v1/batches/B-1/record HTTP/1.0", EACH)):
+            self.check_true(f"{first} was dropped {unanswered[first]} times", unanswered[first] >= least)
+        refused = sum(rest.split()[0] == "404" for *_, rest in lines)
+        self.check_true(f"{refused} that send on were answered", refused >= WITH / 4 * EACH)
+
+
 class Order(ClientsTestCase):
     """Requests that come in pieces, side by side."""
 
@@ -168,7 +324,27 @@ class Order(ClientsTestCase):
             self.check("the first client's", rest_of(first), answer('{"ok":4}'))
             self.check("the server", server.end(), http.WELL)
 
-    def test_two_hundred_clients_at_once_are_answered(self) -> None:
+    def test_requests_that_become_whole_at_once_are_executed_in_that_order(self) -> None:
+        """Pauses the server, sends the last bytes of three commands in each order, and has it go on."""
+        orders = list(itertools.permutations(range(3)))
+        with Server(self.desk, ":memory:", 3 * len(orders)) as server:
+            for turn, order in enumerate(orders):
+                with contextlib.ExitStack() as stack:
+                    clients = [stack.enter_context(connected(server.port)) for _ in range(3)]
+                    sent = [named(f"{name}-{turn}") for name in "ABC"]
+                    for client, request in zip(clients, sent):
+                        client.sendall(request[:-1])
+                        wait_for(server.process, "S")
+                    server.process.send_signal(signal.SIGSTOP)
+                    wait_for(server.process, "T")
+                    for number in order:
+                        clients[number].sendall(sent[number][-1:])
+                    server.process.send_signal(signal.SIGCONT)
+                    wanted = [answer('{"ok":%d}' % (3 * turn + order.index(it) + 1)) for it in range(3)]
+                    self.check(f"the order {order}", [rest_of(it) for it in clients], wanted)
+            self.check("the server", server.end(), http.WELL)
+
+    def test_two_hundred_clients_are_answered_as_many_at_once_as_may_be_there(self) -> None:
         """Opens so many connections as may be there at once, each with a command, over and over until 200 clients were served."""
         with Server(self.desk, ":memory:", CROWD) as server:
             found: list[bytes] = []
@@ -182,19 +358,114 @@ class Order(ClientsTestCase):
             self.check("their answers", sorted(found), sorted(answer('{"ok":%d}' % (number + 1)) for number in range(CROWD)))
             self.check("the server", server.end(), http.WELL)
 
-    def test_reset_at_each_point_holds_nobody_up(self) -> None:
-        """Resets a connection after each byte of a command: it changes nothing unless it was whole."""
-        points = range(0, len(POST) + 1, 7)
-        with Server(self.desk, ":memory:", 2 * len(points) + 1) as server:
-            for size in points:
+    def test_two_hundred_clients_at_once_are_answered_and_each_acts_once(self) -> None:
+        """Has 200 clients come at once, each with a command under a reference, in a thread of its own. One that is dropped for another sends again."""
+        begins = threading.Barrier(CROWD)
+
+        def asks(number: int) -> list[bytes]:
+            request = http.booked(http.command(name=f"C-{number}", ref=f"K-{number}"))
+            begins.wait(SECONDS)
+            found: list[bytes] = []
+            while not found or not found[-1] and len(found) < MOST_SENT:
+                found.append(server.answered_or_broken(request))
+            return found
+
+        with Server(self.desk, ":memory:", CROWD * MOST_SENT) as server, concurrent.futures.ThreadPoolExecutor(CROWD) as clients:
+            found = list(clients.map(asks, range(CROWD)))
+            self.check("their answers", sorted(it[-1] for it in found), sorted(answer('{"ok":%d}' % (number + 1)) for number in range(CROWD)))
+            self.check("how many commands acted", server.answered(ASK), desk_answer(CROWD))
+        self.note(f"{sum(len(it) > 1 for it in found)} of {CROWD} clients at once sent again")
+
+
+class Interleavings(ClientsTestCase):
+    """The three pieces of each of three commands, in each order."""
+
+    IN_MEMORY = IS_LONG = True
+
+    def test_commands_are_executed_in_the_order_of_their_last_pieces(self) -> None:
+        """Ends the pieces within the head, within the body and with the last byte. Each command has a reference of its own."""
+        orders = sorted(set(itertools.permutations([0, 1, 2] * 3)))
+        wanted: list[tuple[str, int]] = []
+        with Server(self.desk, "order.db", 3 * len(orders)) as server:
+            for turn, order in enumerate(orders):
+                names = [f"{name}-{turn}" for name in "ABC"]
+                sent = [http.booked(http.command(name=it, ref=it)) for it in names]
+                parts = [iter((it[:20], it[20:-9], it[-9:])) for it in sent]
+                with contextlib.ExitStack() as stack:
+                    clients = [stack.enter_context(connected(server.port)) for _ in range(3)]
+                    for number in order:
+                        clients[number].sendall(next(parts[number]))
+                        wait_for(server.process, "S")
+                    ranks = sorted(range(3), key=lambda it: order[::-1].index(it), reverse=True)
+                    wanted += [(names[it], len(wanted) + place) for place, it in enumerate(ranks, 1)]
+                    seqs = dict(wanted[-3:])
+                    found = [rest_of(it) for it in clients]
+                    self.check(f"the order {order}", found, [answer('{"ok":%d}' % seqs[it]) for it in names])
+            self.check("the server", server.end(), http.WELL)
+        self.check("what was executed", sqlite.rows(self.folder / "order.db", "SELECT id, seq FROM receipt ORDER BY seq"), wanted)
+
+
+class Resets(ClientsTestCase, FanTestCase):
+    """Connections that are reset at each point: of their request, and of their answer."""
+
+    def test_reset_at_each_point_of_a_request_holds_nobody_up(self) -> None:
+        """Resets a connection after each byte of a command: it changes nothing unless it was whole, and then acts once."""
+        whole = http.booked(http.command(ref="K-1"))
+        with Server(self.desk, "reset.db", 3 * len(whole)) as server:
+            files = server.open_files()
+            for size in range(len(whole) + 1):
                 with connected(server.port) as it:
-                    it.sendall(POST[:size])
+                    it.sendall(whole[:size])
                     time.sleep(0.002)
                     http.closed(it, True)
                 found = server.answered(ASK)
-                self.check_true(f"a question after a reset at {size}, {found!r}", found in (desk_answer(0), desk_answer(1)))
-                self.check_true("nothing is executed that isn't whole", found == desk_answer(0) or size == len(POST))
-            self.check("the server goes on", server.is_running(), True)
+                self.check_true(f"a question after a reset at {size}, {found!r}", found == NEW or size == len(whole) and found == desk_answer(1))
+            self.check("the command, sent again", server.answered(whole), http.ACCEPTED)
+            self.check("it acted once", server.answered(ASK), desk_answer(1))
+            server.wait_closed(files)
+            self.check_true("the server goes on", server.is_running())
+
+    def test_reset_at_each_point_of_an_answer_holds_nobody_up(self) -> None:
+        """Resets a connection after so many bytes of a long answer: the next client is answered at once, and nothing stays open."""
+        file, desk, whole = self.desk_with_fan()
+        with Server(self.desk, file, 1000) as server:
+            files = server.open_files()
+            for size in [0, 1, 99, 4096, *range(10_000, len(whole), len(whole) // 20), len(whole)]:
+                with small_connection(server.port) as it:
+                    it.sendall(got("/v1/lots/T/forward"))
+                    self.check(f"the first {size} bytes", read_of(it, size), whole[:size])
+                    http.closed(it, True)
+                self.check("an answer after what was asked for before it", server.answered(ASK), desk)
+                self.check_prompt(f"after a reset at {size}", server, desk, 3)
+            server.wait_closed(files)
+
+
+class Memory(ClientsTestCase):
+    """What the bytes of requests take that aren't whole."""
+
+    def resident(self, server: Server) -> int:
+        """Returns how many bytes of memory the server has, once it waits."""
+        wait_for(server.process, "S")
+        [size] = re.findall(r"^VmRSS:\s+(\d+) kB$", pathlib.Path(f"/proc/{server.process.pid}/status").read_text(), re.M)
+        return int(size) * 1024
+
+    def test_requests_that_lack_a_byte_take_24_megabytes_at_most(self) -> None:
+        """Has as many clients as may be there send all but the last byte of the longest head and body, and then that byte."""
+        request = posted("/v1/commands", b" " * MOST_BODY, "X: ")
+        request = request.replace(b"X: ", b"X: " + b"a" * (MOST_HEAD + MOST_BODY - len(request)))
+        with Server(self.desk, ":memory:", MOST_CONNECTIONS + 1) as server, contextlib.ExitStack() as stack:
+            self.check("an answer", server.answered(ASK), NEW)
+            before = self.resident(server)
+            clients = [stack.enter_context(connected(server.port)) for _ in range(MOST_CONNECTIONS)]
+            for it in clients:
+                it.sendall(request[:-1])
+            took = self.resident(server) - before
+            self.check_true(f"they take {took} bytes", MOST_CONNECTIONS * MOST_BODY // 2 < took < MOST_BYTES)
+            for it in clients:
+                it.sendall(request[-1:])
+            for it in clients:
+                self.check("an answer", rest_of(it), answer('{"name":"BadForm","refused":1}', 400))
+            self.check("the server", server.end(), http.WELL)
 
 
 class Times(ClientsTestCase):
@@ -231,15 +502,8 @@ class Times(ClientsTestCase):
                 self.check_true("its connection is closed", False)
 
 
-class Readers(ClientsTestCase, LimitTestCase):
+class Readers(ClientsTestCase, FanTestCase):
     """Clients that read a long answer slowly or not at all."""
-
-    def desk_with_fan(self) -> tuple[str, bytes, bytes]:
-        """Makes a desk whose lot T has a long trace; returns its file, the answer of the desk and the trace's."""
-        file, lots = "fan.db", [f"T-{it:05}" for it in range(UNREAD)]
-        seq = self.send(file, *GOODS) + 1
-        sqlite.filled(self.path(file), fan_tables(seq, "T", lots), seq + UNREAD)
-        return file, desk_answer(seq + UNREAD), answer(traced(lots))
 
     def test_ten_that_never_read_hold_nobody_up_and_a_slow_one_has_its_whole_answer(self) -> None:
         file, desk, whole = self.desk_with_fan()
@@ -257,16 +521,6 @@ class Readers(ClientsTestCase, LimitTestCase):
                 with contextlib.suppress(ConnectionResetError):
                     read = len(rest_of(it))
                     self.check_true(f"an answer that wasn't read is no whole one, {read}", read < len(whole))
-
-
-def small_connection(port: int) -> socket.socket:
-    """Returns a connection for which the system keeps few bytes that weren't read."""
-    client = socket.socket()
-    client.setsockopt(socket.SOL_SOCKET, socket.SO_RCVBUF, 4096)
-    client.setsockopt(socket.IPPROTO_TCP, socket.TCP_MAXSEG, 536)
-    client.settimeout(60)
-    client.connect(("127.0.0.1", port))
-    return client
 
 
 def read_slowly(client: socket.socket) -> bytes:

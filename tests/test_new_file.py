@@ -15,6 +15,7 @@ from collections.abc import Callable, Iterator
 
 from tests.support import faults
 from tests.support.cases import DeskTestCase, good
+from tests.support.http import ASK, NEW, WELL, Server
 from tests.support.program import Ended, Process, wait_for
 
 STORE = (3, b"", b"fault: store\n")
@@ -128,13 +129,22 @@ class Pages(NewFileTestCase):
             self.check_true(f"{word}, nothing beside it", not self.new.exists())
 
     def test_page_is_synced_before_the_file_gets_its_name(self) -> None:
+        notes = self.folder / "notes"
         for word, *others in WORDS:
             self.clear()
-            notes = self.folder / "notes"
             orders = b"order,recipe,version,size,due,priority\n"
             self.desk.run(word, "plant.db", *others, told=orders if word == "import" else b"", env=faults.noted_calls(notes))
-            first, *_ = notes.read_text().partition("link plant.db\n")
-            self.check(f"{word}, before the name", first.splitlines(), ["write plant.db-new", "sync plant.db-new"])
+            self.check_synced(word, notes)
+        self.clear()
+        with Server(self.desk, "plant.db", 1, env=faults.noted_calls(notes)) as server:
+            self.check("an answer", server.answered(ASK), NEW)
+            self.check("the server", server.end(), WELL)
+        self.check_synced("serve", notes)
+
+    def check_synced(self, word: str, notes: pathlib.Path) -> None:
+        """Looks whether what was noted begins with a page that is written and synced before its file gets its name."""
+        first, *_ = notes.read_text().partition("link plant.db\n")
+        self.check(f"{word}, before the name", first.splitlines(), ["write plant.db-new", "sync plant.db-new"])
 
     def test_first_page_is_that_of_an_empty_database(self) -> None:
         page = self.whole_page()

@@ -1,6 +1,7 @@
 """Orders and recipes at the page, in a browser: filters and sorts, what a release wants of the stock, several released at once, versions of recipes."""
 from __future__ import annotations
 
+import json
 import time
 
 from tests.support import Json
@@ -12,6 +13,10 @@ BUTTON = f"{FORM}.querySelector('.end button:last-child')"
 
 # The orders that are shown.
 ORDERS = "[...document.querySelectorAll('.stack [data-row^=\"O-\"]')].map((it) => it.dataset.row)"
+
+# The row of an order, and what it says that the order lacks.
+ROW = "document.querySelector('[data-row=\"%s\"]')"
+LACKS = "(document.querySelector('[data-row=\"%s\"] .over')?.innerText ?? 'no mark')"
 
 # What a release wants: material, asked, free and short.
 NEEDS = f"[...{FORM}.querySelectorAll('.needs tbody tr')].map((it) => [...it.children].map((one) => one.innerText.replaceAll('\\u202f', ' ')))"
@@ -105,6 +110,7 @@ class Orders(BrowserTestCase):
 
     def test_release_says_what_is_short(self) -> None:
         tab = self.open_orders()
+        tab.has("short: ", ROW % "O-14")
         tab.run(COUNTED)
         tab.run("show().then(() => true)")
         self.check("what is asked of single orders or recipes for the list", tab.run("asks.filter((it) => /recipes\\/[A-Z]|orders\\/|stock/.test(it))"), [])
@@ -126,6 +132,34 @@ class Orders(BrowserTestCase):
         batch = {it["def"]: it["asked"] for it in self.served.ask("/batches/B-14/lines")["lines"] if it["kind"] == "in"}
         self.check("what its batch asks", [f"{it}{batch[it]}" for it in batch], [row[0] + row[1].replace(" ", "").rstrip("kg") for row in needs])
         self.end(tab, MORNINGS + 2)
+
+    def test_orders_say_what_they_lack_and_the_units_of_their_sizes(self) -> None:
+        tab = self.open_orders()
+        recipes = {it: self.served.ask(f"/recipes/{it}/1") for it in ("BREAD", "DOUGH")}
+        orders = [("O-5", "DOUGH", 900), ("O-4", "BREAD", 100), *((order, recipe, size) for order, recipe, size, *_ in MORE)]
+        for wanted in ("short", "enough"):
+            free = {it["def"]: it["usable"] for group in ("RAW", "GOODS") for it in self.served.ask(f"/lists/stocks/{group}")["stocks"]}
+            for order, recipe, size in orders:
+                it = recipes[recipe]
+                asked = {one["def"]: (one["unit"], (2 * one["qty"] * size + it["base"]) // (2 * it["base"])) for one in it["lines"] if one["kind"] == "in"}
+                lacks = [f"{name} {amount - free[name]} {unit}" for name, (unit, amount) in asked.items() if amount > free[name]]
+                found = f"{LACKS % order}.replaceAll('\\u202f', '')"
+                tab.until(f"{found} === {json.dumps('short: ' + ', '.join(lacks) if lacks else '')}", f"what {order} lacks: {lacks}")
+                self.check_true(f"the size of {order}", f"{size} {it['unit']}" in tab.text(ROW % order))
+            if wanted == "short":
+                self.check_true("some lack something", tab.run("[...document.querySelectorAll('td .over')].some((it) => it.innerText !== '')"))
+                for lot, name in (("F-77", "FLOUR"), ("Y-77", "YEAST"), ("D-77", "DOUGH")):
+                    self.told("receive", lot=lot, **{"def": name}, amount=100_000, place="A1")
+                tab.run("lookAgain()")
+        tab.click("finished")
+        tab.has("300 kg", ROW % "O-1")
+        self.check("what finished orders lack", tab.run("[...document.querySelectorAll('td .over')].length"), 0)
+        self.end(tab, MORNINGS + 4)
+
+    def test_order_is_said_not_to_change(self) -> None:
+        tab = self.open_orders()
+        tab.click("One order by hand")
+        tab.has("An order can't be changed: a slip is cancelled, and taken in anew under another id.", FORM)
 
     def test_several_orders_are_released_at_once(self) -> None:
         tab = self.open_orders()
@@ -181,6 +215,72 @@ class Orders(BrowserTestCase):
         tab.has("New version of recipe BREAD", FORM)
         self.check("the next version", tab.value("version"), "3")
         self.end(tab, MORNINGS + 1)
+
+    def choose_in(self, tab: Tab, name: str, value: str) -> None:
+        """Writes into a field of the form by the name that a reader of the screen has, or chooses in it."""
+        field = f"{FORM}.querySelector('[aria-label=\"{name}\"]')"
+        tab.until(f"{field} !== null", f"the field {name}")
+        told = "for (const one of ['input', 'change']) it.dispatchEvent(new Event(one, {bubbles: true}));"
+        tab.run(f"(() => {{ const it = {field}; it.value = {json.dumps(value)}; {told} }})()")
+
+    def test_lines_of_a_recipe_are_chosen_one_by_one(self) -> None:
+        self.serve()
+        tab = self.open("planner")
+        tab.click("New recipe")
+        for field, value in {"recipe": "RYE", "version": "1", "title": "Rye bread", "product": "BREAD", "base": "100", "min": "50", "max": "500"}.items():
+            tab.fill(field, value)
+        tab.click("Add an input", within=FORM)
+        tab.until("document.activeElement.getAttribute('aria-label') === 'Material of line 1'", "the keyboard in the new line")
+        tab.until("document.activeElement.options.length === 5", "the materials")
+        offered = tab.run("[...document.activeElement.options].map((it) => it.label)")
+        self.check("the materials", offered, ["choose a material", "BREAD: Bread", "DOUGH: Dough", "FLOUR: Flour", "YEAST: Yeast"])
+        self.choose_in(tab, "Material of line 1", "DOUGH")
+        tab.has("kg", f"{FORM}.querySelector('.line')")
+        self.choose_in(tab, "Amount of line 1", "60")
+        for button, fields in (
+            ("Add an output", {"Material": "BREAD", "Amount": "100"}), ("Add a phase", {"Unit": "oven", "Operation": "bake", "Phase": "bake"}),
+            ("Add a parameter", {"Name": "temp", "Value": "230 C"}),
+        ):
+            tab.click(button, within=FORM)
+            number = tab.run(f"{FORM}.querySelectorAll('.line').length")
+            for name, value in fields.items():
+                self.choose_in(tab, f"{name} of line {number}", value)
+        self.check("the text", tab.value("lines"), "in DOUGH 60\nout BREAD 100\nphase OVEN BAKE BAKE\npar TEMP 230 C")
+        tab.run(f"{FORM}.querySelector('[aria-label=\"Line 4 up\"]').click()")
+        tab.click("Add a phase", within=FORM)
+        tab.run(f"{FORM}.querySelector('[aria-label=\"Take line 5 away\"]').click()")
+        text = "in DOUGH 60\nout BREAD 100\npar TEMP 230 C\nphase OVEN BAKE BAKE"
+        self.check("the text with the parameter before its phase", tab.value("lines"), text)
+        tab.fill("lines", f"{text}\npar SALT 2\nsomething else")
+        tab.until(f"{FORM}.querySelectorAll('.line').length === 6", "what is typed as lines")
+        self.check("what is in them", tab.run(f"[...{FORM}.querySelectorAll('.line:nth-child(n+5) input')].map((it) => it.value)"),
+                   ["OVEN", "BAKE", "BAKE", "SALT", "2", "something else"])
+        self.choose_in(tab, "Kind of line 6", "par")
+        self.check("a line of another kind", tab.value("lines").split("\n")[-1], "par else")
+        tab.run(f"{FORM}.querySelector('[aria-label=\"Take line 6 away\"]').click()")
+        tab.reload()
+        tab.until("document.getElementById('view').dataset.ready")
+        tab.click("New recipe")
+        tab.has("What was typed before the page was loaded anew is put back.", FORM)
+        self.check("the lines behind a reload", tab.run(f"{FORM}.querySelectorAll('.line').length"), 5)
+        self.press(tab)
+        tab.has("Recipe RYE 1 drafted.")
+        lines = self.served.ask("/recipes/RYE/1")["lines"]
+        self.check("its lines", [it["kind"] for it in lines], ["in", "out", "par", "phase", "par"])
+        self.check("a line", {it: lines[0][it] for it in ("def", "qty")}, {"def": "DOUGH", "qty": 60})
+        self.end(tab, MORNINGS + 1)
+
+    def test_form_of_a_recipe_is_not_too_wide(self) -> None:
+        self.serve()
+        for width in (390, 820, 1280, 1920):
+            tab = self.open("planner", width=width)
+            tab.click("Lines", row="DOUGH 1")
+            tab.click("New version from this one", within=FORM)
+            tab.until(f"{FORM}.querySelectorAll('.line').length === 5", "its lines")
+            wide = "[...document.querySelectorAll('html, dialog, .lines, .line')].filter((it) => it.scrollWidth > it.clientWidth).length"
+            low = f"[...{FORM}.querySelectorAll('button, input, select')].filter((it) => it.getBoundingClientRect().height < 44).map((it) => it.outerHTML)"
+            self.check(f"what is scrolled sideways at {width}", tab.run(wide), 0)
+            self.check(f"what is low at {width}", tab.run(low) if width < 980 else [], [])
 
     def test_orders_are_not_too_wide(self) -> None:
         for width in (390, 820, 1280, 1920):

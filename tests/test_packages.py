@@ -16,9 +16,11 @@ import shutil
 import stat
 import subprocess
 import tarfile
+import time
 from typing import Any
 
 from tests.support.cases import ProgramTestCase
+from tests.support.http import free_port, listens
 from tests.support.program import PACKED, SECONDS, TOP, File, path_of
 
 # Folders that are on every machine.
@@ -329,13 +331,28 @@ class Texts(PackageTestCase):
         self.check("PORT and COUNT", settings, [[("PORT", "8080"), ("COUNT", "1000000")]] * 2)
         for name, value in settings[0]:
             line = line.replace("${%s}" % name, value)
-        line = line.replace(" $HOSTS $BOOKS $LOG", "")
+        line = line.replace(" $PAGE $HOSTS $BOOKS $LOG", "")
         self.check("the words of the unit", line, "/usr/bin/desk serve /var/lib/desk/%i.db 8080 1000000 --page")
         words = line.replace("/var/lib/desk/%i.db", "nowhere/plant.db").split()[1:]
         found = ran(self.tops["deb"] / "bin/desk", *words, cwd=self.folder, env=PLAIN)
         self.check("the words of the unit, over a file in no folder", found, (3, "", "fault: store\n"))
+        self.check_waits(text)
         self.check("what the unit does last", re.findall(r"^ExecStopPost=(.*)$", text, re.M)[1:], ["-/usr/bin/desk verify /var/lib/desk/%i.db"])
         self.check_unit("desk@.service", text)
+
+    def check_waits(self, text: str) -> None:
+        """Has a shell do what the unit does once the desk is begun: it waits for one that opens its file, and not for one that has ended."""
+        [line] = re.findall(r"^ExecStartPost=-/bin/sh -c '(.*)'$", text, re.M)
+        desk, port = self.tops["deb"] / "bin/desk", free_port()
+        line = line.replace("/usr/bin/", f"{self.tops['deb']}/bin/").replace("$$", "$").replace("${PORT}", str(port))
+        words = ["sh", "-c", 'sleep 1; exec "$@"', "sh", str(desk), "serve", "waited.db", str(port), "100"]
+        with subprocess.Popen(words, cwd=self.folder, stderr=subprocess.DEVNULL) as process:
+            self.check("a desk that begins a second later", ran("sh", "-c", line.replace("$MAINPID", str(process.pid))), (0, "", ""))
+            self.check_true("it answers then", listens(port))
+            process.kill()
+        began = time.monotonic()
+        self.check("a desk that has ended", ran("sh", "-c", line.replace("$MAINPID", str(process.pid))), (0, "", ""))
+        self.check_true("it isn't waited for", time.monotonic() - began < 5)
 
     def test_units_of_backups_are_sound_and_their_words_are_understood(self) -> None:
         text = self.files["lib/systemd/system/desk-backup@.service"][0].decode()

@@ -94,7 +94,7 @@ class Views(BrowserTestCase):
         self.serve()
         tab = self.open("planner")
         offered = "[...document.getElementById('begun').options].map((it) => it.label)"
-        wanted = {"b": "BR-1: lot,B-1: batch,B-2: batch,B-3: batch,BREAD: material", "br": "BR-1: lot,BREAD: material", "br-1": "BR-1: lot", "br 1": "",
+        wanted = {"b": "BR-1: lot,B-1: batch,B-2: batch,B-3: batch,BREAD: material, recipe", "br": "BR-1: lot,BREAD: material, recipe", "br-1": "BR-1: lot", "br 1": "",
                   "o": "O-1: order,O-2: order,O-3: order,O-4: order,O-5: order", "zz": ""}
         for text, offers in wanted.items():
             tab.fill("find", text)
@@ -117,6 +117,27 @@ class Views(BrowserTestCase):
         tab.fill("find", "wheat")
         tab.key("Enter")
         tab.until("location.hash === '#warehouse/WF550'", "the material")
+
+    def test_places_are_found_by_their_names_and_recipes_by_their_ids(self) -> None:
+        self.serve()
+        for lot, place in (("N-1", "Cold room 1"), ("N-2", "Cold room 2")):
+            self.served.told(at=self.now(), by="carl", do="receive", lot=lot, **{"def": "FLOUR"}, amount=1, place=place)
+        lines = [{"kind": "out", "def": "BREAD", "qty": 1}, {"kind": "phase", "unit": "OVEN", "oper": "BAKE", "phase": "BAKE"}]
+        recipe = {"recipe": "RYE", "version": 1, "product": "BREAD", "base": 1, "min": 1, "max": 9, "title": "", "lines": lines}
+        self.served.told(at=self.now(), by="carl", do="add_recipe", **recipe)
+        tab = self.open("planner")
+        for typed, address in (("cold room 2", "warehouse/place/Cold%20room%202"), ("shop", "warehouse/place/SHOP"), ("a1", "warehouse/place/A1"),
+                               ("rye", "planner?recipe=RYE")):
+            tab.fill("find", typed)
+            tab.key("Enter")
+            self.at(tab, address)
+        tab.fill("find", "cold r")
+        tab.key("Enter")
+        tab.has("no recipe and no place")
+        tab.run("document.activeElement.blur()")
+        tab.scan("A2")
+        self.at(tab, "warehouse/place/A2")
+        self.check("what the console tells of errors", tab.errors(), [])
 
     def test_parts_of_which_nothing_is_left_are_not_shown(self) -> None:
         self.serve()

@@ -50,6 +50,16 @@ class RecallPage(BrowserTestCase):
         heads = tab.run("[...document.querySelectorAll('.stack:last-child h2')].map((it) => it.innerText)")
         self.check("what comes first", heads[:3], ["Recall RC-1", "Batches that still run", "Where its goods are"])
 
+    def test_goods_are_sorted_by_a_press_of_a_head(self) -> None:
+        tab = self.recalled()
+        lots = f"[...{GOODS}.querySelector('table').tBodies[0].rows].map((it) => it.cells[2].innerText).join(' ')"
+        for head, wanted in (("Lot", "BR-1 D-1 F-1"), ("Amount", "F-1 D-1 BR-1"), ("Amount \u25b4", "BR-1 D-1 F-1"), ("Place", "F-1 D-1 BR-1")):
+            tab.click(head, within=GOODS)
+            tab.until(f"{lots} === '{wanted}'", f"the goods behind a press of {head}")
+        tab.click("Material", within=GOODS)
+        tab.until("location.hash === '#quality/recall/RC-1?sort=material'", "the address")
+        self.check("what the console tells of errors", tab.errors(), [])
+
     def test_ticks_are_kept_for_each_recall(self) -> None:
         tab = self.recalled()
         tab.has("0 of 3 rows ticked", GOODS)
@@ -105,6 +115,6 @@ class RecallPage(BrowserTestCase):
             for k in range(40):
                 self.check_true(f"lot {k} at {width}", f"FLOUR-OF-THE-NORTH-{k:02}" in words.replace("- ", "-"))
             self.check(f"marks that are whole at {width}", words.count("recalled"), 43)
-            for wanted in ("Recall RC-1", "Printed 20", "by anna", "196 pcs", "Batches that still run"):
+            for wanted in ("Recall RC-1", "Seen Place", "Printed 20", "by anna", "196 pcs", "Batches that still run"):
                 self.check_true(f"{wanted} at {width}", wanted in words)
             self.check_true(f"the list of holds isn't printed at {width}", "On hold" not in text.split("Where its goods are")[0])

@@ -171,6 +171,8 @@ class MachinesTestCase(DeskTestCase):
     def check_equal(self, *machines: Machine) -> None:
         """Checks that the desks have equal tables, each reference once."""
         self.level(*machines)
+        digests = [it.digest() for it in machines]
+        self.check("the digests", digests, digests[:1] * len(machines))
         found = []
         for it in machines:
             it.kill_desk()

@@ -206,7 +206,7 @@ class Scans(BrowserTestCase):
             tab.scan(code)
             tab.until(f"location.hash === '#{to}'")
         tab.scan("PS-26482")
-        tab.has("There is no lot, no batch, no order, no recall and no material PS-26482.")
+        tab.has("There is no lot, no batch, no order, no recall, no material, no recipe and no place PS-26482.")
         self.check("the view that digits of a scan don't change", tab.run("location.hash"), "#planner/O-4")
         self.check_nothing_booked("scans without a form")
         self.check("what the console tells of errors", tab.errors(), [])
@@ -216,7 +216,7 @@ class Scans(BrowserTestCase):
         tab = self.open_silent("planner")
         tab.run("[...document.querySelectorAll('[data-row=\"O-4\"] button')][0].focus()")
         tab.scan("PS-26482")
-        tab.has("There is no lot, no batch, no order, no recall and no material PS-26482.")
+        tab.has("There is no lot, no batch, no order, no recall, no material, no recipe and no place PS-26482.")
         self.check("whether a form is open", tab.run("document.getElementById('dialog').open"), False)
         self.check("the view", tab.run("location.hash"), "#planner")
         for key in "12":

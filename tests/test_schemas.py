@@ -341,7 +341,7 @@ class Http(DeskTestCase):
     def test_paths_have_the_methods_that_are_described_and_no_others(self) -> None:
         source = (TOP / "crates/plant_http_requests/src/route_table.rt").read_text()
         routes = set(re.findall(r'"(/v1/[^"]*)"', source))
-        self.check("paths", set(OPENAPI["paths"]), {*routes, *pages.resources(), "/v1/operator"})
+        self.check("paths", set(OPENAPI["paths"]), {*routes, *pages.resources(), "/v1/health", "/v1/operator"})
         with self.serve("--page", *OF_OPERATORS) as server:
             for path, methods in OPENAPI["paths"].items():
                 place = next(it for it, is_path in filled(path) if is_path)

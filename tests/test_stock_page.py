@@ -211,6 +211,34 @@ class Stock(BrowserTestCase):
         tab.has("Free\n0 pcs", "document.querySelector('.facts')")
         self.end(tab)
 
+    def test_lots_are_sorted_by_a_press_of_a_head(self) -> None:
+        tab = self.open_stocked("warehouse/FLOUR")
+        shown = "[...document.querySelectorAll('.stack [data-row], .card:not(.listed) [data-row]')].map((it) => it.dataset.row).join(' ')"
+        for head, wanted in (
+            ("Came \u25b4", "B-9/0 M-1/0 Z-9/0"), ("Lot", "B-9/0 M-1/0 Z-9/0"), ("Place", "B-9/0 Z-9/0 M-1/0"), ("Stock", "B-9/0 Z-9/0 M-1/0"),
+            ("Stock \u25b4", "M-1/0 Z-9/0 B-9/0"), ("Came", "Z-9/0 M-1/0 B-9/0"),
+        ):
+            tab.click(head)
+            tab.until(f"{shown} === '{wanted}'", f"the lots behind a press of {head}")
+        tab.run("location.hash = 'warehouse/YEAST?sort=lot'")
+        yeast = [f"K-{it + 1:03}/0" for it in range(LOTS)]
+        tab.until(f"{shown} === '{' '.join(yeast[:100])}'", "the first lots of yeast by their ids, of all that there are")
+        tab.has(f"The first 100 parts of the {LOTS} oldest lots are shown, and there are more.")
+        tab.click("100 more", within="document.querySelector('.stack')")
+        tab.until(f"{shown} === '{' '.join(yeast[:200])}'", "more lots of yeast")
+        self.end(tab)
+
+    def test_lots_are_sorted_by_a_field_on_a_phone(self) -> None:
+        self.serve(begun=self.stocked)
+        tab = self.open("warehouse/FLOUR", width=390)
+        shown = "[...document.querySelectorAll('.card:not(.listed) [data-row]')].map((it) => it.dataset.row).join(' ')"
+        field = "document.querySelector('[aria-label=\"Sort the lots\"]')"
+        self.check("the choice", tab.run(f"[...{field}.options].map((it) => it.label)[6]"), "Stock, up")
+        tab.run(f"{field}.value = 'stock.down'; {field}.dispatchEvent(new Event('change'))")
+        tab.until(f"{shown} === 'M-1/0 Z-9/0 B-9/0'", "the lots, the largest first")
+        self.check("what is chosen", tab.run(f"[location.hash, {field}.value]"), ["#warehouse/FLOUR?sort=stock&way=down", "stock.down"])
+        self.end(tab)
+
     def test_used_up_lots_are_hidden_and_found(self) -> None:
         tab = self.open_stocked("warehouse/FLOUR")
         self.check("the lots that are shown", tab.run(ROWS), [f"{lot}/0" for lot, *_ in FLOUR])
@@ -295,6 +323,20 @@ class Places(BrowserTestCase):
         tab.has("40 kg", "document.querySelector('.stack [data-row=\"F-1/2\"]')")
         tab.reload()
         tab.has("At Cold room 1/2, \"back\" & #3")
+        self.check("what the console tells of errors", tab.errors(), [])
+
+    def test_goods_at_a_place_are_sorted_by_a_press_of_a_head(self) -> None:
+        self.serve()
+        for lot, name, amount in (("N-1", "DOUGH", 9), ("M-1", "FLOUR", 700)):
+            self.served.told(at=self.served.ask("/moment")["at"], by="carl", do="receive", lot=lot, **{"def": name}, amount=amount, place="A1")
+        tab = self.open("warehouse/place/A1")
+        shown = "[...document.querySelectorAll('.stack .block [data-row]')].map((it) => it.dataset.row).join(' ')"
+        for head, wanted in (
+            ("Material", "N-1/0 F-1/0 M-1/0"), ("Lot and part", "F-1/0 M-1/0 N-1/0"), ("Stock", "N-1/0 F-1/0 M-1/0"), ("Stock \u25b4", "M-1/0 F-1/0 N-1/0"),
+            ("Came", "F-1/0 N-1/0 M-1/0"),
+        ):
+            tab.click(head)
+            tab.until(f"{shown} === '{wanted}'", f"the goods behind a press of {head}")
         self.check("what the console tells of errors", tab.errors(), [])
 
     def test_goods_without_a_place_are_found(self) -> None:

@@ -15,7 +15,7 @@ import signal
 import tempfile
 from typing import Protocol
 
-from tests.support import faults, sqlite
+from tests.support import faults, http, sqlite
 from tests.support.cases import DeskTestCase, good
 from tests.support.commands import EACH_COMMAND, GOODS, add_recipe, approve, import_orders, receive
 from tests.support.http import Server, posted
@@ -350,6 +350,25 @@ class Syncs(DeskTestCase):
             of_log = [it for it, _ in itertools.groupby(calls)]
             wanted = ["write plant.db-wal", "sync plant.db-wal"] * 2
             self.check(f"command {number}", of_log, wanted)
+
+    def test_each_commit_of_a_server_syncs_its_log_twice_before_its_answer(self) -> None:
+        """Serves commands, and after each a question, the command again under its reference, and a refusal, which write nothing."""
+        notes = self.folder / "notes"
+        cases: list[tuple[bytes, bytes, int]] = [(http.ASK, http.NEW, 0)]
+        for number in range(1, 6):
+            it, done = http.booked(http.command(name=f"C-{number}", ref=f"K-{number}")), http.answer('{"ok":%d}' % number)
+            refused = http.booked(http.command(name=f"C-{number}")), http.answer('{"name":"Exists","refused":3}', 409), 0
+            cases += [(it, done, 2), (http.ASK, http.desk_answer(number), 0), (it, done, 0), refused]
+        with Server(self.desk, "plant.db", len(cases), env=faults.noted_calls(notes)) as server:
+            for request, wanted, _ in cases:
+                self.check(f"the answer to {request!r}", server.answered(request), wanted)
+            self.check("the server", server.end(), http.WELL)
+        found = [it.splitlines() for it in notes.read_text().split("reply\n")][:-1]
+        self.check("how many answers", len(found), len(cases))
+        # What comes before the first answer is also of the opening.
+        for calls, (request, _, syncs) in list(zip(found, cases))[1:]:
+            of_log = [it for it, _ in itertools.groupby(calls)]
+            self.check(f"calls before the answer to {request!r}", of_log, ["write plant.db-wal", "sync plant.db-wal"] * syncs)
 
     def test_refusal_and_question_write_nothing(self) -> None:
         self.desk.run("run", "plant.db", told=each_command(are_referred=True).told)

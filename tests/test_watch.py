@@ -72,11 +72,12 @@ class States(WatchTestCase):
             url = f"http://127.0.0.1:{server.port}"
             found = self.watch("--url", url, "--file", self.file, "--backups", self.copies, "--max-age", "1", "--min-free", "1")
             self.check_found("all of it", found, OK, "seq 2")
-            self.check("the figures", sorted(found[2]), ["age", "backup_seq", "backups_free", "free", "seq", "size"])
+            self.check("the figures", sorted(found[2]), ["age", "backup_seq", "backups_free", "failed", "free", "seq", "size", "uptime"])
             self.check("some figures", (found[2].get("seq"), found[2].get("backup_seq"), found[2].get("size")), (2, 2, self.file.stat().st_size))
             self.check_true(f"the age: {found}", 1800 <= found[2].get("age", 0) < 1800 + SECONDS)
             proxied = self.watch("--url", f"{url}/", http_proxy="http://127.0.0.1:1")
-            self.check("the desk alone, where the system names a proxy", proxied, (OK, "seq 2", {"seq": 2}))
+            self.check("the desk alone, where the system names a proxy", (*proxied[:2], proxied[2].get("seq"), proxied[2].get("failed")), (OK, "seq 2", 2, 0))
+            self.check_true("the seconds since the desk began", 0 <= proxied[2].get("uptime", -1) < SECONDS)
 
     def test_desk_that_does_not_answer_is_critical(self) -> None:
         port = free_port()

@@ -9,6 +9,7 @@ import json
 import os
 import pathlib
 import pwd
+import re
 import shutil
 import subprocess
 import time
@@ -17,7 +18,7 @@ from tests.support.cases import DeskTestCase
 from tests.support.http import (
     DATE, ORDERS, Server, answer, answered, booked, checked, command, connected, desk_answer, free_port, imported, listens, posted, status_answer,
 )
-from tests.support.program import SECONDS
+from tests.support.program import SECONDS, TOP
 
 MISSING = answer('{"reference":"missing","status":400}', 400)
 FORBIDDEN = status_answer(403)
@@ -221,6 +222,8 @@ class BehindAProxy(DeskTestCase):
     def configuration(self, port: int, to: int) -> pathlib.Path:
         """Writes what nginx is to do, with the lines of docs/EXAMPLES.md that say who is logged in, and two users."""
         (self.folder / "users").write_text("anna:{PLAIN}a\nbob:{PLAIN}b\n")
+        [recipe] = re.findall(r"^ +auth_basic .*?^        }$", (TOP / "docs/EXAMPLES.md").read_text(encoding="utf-8"), re.M | re.S)
+        lines = recipe.replace("/etc/nginx/desk.users", f"{self.folder}/users").replace("127.0.0.1:8080", f"127.0.0.1:{to}")
         at = self.folder / "nginx.conf"
         at.write_text(f"""
 daemon off; pid {self.folder}/nginx.pid; error_log stderr; worker_processes 1; user {pwd.getpwuid(os.geteuid()).pw_name};
@@ -230,8 +233,7 @@ http {{
     fastcgi_temp_path {self.folder}/f; uwsgi_temp_path {self.folder}/u; scgi_temp_path {self.folder}/s;
     server {{
         listen 127.0.0.1:{port};
-        auth_basic "desk"; auth_basic_user_file {self.folder}/users;
-        location / {{ proxy_pass http://127.0.0.1:{to}; proxy_set_header Host $http_host; proxy_set_header X-Operator $remote_user; }}
+{lines}
     }}
 }}
 """)

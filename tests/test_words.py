@@ -51,6 +51,10 @@ WRONG_VALUES = [
     ["serve", "wrong.db", "8080", "1", "--operator-field", ""],
     ["serve", "wrong.db", "8080", "1", "--operator-field", "A" * 61],
     ["serve", "wrong.db", "8080", "1", "--operator-field", "A", "--operator-field", "B"],
+    ["serve", "wrong.db", "8080", "1", "--name"],
+    ["serve", "wrong.db", "8080", "1", "--name", "A", "--name", "B"],
+    ["serve", "wrong.db", "8080", "1", "--language"],
+    ["serve", "wrong.db", "8080", "1", "--language", "fr"],
     ["import", "wrong.db", "--at", "x"],
     ["import", "wrong.db", "--at", "253402300800"],
     ["import", "wrong.db", "--at", "1", "--by", "a" * 61],
@@ -64,6 +68,9 @@ HOST = b"NAME of --host is 1 to 60 of a to z, 0 to 9, - and ., the first no - an
 
 # The rule of the name of a field.
 FIELD = b"NAME of --operator-field is 1 to 60 of A to Z, a to z, 0 to 9 and -"
+
+# Those of what the page shows.
+NAME, LANGUAGE = b"TEXT of --name is 1 to 60 characters from the space to ~", b"LANGUAGE of --language is en or de"
 
 # The rule that is told where clap takes the words and a value breaks it: that of the first such value.
 BROKEN_RULES = [
@@ -79,6 +86,11 @@ BROKEN_RULES = [
     (["serve", "wrong.db", "8080", "1", "--page", "--host", "a/b"], HOST),
     (["serve", "wrong.db", "8080", "1", "--operator-field", "X-Operator:"], FIELD),
     (["serve", "wrong.db", "8080", "1", "--operator-field", "X_Operator"], FIELD),
+    (["serve", "wrong.db", "8080", "1", "--name", ""], NAME),
+    (["serve", "wrong.db", "8080", "1", "--name", "a" * 61], NAME),
+    (["serve", "wrong.db", "8080", "1", "--name", "B\u00e4ckerei"], NAME),
+    (["serve", "wrong.db", "8080", "1", "--language", "DE"], LANGUAGE),
+    (["serve", "wrong.db", "8080", "1", "--language", ""], LANGUAGE),
 ]
 
 # What connections send, and how each is noted behind its moment.

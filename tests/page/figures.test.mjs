@@ -1,7 +1,7 @@
 import assert from "node:assert/strict";
 import test from "node:test";
 
-import { changeOf, dayAfter, dueBy, dueByDay, newIn, roundUp, shortage, stockByDay, yieldOf } from "../../page/figures.js";
+import { changeOf, dayAfter, dueBy, dueByDay, lacksOf, newIn, roundUp, shortage, stockByDay, yieldOf } from "../../page/figures.js";
 
 const dues = (...days) => days.map((due) => ({ due }));
 const atNoon = (day) => new Date(`${day}T12:00:00`).getTime() / 1000;
@@ -40,6 +40,13 @@ test("a material of which there is just enough isn't short, and one that isn't k
   assert.deepEqual(shortage([demand("FLOUR", 100, "2027-03-01")], [], STOCKS), []);
   assert.deepEqual(shortage([demand("CARTON", 1, "2027-03-01")], [], STOCKS),
     [{ def: "CARTON", name: "", unit: "pcs", asked: 1, free: 0, made: 0, from: "2027-03-01", short: 1 }]);
+});
+
+test("an order lacks of each input what its lines come to and isn't free", () => {
+  const line = (kind, def, qty) => ({ kind, def, qty, unit: "kg" });
+  const recipe = { base: 100, lines: [line("in", "FLOUR", 20), line("in", "FLOUR", 5), line("in", "CARTON", 1), line("out", "BREAD", 100), { kind: "phase", phase: "BAKE" }] };
+  assert.deepEqual(lacksOf(recipe, 400, STOCKS), [{ def: "CARTON", unit: "kg", short: 4 }]);
+  assert.deepEqual(lacksOf(recipe, 404, STOCKS), [{ def: "FLOUR", unit: "kg", short: 1 }, { def: "CARTON", unit: "kg", short: 4 }]);
 });
 
 test("a yield is what was booked of the product against what was asked of it, and no other output counts", () => {

@@ -1,7 +1,7 @@
 import assert from "node:assert/strict";
 import test from "node:test";
 
-import { LINES_EXAMPLE, LINES_HINT, isMaterial, linesText, procedureOf, recipeLines, scaled, withPath } from "../../page/recipes.js";
+import { LINES_EXAMPLE, LINES_HINT, isMaterial, lineOf, lineWords, linesText, procedureOf, recipeLines, scaled, withPath } from "../../page/recipes.js";
 
 test("the example of the form is read", () => {
   assert.deepEqual(recipeLines(LINES_EXAMPLE), [[
@@ -29,6 +29,22 @@ test("lines are written as they are read", () => {
   const [lines] = recipeLines(`${LINES_EXAMPLE}\npar NOTE`);
   assert.equal(linesText(lines), `${LINES_EXAMPLE}\npar NOTE`);
   assert.deepEqual(recipeLines(linesText(lines)), [lines, null]);
+});
+
+test("lines that are being written have as many words as their kind, and are written as they were", () => {
+  const text = "in FLOUR 200\npar TEMP 20 C\nphase MIX BLEND STIR";
+  assert.deepEqual(lineWords(text), [{ kind: "in", words: ["FLOUR", "200"] }, { kind: "par", words: ["TEMP", "20 C"] }, { kind: "phase", words: ["MIX", "BLEND", "STIR"] }]);
+  assert.equal(lineWords(`\n  ${text.replaceAll("\n", "\n\n ")} `).map(lineOf).join("\n"), text);
+  for (const [line, words] of [["in", ["", ""]], ["out DOUGH", ["DOUGH", ""]], ["par", ["", ""]], ["phase MIX", ["MIX", "", ""]]]) {
+    assert.deepEqual(lineWords(line), [{ kind: line.split(" ")[0], words }], line);
+    assert.equal(lineWords(line).map(lineOf).join(), line);
+  }
+  for (const line of ["in FLOUR 1 2", "add FLOUR 2", "phase A B C D", "toString"]) {
+    assert.deepEqual(lineWords(line), [{ kind: null, words: [line] }], line);
+    assert.equal(lineWords(line).map(lineOf).join(), line);
+  }
+  assert.deepEqual(lineWords("in flour 5\npar temp 20 c\nphase mix blend stir").map((it) => it.words.join()), ["FLOUR,5", "TEMP,20 c", "MIX,BLEND,STIR"]);
+  assert.deepEqual(lineWords(" \n"), []);
 });
 
 test("amounts are scaled as the desk scales them", () => {

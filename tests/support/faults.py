@@ -69,7 +69,7 @@ def met_call(number: int, sent: signal.Signals, mark: pathlib.Path) -> dict[str,
 
 
 def noted_calls(notes: pathlib.Path) -> dict[str, str]:
-    """The writes and syncs of the desk's files, the names that files get, and what is written to standard output are noted in this file."""
+    """The writes and syncs of the desk's files, the names that files get, and what is written to standard output or sent are noted in this file."""
     return preloaded("noted", NOTED=notes, NOTED_NAME=".db")
 
 

@@ -2,6 +2,7 @@
 from __future__ import annotations
 
 import json
+import os
 import pathlib
 import random
 import re
@@ -126,6 +127,16 @@ def connected(port: int, address: str = "127.0.0.1", seconds: float = SECONDS) -
     return socket.create_connection((address, port), seconds)
 
 
+def small_connection(port: int) -> socket.socket:
+    """Returns a connection for which the system keeps few bytes that weren't read."""
+    client = socket.socket()
+    client.setsockopt(socket.SOL_SOCKET, socket.SO_RCVBUF, 4096)
+    client.setsockopt(socket.IPPROTO_TCP, socket.TCP_MAXSEG, 536)
+    client.settimeout(SECONDS)
+    client.connect(("127.0.0.1", port))
+    return client
+
+
 def closed(connection: socket.socket, is_reset: bool) -> None:
     """Closes a connection, or resets it."""
     if is_reset:
@@ -137,6 +148,14 @@ def rest_of(connection: socket.socket) -> bytes:
     """Returns what comes on a connection to its end."""
     text = b""
     while piece := connection.recv(65536):
+        text += piece
+    return text
+
+
+def read_of(connection: socket.socket, size: int) -> bytes:
+    """Returns so many bytes that come on a connection, or all where fewer come."""
+    text = b""
+    while len(text) < size and (piece := connection.recv(min(65536, size - len(text)))):
         text += piece
     return text
 
@@ -210,6 +229,18 @@ class Server:
 
     def is_running(self) -> bool:
         return self.process.poll() is None
+
+    def open_files(self) -> int:
+        """Returns how many files and connections the server has open."""
+        return len(os.listdir(f"/proc/{self.process.pid}/fd"))
+
+    def wait_closed(self, files: int) -> None:
+        """Waits until the server has no more than so many files and connections open."""
+        last = time.monotonic() + SECONDS
+        while self.open_files() > files:
+            if time.monotonic() > last:
+                raise AssertionError(f"a desk has {self.open_files()} files open after {SECONDS} seconds")
+            time.sleep(0.01)
 
     def answered(self, request: bytes, is_last: bool = False) -> bytes:
         return answered(self.port, request, is_last)

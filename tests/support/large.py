@@ -5,10 +5,15 @@ import pathlib
 import time
 from collections.abc import Iterable, Sequence
 
+from tests.support import sqlite
 from tests.support.cases import DeskTestCase
-from tests.support.commands import line, replies
-from tests.support.http import WELL, Server, answer, got
+from tests.support.commands import GOODS, line, replies
+from tests.support.http import WELL, Server, answer, desk_answer, got
+from tests.support.scenarios import traced
 from tests.support.sqlite import Row
+
+# How many lots are split off one whose trace is long.
+SPLIT = 30_000
 
 # ---- rows of table movement
 
@@ -113,3 +118,14 @@ class LimitTestCase(DeskTestCase):
         text = "".join(it + "\n" for it in lines)
         self.check_run(f"the record of {case}", ["record", file, "B-1"], (0, text.encode(), b""))
         self.check_requests(file, [(f"the record of {case}", got("/v1/batches/B-1/record"), answer(text, kind="text/plain"))])
+
+
+class FanTestCase(LimitTestCase):
+    """A test case over a lot that was split into very many, and so has a long trace."""
+
+    def desk_with_fan(self) -> tuple[str, bytes, bytes]:
+        """Makes a desk with a lot T; returns its file, the answer of the desk, and that of the lot's trace at /v1/lots/T/forward."""
+        file, lots = "fan.db", [f"T-{it:05}" for it in range(SPLIT)]
+        seq = self.send(file, *GOODS) + 1
+        sqlite.filled(self.path(file), fan_tables(seq, "T", lots), seq + SPLIT)
+        return file, desk_answer(seq + SPLIT), answer(traced(lots))

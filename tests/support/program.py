@@ -47,6 +47,7 @@ class How(typing.TypedDict, total=False):
     user: int
     group: int
     extra_groups: list[int]
+    stderr: typing.IO[bytes]
 
 
 class Process(subprocess.Popen[bytes]):

@@ -18,7 +18,7 @@ import time
 from collections.abc import Callable, Iterator, Mapping, Sequence
 from typing import Any, NamedTuple
 
-from tests.support.http import Server
+from tests.support.http import Server, got
 from tests.support.program import SECONDS, TOP, Program
 
 SCRIPT = TOP / "examples/replica/desk_replica.py"
@@ -164,6 +164,12 @@ class Machine:
     def stop(self) -> None:
         self.stop_node()
         self.kill_desk()
+
+    def digest(self) -> tuple[str, int]:
+        """Returns the digest of the desk, which is served, and of how many commands it is."""
+        assert self.server
+        said = json.loads(self.server.answered(got("/v1/health")).partition(b"\r\n\r\n")[2])
+        return said["digest"], said["digested"]
 
     def put_back(self, copy: pathlib.Path) -> None:
         """Puts a copy in the place of a desk that isn't served."""

@@ -14,9 +14,10 @@ PAGE = TOP / "page"
 
 # The constants of the modules whose texts are said where they are used.
 TABLES = (
-    "REFUSALS", "FILE_FAULTS", "STATES", "MOVES", "SAID", "ID_RULE", "LINES_HINT", "FILE_HINT", "LISTS_OF", "TITLES", "PART_HEADS", "SORT_HEADS", "SORTS",
-    "heads", "ORDER_STATES", "WAYS", "WHICH", "WHICH_RECALLS", "FORMS_OF_RECORD", "PICTURES", "GOODS_BY", "AHEAD", "SIGNED", "GRAVE", "KEYS", "SCANS",
-    "BOOKINGS", "WORDS",
+    "REFUSALS", "FILE_FAULTS", "STATES", "MOVES", "SAID", "ID_RULE", "LINES_HINT", "FILE_HINT", "LISTS_OF", "TITLES", "PART_HEADS", "SORT_HEADS",
+    "OPEN_HEADS", "CLOSED_HEADS", "LOT_HEADS", "PLACE_HEADS", "STAND_HEADS", "heads", "ORDER_STATES", "WAYS", "WHICH", "WHICH_RECALLS", "FORMS_OF_RECORD",
+    "PICTURES", "GOODS_BY", "AHEAD", "SIGNED", "GRAVE", "KEYS", "SCANS", "BOOKINGS", "WORDS",
+    "LINE_KINDS", "ADDED",
 )
 
 # Those whose texts are words of the desk, each with what is behind it in a table; and those that name the columns of files.

@@ -1,6 +1,6 @@
 /* Notes calls of a program in the file that NOTED names, each by a line, in their order: `write FILE` and `sync FILE` of the files whose names
    contain NOTED_NAME, each by the end of its name after the last "/"; `link FILE` as a file gets this second name; and `reply` where something
-   is written to standard output. A call is noted once it has succeeded. It is put before a program by LD_PRELOAD. */
+   is written to standard output or sent on a connection. A call is noted once it has succeeded. It is put before a program by LD_PRELOAD. */
 #define _GNU_SOURCE
 #include <dlfcn.h>
 #include <fcntl.h>
@@ -8,6 +8,7 @@
 #include <stdio.h>
 #include <stdlib.h>
 #include <string.h>
+#include <sys/socket.h>
 #include <sys/types.h>
 #include <unistd.h>
 
@@ -52,6 +53,14 @@ ssize_t write(int file, const void *bytes, size_t size) {
         note("reply", NULL);
     } else if (done > 0) {
         note_open("write", file);
+    }
+    return done;
+}
+
+ssize_t send(int file, const void *bytes, size_t size, int flags) {
+    ssize_t done = NEXT(send)(file, bytes, size, flags);
+    if (done > 0) {
+        note("reply", NULL);
     }
     return done;
 }

@@ -156,8 +156,8 @@ def lacking() -> list[str]:
     formats = (TOP / "docs/FORMATS.md").read_text(encoding="utf-8")
     schemas = {it[4:] for it in json.loads((TOP / "docs/schema.json").read_text(encoding="utf-8"))["$defs"] if it.startswith("ask_")}
     described_paths = json.loads((TOP / "docs/openapi.json").read_text(encoding="utf-8"))["paths"]
-    # Who asks is no question to the desk: its path has no route.
-    served = {it for it in described_paths if it.startswith("/v1/")} - {"/v1/operator"}
+    # Who asks, and how the server fares, is no question to the desk: these paths have no route.
+    served = {it for it in described_paths if it.startswith("/v1/")} - {"/v1/operator", "/v1/health"}
     in_formats = {re.sub(r"\{(\w+)\}", lambda it: it[1].upper(), path) for path in paths if "{above}" not in path}
     return [
         *(f"docs/schema.json and the description differ in the question {it}" for it in sorted(schemas ^ words)),

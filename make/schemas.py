@@ -23,6 +23,9 @@ DOCS = TOP / "docs"
 # The greatest number of a command, and the greatest sum of amounts.
 MOST_COMMANDS, MOST = 10**15, 2**64 - 1
 
+# The statuses of answers.
+STATUSES = (200, 304, 400, 403, 404, 405, 409, 411, 412, 413, 431, 501, 503)
+
 STATES_OF_BATCHES = ("idle", "running", "complete", "pausing", "paused", "holding", "held", "restarting", "stopping", "stopped", "aborting", "aborted")
 MOVEMENTS = ("received", "consumed", "produced", "scrapped", "divided", "split", "merged")
 CSV_FAULTS = ("TooLong", "Header", "Shape", "Order", "Recipe", "Version", "Size", "Due", "Priority", "TooManyRows", "Memory")
@@ -74,6 +77,7 @@ def page(name: str, row: Schema, **more: Schema) -> Schema:
 BOOL = {"type": "boolean"}
 ID, TEXT, UNIT, DUE, AMOUNT, MOMENT = map(ref, ("id", "text", "unit", "due", "amount", "moment"))
 COUNT, SEQ = number(0), number(1, MOST_COMMANDS)
+DIGITS: Schema = {"type": "string", "pattern": "^[0-9]{1,20}$"}
 SUB, VERSION, PRIORITY, PHASES, NEXT, ATTEMPT = number(0, 999), number(1, 999), number(1, 9), number(0, 128), number(1, 129), number(1, 99)
 
 LOT, BATCH = exact(lot=ID), exact(batch=ID)
@@ -187,6 +191,9 @@ def replies() -> dict[str, Schema]:
         "another_seq": exact(seq=number(0, MOST_COMMANDS), status=words(412)),
         "no_reference": exact(reference=words("missing"), status=words(400)),
         "operator": exact(operator=TEXT),
+        "health": exact(
+            answers=exact(**{str(it): COUNT for it in STATUSES}, none=COUNT), at=MOMENT, digest=DIGITS, digested=COUNT, instance=DIGITS,
+            language=or_null(words("en", "de")), name=or_null(TEXT), schema=number(1), seconds=COUNT, seq=number(0, MOST_COMMANDS)),
         "csv_fault": exact(csv=words(*CSV_FAULTS), row=number(0, 1001)),
     }
 
@@ -254,8 +261,8 @@ RESOURCES = {
 # Texts in another language, by the English ones.
 TEXTS: Schema = {"type": "object"}
 
-# Where a client asks who it is, with --operator-field alone.
-OPERATOR = "/v1/operator"
+# Where a client asks who it is, with --operator-field alone, and how the server fares.
+OPERATOR, HEALTH = "/v1/operator", "/v1/health"
 
 # Fields of the head of a command or check, and those of an import.
 FIELDS: list[tuple[str, bool, str, Schema]] = [
@@ -370,6 +377,7 @@ def paths_of(defs: Mapping[str, Schema]) -> dict[str, Schema]:
     text = {"type": "string"}
     found["/v1/batches/{batch}/record"] = asked("/v1/batches/{batch}/record", "batch", defs, text, "text/plain")
     found[OPERATOR] = asked(OPERATOR, "desk", defs, ref("operator"))
+    found[HEALTH] = asked(HEALTH, "desk", defs, ref("health"))
     found.update({path: resource(path, kind, defs) for path, kind in RESOURCES.items()})
     found["/v1/commands"] = posted("commands", "The command was accepted", body(ref("command")), ref("accepted"), of_400="of_400_command")
     found["/v1/check"] = posted("check", "What would become of it", body({"type": "object"}), ref("answer_check"), conflicts=(), of_400="of_400_check")

@@ -51,20 +51,29 @@ class Found(NamedTuple):
     figures: str = ""
 
 
-def seq_of(url: str) -> int:
-    """The number of the last command, as the desk answers it; no proxy is asked."""
-    with urllib.request.build_opener(urllib.request.ProxyHandler({})).open(f"{url.rstrip('/')}/v1/desk", timeout=SECONDS) as answer:
-        return int(json.loads(answer.read(4096))["seq"])
+class Health(NamedTuple):
+    """What a desk answers of itself: the number of its last command, for how many seconds it has served, and how often it answered 503."""
+
+    seq: int
+    seconds: int
+    failed: int
+
+
+def health_of(url: str) -> Health:
+    """What the desk answers; no proxy is asked."""
+    with urllib.request.build_opener(urllib.request.ProxyHandler({})).open(f"{url.rstrip('/')}/v1/health", timeout=SECONDS) as answer:
+        said = json.loads(answer.read(4096))
+        return Health(int(said["seq"]), int(said["seconds"]), int(said["answers"]["503"]))
 
 
 def asked(url: str) -> tuple[int | None, Found]:
-    """Asks the desk for the number of its last command, for as long as it may take."""
-    answers: list[int] = []
+    """Asks the desk how it fares, for as long as it may take."""
+    answers: list[Health] = []
     reasons = [f"no answer within {SECONDS} seconds"]
 
     def ask() -> None:
         try:
-            answers.append(seq_of(url))
+            answers.append(health_of(url))
         except (KeyError, TypeError, ValueError):
             reasons.append("another answer than a desk's")
         except (OSError, http.client.HTTPException) as error:
@@ -76,7 +85,8 @@ def asked(url: str) -> tuple[int | None, Found]:
     asking.join(SECONDS)
     if not answers:
         return None, Found(CRITICAL, f"{url}: {reasons[-1]}")
-    return answers[0], Found(OK, f"seq {answers[0]}", f"seq={answers[0]}")
+    seq, seconds, failed = answers[0]
+    return seq, Found(OK, f"seq {seq}", f"seq={seq} uptime={seconds}s failed={failed}")
 
 
 def backed_up(folder: str, name: str | None, seq: int | None, hours: int | None) -> list[Found]:

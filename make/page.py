@@ -3,7 +3,7 @@
 
     make/page.py --check            says whether the sources are what page/ gives; status 1 where they aren't
     make/page.py --write            writes the sources
-    make/page.py --print PATH       prints the resource at a path: /, /desk.css, /desk.js, /views.js or /german.json
+    make/page.py --print PATH       prints the resource at a path: one of those in RESOURCES, as / or /views.js
 
 / is page/index.html, which names the other resources. A script is modules of page/ joined in the order of SCRIPTS: each imports from those before
 it alone, and all that they declare has names of its own. The texts of a language are those of the modules of its folder in page/texts/, as one JSON
@@ -22,16 +22,15 @@ import sys
 TOP = pathlib.Path(__file__).resolve().parent.parent
 PAGE, SOURCES = TOP / "page", TOP / "crates/desk_page/src"
 
-# The modules of each script. Those of the first line are pure: they touch neither the page nor the desk.
+# The modules of each script. Those of the first are pure: they touch neither the page nor the desk.
 SCRIPTS = {
-    "desk.js": (
+    "values.js": (
         "texts", "amounts", "moments", "ids", "addresses", "csv", "cursors", "recipes", "records", "words", "scans", "barcode", "taking", "sorting", "figures", "groups", "balances", "names",
-        "elements", "store", "language", "typed", "who", "focus", "scanner", "parts", "questions", "frame", "sorts", "saved", "lots", "forms", "paper", "label", "book",
-        "plots", "alarm", "help",
     ),
-    "views.js": ("today", "genealogy", "record", "sheet", "inputs", "balance", "stands", "release", "lacks", "chooser", "planner", "shift",
-        "goods", "places", "warehouse", "quality", "finder", "start",
-    ),
+    "desk.js": ("elements", "store", "language", "typed", "who", "focus", "scanner", "parts", "questions", "frame", "sorts", "saved"),
+    "forms.js": ("lots", "forms", "paper", "label", "book", "plots", "alarm", "help"),
+    "records.js": ("today", "genealogy", "record", "sheet", "inputs", "balance", "stands", "release", "lacks", "chooser", "goods", "places", "finder"),
+    "views.js": ("planner", "shift", "warehouse", "quality", "start"),
 }
 
 # What is in index.html for the scripts while they are modules of their own.
@@ -47,8 +46,8 @@ LANGUAGES = sorted(it for it in (PAGE / "texts").glob("*") if it.is_dir())
 # A module of texts: lines of comments, and one object of texts by the English ones, each of which has quotes around it and a comma behind it.
 TEXTS = re.compile(r"(?://.*\n|\n)*export default (\{\n(?:.*\n)*\});\n")
 
-# The most bytes of a resource, and the most lines of a module.
-LARGEST_RESOURCE, LONGEST_MODULE = 120_000, 400
+# The most bytes of a resource, the most lines of a module, and the most bytes of a line of JSON.
+LARGEST_RESOURCE, LONGEST_MODULE, LONGEST_LINE = 60_000, 400, 150
 
 SOURCE = '''//! %(about)s, as it is sent. make/page.py writes this file of what is in page/.
 
@@ -77,7 +76,7 @@ class Resource:
         elif self.path == "/desk.css":
             text = ascii_text("desk.css")
         elif self.kind == "JSON":
-            text = json.dumps(texts_of(self.source), indent=0, separators=(",", ":")) + "\n"
+            text = filled_lines(texts_of(self.source))
         else:
             text = joined_script(self.path[1:])
         if len(text) > LARGEST_RESOURCE:
@@ -95,7 +94,10 @@ class Resource:
 RESOURCES = (
     Resource("/", "page", "The page", "HTML"),
     Resource("/desk.css", "style", "The style of the page", "CSS"),
-    Resource("/desk.js", "script", "What the views of the page share", "JavaScript"),
+    Resource("/values.js", "values", "What the page computes of values", "JavaScript"),
+    Resource("/desk.js", "frame", "The frame of the page, and how it asks the desk", "JavaScript"),
+    Resource("/forms.js", "forms", "The forms of the page, and what it prints", "JavaScript"),
+    Resource("/records.js", "records", "What several views of the page show", "JavaScript"),
     Resource("/views.js", "views", "The views of the page", "JavaScript"),
     *(Resource(f"/{it.name}.json", it.name, f"The {it.name.capitalize()} texts of the page", "JSON") for it in LANGUAGES),
 )
@@ -143,6 +145,17 @@ def texts_of(language: str) -> dict[str, str]:
                 raise WrongPage(f"page/texts/{language} has {english!r} twice")
             texts[english] = other
     return texts
+
+
+def filled_lines(texts: dict[str, str]) -> str:
+    """Returns texts as a JSON object, in lines of as many of them as there is room for."""
+    lines = [""]
+    for english, other in texts.items():
+        member = f"{json.dumps(english)}:{json.dumps(other)},"
+        if lines[-1] and len(lines[-1]) + len(member) > LONGEST_LINE:
+            lines.append("")
+        lines[-1] += member
+    return "\n".join(["{", *lines]).rstrip(",") + "\n}\n"
 
 
 def check_modules() -> None:

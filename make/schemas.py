@@ -255,7 +255,8 @@ CAUSES = {
 
 # The resources of the page, each with its media type.
 RESOURCES = {
-    "/": "text/html; charset=utf-8", "/desk.css": "text/css", "/desk.js": "text/javascript", "/views.js": "text/javascript", "/german.json": "application/json",
+    "/": "text/html; charset=utf-8", "/desk.css": "text/css", "/values.js": "text/javascript", "/desk.js": "text/javascript", "/forms.js": "text/javascript",
+    "/records.js": "text/javascript", "/views.js": "text/javascript", "/german.json": "application/json",
 }
 
 # Texts in another language, by the English ones.

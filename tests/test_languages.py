@@ -68,10 +68,11 @@ class Tool(FolderTestCase):
 
     def setUp(self) -> None:
         super().setUp()
-        files = {f"src/{it}.rt": "" for it in ("page", "style", "script", "views", "german")}
+        files = {f"src/{it}.rt": "" for it in ("page", "style", "values", "frame", "forms", "records", "views", "german")}
         self.repository = Repository(self.folder, {"desk_page:": files}, ["make/page.py"])
         tool = self.repository.read("make/page.py")
-        self.repository.write("make/page.py", re.sub(r"^SCRIPTS = \{.*?^\}", 'SCRIPTS = {"desk.js": ("start",), "views.js": ()}', tool, flags=re.M | re.S))
+        few = 'SCRIPTS = {"values.js": ("start",), "desk.js": (), "forms.js": (), "records.js": (), "views.js": ()}'
+        self.repository.write("make/page.py", re.sub(r"^SCRIPTS = \{.*?^\}", few, tool, flags=re.M | re.S))
         for name, text in {"index.html": '<script type="module" src="start.js"></script>\n', "desk.css": "", "start.js": "// It begins.\n"}.items():
             self.repository.write(f"page/{name}", text)
 
@@ -82,9 +83,9 @@ class Tool(FolderTestCase):
         return self.repository.run("make/page.py", "--print", "/german.json")
 
     def test_modules_of_a_language_are_one_resource_in_ascii(self) -> None:
-        self.check("one", self.print(a=LANGUAGE), (0, '{\n"Lot":"Los",\n"Lot {0}, over {1}":"Los {0} \\u00fcber {1}"\n}\n', ""))
+        self.check("one", self.print(a=LANGUAGE), (0, '{\n"Lot":"Los","Lot {0}, over {1}":"Los {0} \\u00fcber {1}"\n}\n', ""))
         ended = self.print(b='export default {\n  "Batch":\n    "Charge"\n};\n')
-        self.check("two", ended, (0, '{\n"Lot":"Los",\n"Lot {0}, over {1}":"Los {0} \\u00fcber {1}",\n"Batch":"Charge"\n}\n', ""))
+        self.check("two", ended, (0, '{\n"Lot":"Los","Lot {0}, over {1}":"Los {0} \\u00fcber {1}","Batch":"Charge"\n}\n', ""))
         self.check("the writing", self.repository.run("make/page.py", "--write"), (0, "", ""))
         source = self.repository.read("crates/desk_page/src/german.rt")
         self.check_true("the source", source.isascii() and "pub const GERMAN: &[u8]" in source and json.dumps("\u00fcber")[1:-1] in source)

@@ -30,10 +30,13 @@ POLICY = (
 GUARDS = {"x-frame-options": "DENY", "x-content-type-options": "nosniff", "content-security-policy": POLICY, "cache-control": "no-cache"}
 SHARED = {name: GUARDS[name] for name in ("x-content-type-options", "cache-control")}
 
+# The scripts, in the order in which the page names them, and the sources of crate desk_page that they are in.
+SCRIPTS = ("/values.js", "/desk.js", "/forms.js", "/records.js", "/views.js")
+SOURCES = ("values", "frame", "forms", "records", "views")
+
 # The media type of each resource.
 TYPES = {
-    "/": "text/html; charset=utf-8", "/desk.css": "text/css", "/desk.js": "text/javascript", "/views.js": "text/javascript",
-    "/german.json": "application/json",
+    "/": "text/html; charset=utf-8", "/desk.css": "text/css", **{path: "text/javascript" for path in SCRIPTS}, "/german.json": "application/json",
 }
 
 
@@ -82,7 +85,7 @@ class Page(CountedTestCase):
     def setUpClass(cls) -> None:
         super().setUpClass()
         cls.resources = pages.resources()
-        cls.script = cls.resources["/desk.js"] + cls.resources["/views.js"]
+        cls.script = "".join(cls.resources[it] for it in SCRIPTS)
         cls.markup = Markup(cls.resources["/"])
 
     def test_nothing_makes_markup_or_code_of_a_text(self) -> None:
@@ -95,7 +98,7 @@ class Page(CountedTestCase):
             wrong = [name for name in attributes if name.startswith("on") or name == "style"]
             self.check(f"{tag} {attributes}", wrong, [])
         scripts = [attributes for tag, attributes in self.markup.elements if tag == "script"]
-        self.check("scripts", scripts, [{"defer": None, "src": "/desk.js"}, {"defer": None, "src": "/views.js"}])
+        self.check("scripts", scripts, [{"defer": None, "src": it} for it in SCRIPTS])
         self.check("elements style", [it for it, _ in self.markup.elements].count("style"), 0)
         self.check("styles that the script sets by attributes", re.findall(r"setAttribute\(\"style|[{ ]style: [\"`]", self.script), [])
 
@@ -210,9 +213,11 @@ STYLE = "p { margin: 0 }\n"
 ONE = "// One.\n\nexport const one = 1;\nlet inner = 2;\n"
 TWO = '// Two.\n\nimport { one } from "./amounts.js";\n\nexport function two() { return one + 1; }\n'
 START = '// It begins.\n\nimport { two } from "./moments.js";\n\ntwo();\n'
-SCRIPT = '"use strict";\nconst one = 1;\nlet inner = 2;\nfunction two() { return one + 1; }\n'
+EMPTY = '"use strict";'
+VALUES = '"use strict";\nconst one = 1;\nlet inner = 2;\n'
+FRAME = '"use strict";\nfunction two() { return one + 1; }\n'
 VIEWS = '"use strict";\ntwo();\n'
-PAGE = INDEX.replace('<script type="module" src="start.js"></script>\n', '<script defer src="/desk.js"></script>\n<script defer src="/views.js"></script>\n')
+PAGE = INDEX.replace('<script type="module" src="start.js"></script>\n', "".join(f'<script defer src="{it}"></script>\n' for it in SCRIPTS))
 
 
 class Tool(FolderTestCase):
@@ -220,10 +225,10 @@ class Tool(FolderTestCase):
 
     def setUp(self) -> None:
         super().setUp()
-        files = {f"src/{it}.rt": "" for it in ("page", "style", "script", "views")}
+        files = {f"src/{it}.rt": "" for it in ("page", "style", *SOURCES)}
         self.repository = Repository(self.folder, {"desk_page:": files}, ["make/page.py"])
         tool = self.repository.read("make/page.py")
-        few = 'SCRIPTS = {"desk.js": ("amounts", "moments"), "views.js": ("start",)}'
+        few = 'SCRIPTS = {"values.js": ("amounts",), "desk.js": ("moments",), "forms.js": (), "records.js": (), "views.js": ("start",)}'
         self.repository.write("make/page.py", re.sub(r"^SCRIPTS = \{.*?^\}", few, tool, flags=re.M | re.S))
         self.write()
 
@@ -237,7 +242,7 @@ class Tool(FolderTestCase):
         return self.repository.run("make/page.py", *words)
 
     def test_modules_are_joined_in_their_order(self) -> None:
-        for path, text in [("/", PAGE), ("/desk.css", STYLE), ("/desk.js", SCRIPT), ("/views.js", VIEWS)]:
+        for path, text in {"/": PAGE, "/desk.css": STYLE, **dict(zip(SCRIPTS, (VALUES, FRAME, EMPTY, EMPTY, VIEWS)))}.items():
             self.check(path, self.run_tool("--print", path), (0, text, ""))
         self.check("another path", self.run_tool("--print", "/start.js"), (1, "", "no resource is at /start.js\n"))
 
@@ -245,7 +250,7 @@ class Tool(FolderTestCase):
         self.check("before", self.run_tool("--check"), (1, "", "page.rt isn't what page/ gives: make/page.py --write\n"))
         self.check("the writing", self.run_tool("--write"), (0, "", ""))
         self.check("after it", self.run_tool("--check"), (0, "", ""))
-        for name, text in [("page", PAGE), ("style", STYLE), ("script", SCRIPT), ("views", VIEWS)]:
+        for name, text in {"page": PAGE, "style": STYLE, **dict(zip(SOURCES, (VALUES, FRAME, EMPTY, EMPTY, VIEWS)))}.items():
             source = self.repository.read(f"crates/desk_page/src/{name}.rt")
             self.check_true(f"{name} in its source", f'br##"{text}"##;' in source)
             self.check_true(f"its tag", f'"\\"{hashlib.sha256(text.encode()).hexdigest()[:32]}\\""' in source)
@@ -258,7 +263,7 @@ class Tool(FolderTestCase):
             ({"index.html": INDEX + '"##'}, 'page/index.html has "## in it, which ends the literal'),
             ({"index.html": INDEX.replace("\n", "\r\n")}, "page/index.html has a CR in it"),
             ({"index.html": INDEX + INDEX}, 'page/index.html has <script type="module" src="start.js"></script> 2 times'),
-            ({"desk.css": STYLE + " " * 120_000}, f"/desk.css has {len(STYLE) + 120_000} bytes, and may have 120000"),
+            ({"desk.css": STYLE + " " * 60_000}, f"/desk.css has {len(STYLE) + 60_000} bytes, and may have 60000"),
             ({"moments.js": TWO + "\n" * 400}, f"page/moments.js has {TWO.count(chr(10)) + 400} lines, and may have 400"),
         ]:
             self.write(**files)

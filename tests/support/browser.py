@@ -190,7 +190,9 @@ class Tab:
         self.call("Emulation.setDeviceMetricsOverride", width=width, height=height, deviceScaleFactor=1, mobile=False)
 
     def reload(self) -> None:
-        self.call("Page.reload")
+        """Loads the page anew from the address that it has, as the page itself knows it, and waits until the old one is gone."""
+        self.run("globalThis.isOld = true, location.reload()")
+        self.until("!globalThis.isOld", "the page anew")
 
     # ---- what is in the page
 

@@ -38,11 +38,14 @@ pub const PAGE: &[u8] = br##"<!doctype html>
 <dialog id="dialog" aria-labelledby="title"></dialog>
 <div id="paper"></div>
 <noscript><p>This page needs JavaScript.</p><p lang="de">Diese Seite braucht JavaScript.</p></noscript>
+<script defer src="/values.js"></script>
 <script defer src="/desk.js"></script>
+<script defer src="/forms.js"></script>
+<script defer src="/records.js"></script>
 <script defer src="/views.js"></script>
 </body>
 </html>
 "##;
 
 /// Its entity tag.
-pub const PAGE_TAG: &str = "\"a33cba59e29f9e8838b26b2684c43ff4\"";
+pub const PAGE_TAG: &str = "\"a4d87048d76e7860b3e733f9eaccce84\"";

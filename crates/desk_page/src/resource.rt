@@ -2,10 +2,13 @@
 ghost use Rattle.std.specs.Prelude.{◌≡◌, ◌≤◌, length};
 ghost use Rattle.desk_page.specs.Resources.{bytes_of, media_type_of, resource_at, tag_of};
 
+use crate::forms::{FORMS, FORMS_TAG};
+use crate::frame::{FRAME, FRAME_TAG};
 use crate::german::{GERMAN, GERMAN_TAG};
 use crate::page::{PAGE, PAGE_TAG};
-use crate::script::{SCRIPT, SCRIPT_TAG};
+use crate::records::{RECORDS, RECORDS_TAG};
 use crate::style::{STYLE, STYLE_TAG};
+use crate::values::{VALUES, VALUES_TAG};
 use crate::views::{VIEWS, VIEWS_TAG};
 
 /// A resource of the page (RFC 9110, section 3.1).
@@ -15,8 +18,14 @@ pub enum Resource {
     Page,
     /// Its style, `/desk.css`.
     Style,
-    /// What its views share, `/desk.js`.
-    Script,
+    /// What it computes of values, `/values.js`.
+    Values,
+    /// Its frame, and how it asks the desk, `/desk.js`.
+    Frame,
+    /// Its forms, and what it prints, `/forms.js`.
+    Forms,
+    /// What several of its views show, `/records.js`.
+    Records,
     /// Its views, `/views.js`.
     Views,
     /// What its texts are in German, `/german.json`.
@@ -31,8 +40,14 @@ pub fn resource_at(path: &[u8]) -> Option<Resource>
         Some(Resource::Page)
     } else if path == b"/desk.css".as_slice() {
         Some(Resource::Style)
+    } else if path == b"/values.js".as_slice() {
+        Some(Resource::Values)
     } else if path == b"/desk.js".as_slice() {
-        Some(Resource::Script)
+        Some(Resource::Frame)
+    } else if path == b"/forms.js".as_slice() {
+        Some(Resource::Forms)
+    } else if path == b"/records.js".as_slice() {
+        Some(Resource::Records)
     } else if path == b"/views.js".as_slice() {
         Some(Resource::Views)
     } else if path == b"/german.json".as_slice() {
@@ -50,7 +65,10 @@ pub fn bytes_of(resource: Resource) -> &'static [u8]
     match resource {
         Resource::Page => PAGE,
         Resource::Style => STYLE,
-        Resource::Script => SCRIPT,
+        Resource::Values => VALUES,
+        Resource::Frame => FRAME,
+        Resource::Forms => FORMS,
+        Resource::Records => RECORDS,
         Resource::Views => VIEWS,
         Resource::German => GERMAN,
     }
@@ -66,7 +84,10 @@ pub fn tag_of(resource: Resource) -> &'static str
     match resource {
         Resource::Page => PAGE_TAG,
         Resource::Style => STYLE_TAG,
-        Resource::Script => SCRIPT_TAG,
+        Resource::Values => VALUES_TAG,
+        Resource::Frame => FRAME_TAG,
+        Resource::Forms => FORMS_TAG,
+        Resource::Records => RECORDS_TAG,
         Resource::Views => VIEWS_TAG,
         Resource::German => GERMAN_TAG,
     }
@@ -80,7 +101,11 @@ pub fn media_type_of(resource: Resource) -> &'static str
     match resource {
         Resource::Page => "text/html; charset=utf-8",
         Resource::Style => "text/css",
-        Resource::Script | Resource::Views => "text/javascript",
+        Resource::Values
+        | Resource::Frame
+        | Resource::Forms
+        | Resource::Records
+        | Resource::Views => "text/javascript",
         Resource::German => "application/json",
     }
 }

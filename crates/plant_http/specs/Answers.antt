@@ -88,7 +88,10 @@ security_header_lines part.Page =
     codes "X-Frame-Options: DENY\r\n" ++ codes "X-Content-Type-Options: nosniff\r\n"
     ++ codes "Content-Security-Policy: " ++ policy_bytes ++ codes "\r\n"
 security_header_lines part.Style = codes "X-Content-Type-Options: nosniff\r\n"
-security_header_lines part.Script = codes "X-Content-Type-Options: nosniff\r\n"
+security_header_lines part.Values = codes "X-Content-Type-Options: nosniff\r\n"
+security_header_lines part.Frame = codes "X-Content-Type-Options: nosniff\r\n"
+security_header_lines part.Forms = codes "X-Content-Type-Options: nosniff\r\n"
+security_header_lines part.Records = codes "X-Content-Type-Options: nosniff\r\n"
 security_header_lines part.Views = codes "X-Content-Type-Options: nosniff\r\n"
 security_header_lines part.German = codes "X-Content-Type-Options: nosniff\r\n"
 

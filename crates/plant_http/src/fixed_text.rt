@@ -92,7 +92,13 @@ impl FixedText {
                 self.push(policy());
                 self.push("\r\n");
             }
-            Resource::Style | Resource::Script | Resource::Views | Resource::German => {
+            Resource::Style
+            | Resource::Values
+            | Resource::Frame
+            | Resource::Forms
+            | Resource::Records
+            | Resource::Views
+            | Resource::German => {
                 self.push("X-Content-Type-Options: nosniff\r\n");
             }
         }

@@ -103,9 +103,11 @@ class Orders(BrowserTestCase):
             tab.click(head)
             self.shown(tab, *wanted)
             self.check(f"what is said of {head}", tab.run("[...document.querySelectorAll('th[aria-sort]:not([aria-sort=none])')].map((it) => it.ariaSort)"), [way])
+        by_recipe = ("O-4", "O-11", "O-13", "O-5", "O-12", "O-14")
         tab.click("Recipe")
+        self.shown(tab, *by_recipe)
         tab.reload()
-        self.shown(tab, "O-4", "O-11", "O-13", "O-5", "O-12", "O-14")
+        self.shown(tab, *by_recipe)
         self.end(tab, MORNINGS + 1)
 
     def test_release_says_what_is_short(self) -> None:

@@ -1,5 +1,5 @@
 -- The command lines of the programs that check a file.
-use Rattle.std.specs.Prelude.{List, codes, Some, true}
+use Rattle.std.specs.Prelude.{codes, Some, true}
 use Rattle.clap.specs.declared.builder.action.ArgAction.TheVariants.{SetTrue}
 use Rattle.clap.specs.Words.{App, Rule, Text, new_app, new_rule, with_rule}
 

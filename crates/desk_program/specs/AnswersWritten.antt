@@ -1,5 +1,5 @@
 -- What the subcommands `trace` and `record` print of an answer.
-use Rattle.std.specs.Prelude.{◌≡◌, ◌⊎◌, ℕ, List, ◌++◌, Bool, Option, Result, Ok, Err, IfOk, flat_map}
+use Rattle.std.specs.Prelude.{◌≡◌, ◌⊎◌, ℕ, List, Bool, Option, Result, Ok, Err, IfOk, flat_map}
 use Rattle.std.specs.Io.KnownBytes.{Appends}
 use Rattle.sqlite.specs.State as store
 use Rattle.plant_base.specs.{newest_schema}

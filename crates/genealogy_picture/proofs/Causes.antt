@@ -1,6 +1,6 @@
 -- For which causes a picture has no text.
 use Rattle.std.proofs.Common.{◌≡◌, ℕ, List, Option, String, IfOk, IfErr, Result, Ok, Err, inl, inr, ◌⊎◌, refl, subst, sym, Contains, Global, string_bytes}
-use Rattle.genealogy_svg.specs.{HasEnds, IsBetween, nodes_in, picture_of, GraphError, Picture, PictureEdge}
+use Rattle.genealogy_svg.specs.{HasEnds, IsBetween, nodes_in, picture_of, GraphError, Picture}
 use Rattle.genealogy_svg.specs.declared.reported.GraphError.TheVariants as graph_error
 use Rattle.genealogy_svg.specs.declared.reported.Reported.{Reported}
 use Rattle.genealogy_svg.proofs.EndsFound.{ends_found}

@@ -14,7 +14,7 @@ use Rattle.genealogy_svg.specs.declared.drawing.DrawnEdge.{DrawnEdge}
 use Rattle.genealogy_svg.specs.declared.drawing.DrawnLot.{DrawnLot}
 use Rattle.genealogy_svg.specs.declared.drawing.LayoutFault.{LayoutFault}
 use Rattle.genealogy_svg.specs.declared.drawing.BoxPosition.{BoxPosition}
-use Rattle.genealogy_svg.specs.{◌>>=◌, placed, drawn_edges_in, IsLaidOut, LeadsRight, edges_to, IsLayered, IsSmall, without_row}
+use Rattle.genealogy_svg.specs.{◌>>=◌, placed, drawn_edges_in, IsLaidOut, LeadsRight, edges_to, IsLayered, without_row}
 use Rattle.genealogy_svg.proofs.RowsLoop.{All-from_map, is_small_or_not}
 
 -- ---- the height is above each layer

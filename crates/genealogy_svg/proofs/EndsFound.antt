@@ -1,5 +1,5 @@
 -- The edges of a picture begin and end at its nodes.
-use Rattle.std.proofs.Common.{◌≡◌, ◌∙◌, ℕ, Bool, true, false, cond, List, [], ◌∷◌, ◌++◌, Option, Some, None, Result, Ok, Err, map, refl, sym, ap, subst, inl, inr, ◌⊎◌, ⊎_elim, Contains, IfOk, ◌==◌, All, is_eq, nat_cmp, Ordering, Less, Equal, Greater}
+use Rattle.std.proofs.Common.{◌≡◌, ◌∙◌, ℕ, Bool, true, false, cond, List, [], ◌∷◌, ◌++◌, Option, Some, None, Result, Ok, Err, map, refl, sym, subst, ◌⊎◌, ⊎_elim, Contains, IfOk, All, Ordering, Less, Equal, Greater}
 use Rattle.std.specs.List.{list_any}
 use Rattle.std.specs.Map.{lookup, values_of}
 use Rattle.std.specs.BTreeMap.{insert_entry, is_at}
@@ -12,7 +12,7 @@ use Rattle.plant_trace.specs.{Node}
 use Rattle.plant_trace.specs.declared.node.Node.TheVariants.{Lot, Batch}
 use Rattle.plant_trace.proofs.LeadsIsReach.{first_in, rest_in}
 use Rattle.genealogy_svg.specs.contracts.model.PictureLotPartialEq.TheImpl.{ghosts as equal}
-use Rattle.genealogy_svg.specs.{nodes_in, HasEnds, IsBetween, ◌>>=◌, batches_from, edge_in, edges_from, edges_in, id_cmp, lot_noted, lot_unit, lots_from, measured, noted_where, or_else, picture_of, picture_with, unit_at, Edges, LotMap, ReportsAs}
+use Rattle.genealogy_svg.specs.{HasEnds, IsBetween, ◌>>=◌, batches_from, edge_in, edges_from, edges_in, id_cmp, lot_noted, lot_unit, lots_from, measured, noted_where, or_else, picture_of, picture_with, unit_at, Edges, LotMap, ReportsAs}
 use Rattle.genealogy_svg.specs.declared.model.Picture.{Picture}
 use Rattle.genealogy_svg.specs.declared.model.PictureEdge.{PictureEdge}
 use Rattle.genealogy_svg.specs.declared.model.PictureLot.{PictureLot}

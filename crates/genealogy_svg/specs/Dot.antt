@@ -1,6 +1,6 @@
 -- A picture in DOT, which Graphviz draws. Its names and labels are made of ids, units and numbers, none of which has a quotation mark, a backslash
 -- or a line end, so nothing in them has to be escaped.
-use Rattle.std.specs.Prelude.{ℕ, List, [], ◌∷◌, ◌++◌, Bool, true, false, codes, decimal, flat_map}
+use Rattle.std.specs.Prelude.{ℕ, List, [], ◌++◌, Bool, true, false, codes, decimal, flat_map}
 use Rattle.plant_trace.specs.{node_text}
 use Rattle.plant_trace.specs.declared.node.Node.TheVariants.{Batch}
 use Rattle.genealogy_svg.specs.declared.model.Picture.{Picture}

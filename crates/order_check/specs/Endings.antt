@@ -1,5 +1,5 @@
 -- How a check of an order file ends.
-use Rattle.std.specs.Prelude.{ℕ, Bool, true, false, Result, Ok, Err, if◌then◌else◌}
+use Rattle.std.specs.Prelude.{ℕ, Bool, true, false, Result, Ok, Err}
 use Rattle.plant_orders.specs.{OrdersFault}
 use Rattle.plant_orders.specs.declared.source.OrdersFault.TheVariants as orders
 use Rattle.desk_cli.specs.{fault_status, CheckFault}

@@ -1,5 +1,5 @@
 -- The ids of batches are those of the rows that their events make of them.
-use Rattle.std.proofs.Common.{◌≡◌, Bool, true, false, cond, List, [], ◌∷◌, map, find, is_some, Option, Some, None, refl, ap, ℕ}
+use Rattle.std.proofs.Common.{◌≡◌, Bool, true, false, cond, List, [], ◌∷◌, map, find, is_some, Some, refl, ap, ℕ}
 use Rattle.plant_base.specs.{same, Batch, BatchEvent, BatchRow, ControlLine}
 use Rattle.plant_view.specs.{batch_row}
 

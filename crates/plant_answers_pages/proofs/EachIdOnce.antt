@@ -1,5 +1,5 @@
 -- The ids of rows that are in the order of their ids, each once.
-use Rattle.std.proofs.Common.{◌≡◌, ◌∙◌, ◌≤◌, ℕ, zero, suc, Bool, true, false, cond, not, ◌&&◌, List, [], ◌∷◌, ◌++◌, map, filter, find, take, is_some, Option, Some, None, option_to_list, refl, sym, ap, arith, slice_get, option_and_then, is_eq, is_gt, Ordering, Less, Equal, Greater, if◌then◌else◌}
+use Rattle.std.proofs.Common.{◌≡◌, ◌∙◌, ◌≤◌, ℕ, zero, suc, Bool, true, false, cond, not, List, [], ◌∷◌, ◌++◌, map, filter, find, take, is_some, Option, Some, None, option_to_list, refl, sym, ap, arith, slice_get, option_and_then, is_eq, is_gt, Ordering, Less, Equal, Greater, if◌then◌else◌}
 use Rattle.std.specs.Ordering.{ordering_reverse}
 use Rattle.std.specs.List.{AllByRecursion}
 use Rattle.std.specs.List.Sorted.{IsStrictlySortedBy}

@@ -1,14 +1,14 @@
 -- The recipes that begin with an id, one after another.
-use Rattle.std.proofs.Common.{◌≡◌, ◌∙◌, ℕ, zero, suc, Bool, true, false, not, List, [], ◌∷◌, ◌++◌, map, filter, find, take, is_some, Option, Some, None, option_to_list, refl, sym, ap, arith, slice_get, option_and_then, append-nil, append_assoc, nat_cmp, Ordering, Less, Equal, Greater}
+use Rattle.std.proofs.Common.{◌≡◌, ◌∙◌, ℕ, zero, suc, true, List, [], ◌∷◌, ◌++◌, map, filter, find, take, is_some, Option, Some, None, option_to_list, refl, sym, ap, slice_get, option_and_then, append-nil, append_assoc, nat_cmp, Ordering, Less, Equal, Greater}
 use Rattle.std.specs.Ordering.{ordering_then}
 use Rattle.std.specs.List.{AllByRecursion}
 use Rattle.std.specs.List.Sorted.{IsStrictlySortedBy}
 use Rattle.plant_base.specs.{id_cmp, recipe_order, same, Recipe, State}
 use Rattle.plant_view.specs.DecisionInvariant.{DecisionInvariant}
-use Rattle.plant_questions.specs.{begins_with, first_begun, most_found, page_size, recipes_after, versions_of}
+use Rattle.plant_questions.specs.{begins_with, page_size, recipes_after}
 use Rattle.plant_questions.proofs.FoundRows.{first_is}
-use Rattle.plant_answers_pages.specs.{each_id_once, id_if_begun, own_first, recipes_left, IsWithin}
-use Rattle.plant_answers_pages.proofs.EachIdOnce.{Rising, begun_once, next_is, once_sorted}
+use Rattle.plant_answers_pages.specs.{each_id_once, id_if_begun, recipes_left, IsWithin}
+use Rattle.plant_answers_pages.proofs.EachIdOnce.{Rising, next_is, once_sorted}
 
 abbrev recipe_of : Recipe → List ℕ
 recipe_of r = r.header.recipe

@@ -1,5 +1,5 @@
 -- What is answered of batches in a list.
-use Rattle.std.specs.Prelude.{ℕ, ◌-◌, List, Option, Some, None, length, map, option_map, slice_get, filter_map}
+use Rattle.std.specs.Prelude.{ℕ, ◌-◌, List, Option, Some, None, length, map, slice_get, filter_map}
 use Rattle.plant_base.specs.{State, control_lines_of, job_at, recipe_at, Batch, BatchEvent, BatchRow, Header, Job, OrderRow, Recipe, RecipeLine}
 use Rattle.plant_base.specs.declared.rows.RecipeLine.TheVariants.{In, Out, Parameter, Phase}
 use Rattle.plant_view.specs.{events_of}

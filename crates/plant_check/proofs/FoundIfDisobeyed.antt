@@ -1,5 +1,5 @@
 -- A rule is found exactly where the rows don't obey it, and most with a row.
-use Rattle.std.proofs.Common.{◌≡◌, ◌∙◌, ℕ, Bool, true, false, nat_le, List, [], ◌∷◌, length, map, Option, Some, None, is_some, Result, Ok, Err, refl, ap, ◌==◌, filter, is_none, if◌then◌else◌}
+use Rattle.std.proofs.Common.{◌≡◌, ◌∙◌, ℕ, Bool, true, false, nat_le, List, [], ◌∷◌, map, Option, Some, None, is_some, Result, Ok, Err, refl, ap, is_none, if◌then◌else◌}
 use Rattle.std.proofs.lemmas.Bool.{false≢true}
 use Rattle.std.specs.List.{list_all}
 use Rattle.plant_base.specs.{BatchEvent, BatchRow, ControlLine, Definition, Hold, Lot, MasterLine, Movement, Recipe, Refusal, Sublot}

@@ -15,7 +15,13 @@ use std::alloc::{AllocError, Global};
 pub fn movements_in(alloc: Global, rows: &[BookedRow]) -> Result<Vec<Movement>, AllocError>
     ensures { IfOk result (λ list. list.items ≡ movements_in rows.now) }
 {
-    rows.iter().filter_map(|r| r.movement()).collect(alloc)
+    let mut movements = Vec::with_capacity(alloc, rows.len())?;
+    for row in rows {
+        if let Some(movement) = row.movement() {
+            movements.push(movement)?;
+        }
+    }
+    Ok(movements)
 }
 
 /// Whether nothing was made from itself. The only error is that memory was refused.

@@ -1,5 +1,5 @@
 -- How much of a request is there.
-use Rattle.std.proofs.Common.{◌≡◌, ◌<◌, ◌≤◌, ℕ, ◌==◌, nat_le, Bool, true, false, List, length, take, Some, None, refl, inl, inr, sym, ◌∙◌, arith, rules, take_all, min}
+use Rattle.std.proofs.Common.{◌≡◌, ◌<◌, ◌≤◌, ℕ, ◌==◌, nat_le, Bool, true, false, List, length, take, Some, None, refl, inl, inr, sym, ◌∙◌, arith, take_all, min}
 use Rattle.std.proofs.lemmas.Bool.{cases_lt}
 use Rattle.std.proofs.lemmas.Bool.Decides.{nat_tests}
 use Rattle.plant_http_requests.specs.{end_of_head, head_length}

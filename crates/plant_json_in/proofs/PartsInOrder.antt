@@ -1,7 +1,6 @@
 -- The parts of a path are the members of a question in their order.
 use Rattle.std.proofs.Common.{◌≡◌, ℕ, List, [], ◌∷◌, length, Option, refl, subst}
 use Rattle.std.specs.Prelude.{get_or}
-use Rattle.plant_questions.specs.{Question}
 use Rattle.plant_json_in.specs.{Member, QuestionKind, field_of_part, question_members, question_of_parts}
 use Rattle.plant_json_in.specs.Questions.{question_of_members, two_parts}
 

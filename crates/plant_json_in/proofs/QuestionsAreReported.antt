@@ -3,7 +3,7 @@ use Rattle.std.proofs.Common.{◌≡◌, [], ◌∷◌, true, Result, Ok, Err, I
 use Rattle.std.specs.Prelude.{⊤}
 use Rattle.serde_json.specs.Data.{Data}
 use Rattle.plant_questions.specs.{Question}
-use Rattle.plant_json_in.specs.{FormatError, QuestionKind, or_malformed, is_reported, format_error_is_reported, fields_of, none_other, question_members, question_by, question_in, shape_in}
+use Rattle.plant_json_in.specs.{FormatError, QuestionKind, is_reported, format_error_is_reported, fields_of, none_other, question_members, question_in, shape_in}
 use Rattle.plant_json_in.specs.declared.members.Member.TheVariants as m
 use Rattle.plant_json_in.proofs.FieldsAreTyped.{Good, valid_bind, valid_map, good_object, fields_typed, none_other-valid}
 use Rattle.plant_json_in.proofs.QuestionsAreMade.{question_made}

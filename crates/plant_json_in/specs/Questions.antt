@@ -1,6 +1,6 @@
 -- Which objects with the word of a question are one, and what is wrong with the others; and which parts of a path are one. Objects have no
 -- note and no reference.
-use Rattle.std.specs.Prelude.{ℕ, List, [], ◌∷◌, if◌then◌else◌, codes, Option, Some, None, option_and_then, is_some, Result, Ok, Err}
+use Rattle.std.specs.Prelude.{ℕ, List, [], ◌∷◌, if◌then◌else◌, codes, Option, Some, None, option_and_then, is_some, Result}
 use Rattle.serde_json.specs.Data.{Data}
 use Rattle.serde_json.specs.Find.{get}
 use Rattle.plant_questions.specs.{Question}

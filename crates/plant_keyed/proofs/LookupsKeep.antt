@@ -3,7 +3,7 @@ use Rattle.std.proofs.Common.{◌≡◌, Bool, Option, Some, None, Result, IfOk,
 use Rattle.std.proofs.lemmas.Result.{IfOk-weaker}
 use Rattle.sqlite.specs.Effect.{Database}
 use Rattle.sqlite.specs.State as store
-use Rattle.sqlite.specs.State.{HasCleanDisk, Survives}
+use Rattle.sqlite.specs.State.{HasCleanDisk}
 use Rattle.plant_base.specs.{State, newest_schema, Position}
 use Rattle.plant_view.specs.{tables_of, position_of}
 use Rattle.plant_invariant.specs.StateInvariant.{StateInvariant}

@@ -1,5 +1,5 @@
 -- What a page finds among the tables of a valid state.
-use Rattle.std.proofs.Common.{◌≡◌, ◌∙◌, ℕ, zero, suc, ◌+◌, Bool, true, false, ◌&&◌, ◌==◌, if◌then◌else◌, arith, ◌<◌, nat_lt, List, [], ◌∷◌, Option, Some, None, refl, sym, ap, ap₂, codes, pos, is_eq, is_gt, nat_cmp, Ordering, Less, Equal, Greater}
+use Rattle.std.proofs.Common.{◌≡◌, ◌∙◌, ℕ, zero, suc, ◌+◌, Bool, true, false, ◌&&◌, ◌==◌, if◌then◌else◌, arith, nat_lt, List, [], ◌∷◌, Option, Some, None, refl, sym, ap, ap₂, codes, pos, is_eq, is_gt, nat_cmp, Ordering, Less, Equal, Greater}
 use Rattle.std.specs.Cmp.{IsTotalOrder, unsigned_ties}
 use Rattle.std.specs.Ordering.{ordering_then}
 use Rattle.std.specs.Float.Ieee

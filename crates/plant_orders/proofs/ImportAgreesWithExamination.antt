@@ -1,5 +1,5 @@
 -- An import says of a file what its examination finds.
-use Rattle.std.proofs.Common.{◌≡◌, ◌∙◌, ℕ, ◌+◌, Bool, true, false, ◌==◌, nat_lt, List, [], ◌∷◌, ◌++◌, length, map, Option, Some, None, is_some, option_and_then, ok_or, Result, Ok, Err, if◌then◌else◌, refl, ap}
+use Rattle.std.proofs.Common.{◌≡◌, ◌∙◌, ℕ, ◌+◌, Bool, true, false, ◌==◌, nat_lt, List, [], ◌∷◌, ◌++◌, length, Option, Some, None, is_some, option_and_then, ok_or, Result, Ok, if◌then◌else◌, refl, ap}
 use Rattle.csv.specs.Records.{field_at}
 use Rattle.csv.specs.Reading.{default_config, strip_bom, records_from}
 use Rattle.csv.specs.declared.parser.State.TheVariants as st

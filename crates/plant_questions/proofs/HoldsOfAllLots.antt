@@ -1,12 +1,12 @@
 -- The holds after a cursor are the further ones of its lot, and those of the lots after it.
-use Rattle.std.proofs.Common.{◌≡◌, ◌∙◌, ℕ, List, Bool, true, false, ◌&&◌, ◌||◌, Some, refl, ap, filter, is_eq, is_gt, Ordering, Less, Equal, Greater}
+use Rattle.std.proofs.Common.{◌≡◌, ◌∙◌, ℕ, List, true, ◌&&◌, ◌||◌, Some, refl, ap, filter, is_eq, is_gt, Ordering, Less, Equal, Greater}
 use Rattle.std.proofs.Math.Bool.{or-false}
 use Rattle.std.proofs.lemmas.Cmp.{then_total, on_total, nat_list_cmp_total}
 use Rattle.std.specs.Cmp.{IsTotalOrder}
 use Rattle.std.specs.Cmp.Lexicographic.{texts_ties}
 use Rattle.std.specs.Ordering.{ordering_then}
 use Rattle.std.specs.Set.{sorted_merge}
-use Rattle.plant_base.specs.{State, hold_order, id_cmp, same, Hold}
+use Rattle.plant_base.specs.{State, hold_order, id_cmp, Hold}
 use Rattle.plant_view.specs.DecisionInvariant.{DecisionInvariant}
 use Rattle.plant_questions.specs.{all_holds, holds_after, holds_on, is_after, is_hold_after, is_hold_on}
 use Rattle.plant_questions.specs.declared.cursors.Cursor.{Cursor}

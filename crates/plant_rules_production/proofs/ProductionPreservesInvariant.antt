@@ -10,7 +10,7 @@ use Rattle.plant_base.specs.declared.states.JobState.TheVariants.{Cancelled, Rel
 use Rattle.plant_base.specs.declared.states.Event.TheVariants.{Closed}
 use Rattle.plant_view.proofs.ListLemmas.{found_passes, all_weaker, all_push, same_id, each_passes, all_filtered, filtered_passes, some_mapped, all_two, each_fails, not_false}
 use Rattle.plant_recipe.specs.declared.progress.Progress.{Progress}
-use Rattle.plant_recipe.specs.{is_well_formed, is_ended, turn_closed}
+use Rattle.plant_recipe.specs.{is_well_formed, is_ended}
 use Rattle.plant_recipe.specs.Progress as progress
 use Rattle.plant_view.specs.{refuse, at_limit, is_known, is_size_of_recipe, progress_at, HasValidOrder, HasBatchValues, headers_of, header_among, AreConsistentRecipes, orders_of, order_among, batch_among, is_size_of_some, AreConsistentOrders, control_of_header, control_of_order, is_batch_among, AreConsistentBatches, has_finished, AreConsistentRuns, IsConsistentGenealogy}
 use Rattle.plant_rules_production.specs.{add_recipe, conflicts, wrong_import_orders, new_orders, is_waiting, import_orders, cancel_order, turn_at, refuse_turn, wrong_event, event_row, happened, wrong_close_batch, job_of, close_batch, control_of_recipe, control_of_job, lines_in, released_batch, release}

@@ -1,5 +1,5 @@
 -- What movements bring to a sublot and take from it.
-use Rattle.std.specs.Prelude.{ℕ, ◌+◌, ◌-◌, Bool, true, false, not, ◌==◌, ◌&&◌, nat_le, if◌then◌else◌, List, filter, Option, Some, None, Result, Ok, Err, sum_by, ℤ, pos, ◌-ℤ◌}
+use Rattle.std.specs.Prelude.{ℕ, ◌-◌, Bool, true, false, not, ◌==◌, ◌&&◌, nat_le, if◌then◌else◌, List, filter, Option, Some, None, Result, Ok, Err, sum_by, ℤ, pos, ◌-ℤ◌}
 use Rattle.plant_base.specs.{greatest_amount, same, Movement, MovementKind, Part, Refusal}
 use Rattle.plant_base.specs.declared.refusal.Refusal.TheVariants.{TooMuch}
 use Rattle.plant_base.specs.declared.rows.MovementKind.TheVariants.{Received, Consumed, Produced, Scrapped, Divided, Split, Merged}

@@ -1,5 +1,5 @@
 -- The JSON trees of the genealogy around a lot or batch.
-use Rattle.std.specs.Prelude.{ℕ, List, codes}
+use Rattle.std.specs.Prelude.{codes}
 use Rattle.serde_json.specs.Data.{Data, boolean, string, object, member, no_members}
 use Rattle.plant_trace.specs.declared.node.Node.TheVariants.{Batch}
 use Rattle.plant_view.specs.{ends_of}

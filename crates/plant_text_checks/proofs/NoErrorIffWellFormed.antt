@@ -6,7 +6,7 @@ use Rattle.plant_base.specs.{is_well_formed_command, are_parts, are_apart, has_s
 use Rattle.plant_base.specs.declared.commands.Command.TheVariants as body
 use Rattle.plant_recipe.specs.{has_allowed_length, has_size_range, has_phase, has_product, has_no_repeats, all_fit, repeats, fits, is_well_formed}
 use Rattle.plant_rules.specs.{is_well_formed_body}
-use Rattle.plant_text_checks.specs.{index_of, one_more, pair_of, pair_with, unless, first_of, parts_again, lines_again, too_much, parts_error, orders_error, lines_error, amounts_error, recipe_error, list_error, command_error_of}
+use Rattle.plant_text_checks.specs.{index_of, one_more, pair_of, pair_with, unless, first_of, parts_again, lines_again, too_much, parts_error, orders_error, lines_error, amounts_error, recipe_error, command_error_of}
 use Rattle.plant_text_checks.specs.declared.command_errors.CommandError.{CommandError}
 use Rattle.plant_text_checks.specs.declared.command_errors.CommandError.TheVariants as command_error
 

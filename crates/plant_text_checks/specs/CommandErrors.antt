@@ -2,7 +2,7 @@
 use Rattle.std.specs.Prelude.{ℕ, ◌+◌, ◌&&◌, List, [], ◌∷◌, ◌++◌, length, Bool, not, nat_le, if◌then◌else◌, codes, decimal, Option, Some, None}
 use Rattle.plant_base.specs.{greatest_amount, is_well_formed_command, is_same_sublot, Command, Header, OrderRow, Part, RecipeLine}
 use Rattle.plant_base.specs.declared.commands.Command.TheVariants as body
-use Rattle.plant_recipe.specs.{greatest_lines, has_allowed_length, has_size_range, has_phase, has_product, repeats, fits}
+use Rattle.plant_recipe.specs.{has_allowed_length, has_size_range, has_phase, has_product, repeats, fits}
 use Rattle.plant_text_checks.specs.declared.command_errors.CommandError.{CommandError}
 use Rattle.plant_text_checks.specs.declared.command_errors.CommandError.TheVariants as command_error
 

@@ -26,7 +26,7 @@ use Rattle.sqlite_resolve.specs.Terms.{number}
 use Rattle.sqlite_resolve.specs.Body.{tests}
 use Rattle.sqlite_resolve.specs.Body as body
 use Rattle.sqlite_resolve.specs.Order as order
-use Rattle.sqlite_resolve.specs.Order.{key, keys, sort, sorts, placed, peeled, alias_in, collation_of, written_on, is_numeral, is_integer}
+use Rattle.sqlite_resolve.specs.Order.{key, keys, sort, sorts, placed, peeled, alias_in, collation_of, written_on, is_numeral}
 use Rattle.sqlite_resolve.specs.Select.{outermost, parts, having, ungrouped, assembled, named, paging, constant_or, constant, stepless}
 use Rattle.sqlite_resolve.specs.Program as whole
 use Rattle.sqlite_resolve.specs.Program.{query, query_to, level, with, viewing, single, source, sources, program}

@@ -1,7 +1,7 @@
-use Rattle.std.proofs.Common.{◌≡◌, ◌∙◌, List, [], Some, None, true, map, subst, ap, sym, refl, codes, option_map}
+use Rattle.std.proofs.Common.{◌≡◌, ◌∙◌, List, [], true, map, subst, ap, sym, refl, codes, option_map}
 use Rattle.clap.specs.Kinds.{HasKind}
 use Rattle.clap.specs.Words.{App, HasMatchesOf, Text, fault_of, first_of, found_of, is_simple_and_free, matches_of, rows_of}
-use Rattle.desk_cli.specs.{desk_check_app, given, is_set}
+use Rattle.desk_cli.specs.{desk_check_app, is_set}
 use Rattle.desk_cli.proofs.RefusalKinds.{refusal_by}
 use Rattle.desk_cli.proofs.UncheckedRefusals.{lacking, refused_so}
 use Rattle.desk_cli.proofs.desk_checking.read_desk_check.Goals as goal

@@ -1,4 +1,4 @@
-use Rattle.std.proofs.Common.{◌≡◌, ◌∙◌, List, ℕ, Ok, sym, rules}
+use Rattle.std.proofs.Common.{◌≡◌, ◌∙◌, List, ℕ, Ok, sym}
 use Rattle.genealogy_picture.specs.{Draws, read_count, names}
 use Rattle.genealogy_picture.proofs.DrawnInput.{holds_of_input, of_unread, read_into_nothing, was_read}
 use Rattle.genealogy_picture.proofs.drawing.draw.Goals as goal

@@ -1,10 +1,9 @@
-use Rattle.std.proofs.Common.{◌≡◌, ◌∙◌, ◌+◌, ℕ, ap, sym, subst, Contains, None, Some, List, Option}
+use Rattle.std.proofs.Common.{◌≡◌, ap, sym, subst, Contains, None, Some, List, Option}
 use Rattle.plant_base.specs.{Refusal, State}
 use Rattle.plant_trace.specs.{Node}
-use Rattle.plant_view.specs.DecisionInvariant.{DecisionInvariant}
 use Rattle.plant_questions.specs.{LotBalance}
 use Rattle.plant_questions.specs.declared.question.Answer.TheVariants as A
-use Rattle.plant_answers_genealogy.specs.{balances_around, answer_balance, entered_in_all, left_in_all, missing}
+use Rattle.plant_answers_genealogy.specs.{balances_around, answer_balance, missing}
 use Rattle.plant_answers.specs.{answer}
 use Rattle.plant_answers.proofs.BalancesListReached.{balances_sorted, balances_only, balances_all, each_closes}
 use Rattle.plant_answers.proofs.laws.balance_law.Goals as goal

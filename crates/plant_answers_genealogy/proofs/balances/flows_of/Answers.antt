@@ -1,7 +1,5 @@
-use Rattle.std.proofs.Common.{◌≡◌, ◌∙◌, refl, ap, sum_by}
-use Rattle.plant_base.specs.{Movement}
-use Rattle.plant_questions.specs.{movements_into, movements_of_lot}
-use Rattle.plant_answers_genealogy.specs.Balances.{flow_of, flows_of, moved, in_64_bits}
+use Rattle.std.proofs.Common.{◌∙◌, refl}
+use Rattle.plant_answers_genealogy.specs.Balances.{flows_of}
 use Rattle.plant_answers_genealogy.specs.declared.balances.Flow.TheVariants as flow
 use Rattle.plant_answers_genealogy.proofs.FlowsFit.{own_counted, split_counted, merged_counted}
 use Rattle.plant_answers_genealogy.proofs.balances.flows_of.Goals as goal

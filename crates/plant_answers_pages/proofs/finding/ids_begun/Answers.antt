@@ -1,4 +1,4 @@
-use Rattle.std.proofs.Common.{◌≡◌, ◌∙◌, sym, ap, map, take, filter}
+use Rattle.std.proofs.Common.{◌∙◌, sym, ap, map}
 use Rattle.plant_trace.proofs.HoldsIfHonest.{HoldsIfHonest-then}
 use Rattle.plant_questions.specs.{first_begun}
 use Rattle.plant_answers_pages.specs.{own_first}

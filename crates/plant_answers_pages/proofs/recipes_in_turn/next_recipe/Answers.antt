@@ -1,4 +1,4 @@
-use Rattle.std.proofs.Common.{◌≡◌, ◌∙◌, ap}
+use Rattle.std.proofs.Common.{◌∙◌, ap}
 use Rattle.plant_trace.proofs.HoldsIfHonest.{HoldsIfHonest-weaker}
 use Rattle.plant_answers_pages.proofs.RecipesInTurn.{next_recipe_is}
 use Rattle.plant_answers_pages.proofs.recipes_in_turn.next_recipe.Goals as goal

@@ -1,4 +1,4 @@
-use Rattle.std.proofs.Common.{◌≡◌, ◌<◌, length, drop, map, subst, arith}
+use Rattle.std.proofs.Common.{◌≡◌, ◌<◌, length, map, subst, arith}
 use Rattle.std.specs.Prelude.{fold}
 use Rattle.std.proofs.lemmas.List.{drop_more}
 use Rattle.plant_http_requests.specs.Routes.{the_routes, with_route}

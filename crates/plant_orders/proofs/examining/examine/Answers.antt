@@ -1,4 +1,4 @@
-use Rattle.std.proofs.Common.{◌≡◌, ◌++◌, suc, ◌+◌, true, false, Ok, Err, IfOk, refl, sym, subst, ap, ◌∙◌, arith, rules, [], ◌∷◌, append-nil}
+use Rattle.std.proofs.Common.{◌≡◌, ◌++◌, ◌+◌, true, false, IfOk, refl, sym, subst, ap, ◌∙◌, arith, rules, [], ◌∷◌, append-nil}
 use Rattle.csv.specs.Records.{fields_of}
 use Rattle.csv.specs.Reading.{default_config, records_from}
 use Rattle.plant_orders.specs.{whole_fault, faults_from, orders_from, faults_in, orders_in, faults_of, numbered_orders_of, is_header}

@@ -1,4 +1,4 @@
-use Rattle.std.proofs.Common.{sym, ◌∙◌, ◌≡◌, Ok, Err}
+use Rattle.std.proofs.Common.{sym, ◌∙◌, ◌≡◌, Ok}
 use Rattle.plant_orders.specs.{read_count}
 use Rattle.plant_orders.proofs.PrefixesDecide.{read_into_nothing, was_read}
 use Rattle.plant_orders.proofs.RowsExamined.{examined_of_prefix, told_of_reading}

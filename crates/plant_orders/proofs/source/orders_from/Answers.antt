@@ -1,4 +1,4 @@
-use Rattle.std.proofs.Common.{sym, ◌∙◌, ◌≡◌, Ok, Err, rules}
+use Rattle.std.proofs.Common.{sym, ◌∙◌, ◌≡◌, Ok}
 use Rattle.plant_orders.specs.{read_count}
 use Rattle.plant_orders.proofs.PrefixesDecide.{of_unread, read_into_nothing, reported_of_prefix, was_read}
 use Rattle.plant_orders.proofs.source.orders_from.Goals as goal

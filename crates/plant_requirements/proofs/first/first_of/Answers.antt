@@ -1,4 +1,4 @@
-use Rattle.std.proofs.Common.{◌≡◌, ◌∙◌, ℕ, zero, suc, ◌+◌, ◌<◌, List, [], ◌∷◌, Option, Some, None, drop, get_or, length, refl, sym, ap, arith, add-one}
+use Rattle.std.proofs.Common.{◌≡◌, ◌∙◌, ℕ, zero, suc, ◌<◌, List, [], ◌∷◌, Option, Some, None, drop, get_or, length, refl, sym, ap, arith, add-one}
 use Rattle.plant_requirements.specs.{RowFault, first_reported, or_fault}
 use Rattle.plant_requirements.proofs.first.first_of.Goals as goal
 

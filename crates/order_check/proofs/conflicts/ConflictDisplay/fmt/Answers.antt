@@ -1,4 +1,3 @@
-use Rattle.std.proofs.Common.{rules}
 use Rattle.order_check.proofs.conflicts.ConflictDisplay.fmt.Goals as goal
 
 pub returns-clause-writes : goal.returns-clause-writes

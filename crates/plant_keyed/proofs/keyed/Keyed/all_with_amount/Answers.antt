@@ -1,4 +1,4 @@
-use Rattle.std.proofs.Common.{refl, []}
+use Rattle.std.proofs.Common.{refl}
 use Rattle.std.specs.Float.Ieee
 use Rattle.plant_keyed.proofs.keyed.Keyed.all_with_amount.Goals as goal
 

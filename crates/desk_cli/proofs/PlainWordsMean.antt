@@ -4,7 +4,7 @@ use Rattle.clap.specs.Lexer.{long_of, short_of}
 use Rattle.clap.specs.Words.{Row, Text, fault_of, subcommand_of}
 use Rattle.clap.specs.declared.parser.matches.ValueSource.TheVariants.{CommandLine, DefaultValue}
 use Rattle.clap.specs.declared.builder.value_parser.Reading.TheVariants.{AsWritten, WithoutMinus}
-use Rattle.desk_cli.specs.{the_program, Meant, meant_in, number_in, work_in, AreWrong, Break, FileWords, ImportWords, Mean, ServeWords, ReportWords, begins_with_dash}
+use Rattle.desk_cli.specs.{the_program, Meant, meant_in, number_in, work_in, AreWrong, Break, FileWords, ImportWords, Mean, ServeWords, ReportWords, begins_with_dash, hosts_of_names}
 use Rattle.clap.proofs.OnLiterals.{clap_on_literals}
 use Rattle.plant_base.specs.{is_id}
 use Rattle.desk_cli.specs.PlainWords.{PlainWords}

@@ -16,11 +16,7 @@ pub fn movements_in(alloc: Global, rows: &[BookedRow]) -> Result<Vec<Movement>, 
     ensures { IfOk result (λ list. list.items ≡ movements_in rows.now) }
 {
     let mut movements = Vec::with_capacity(alloc, rows.len())?;
-    for row in rows {
-        if let Some(movement) = row.movement() {
-            movements.push(movement)?;
-        }
-    }
+    movements.extend(rows.iter().filter_map(|r| r.movement()))?;
     Ok(movements)
 }
 

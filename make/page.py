@@ -29,7 +29,7 @@ SCRIPTS = {
     ),
     "desk.js": ("elements", "store", "language", "typed", "who", "focus", "scanner", "parts", "questions", "frame", "sorts", "saved"),
     "forms.js": ("lots", "forms", "paper", "label", "book", "plots", "alarm", "help"),
-    "records.js": ("today", "genealogy", "record", "sheet", "inputs", "balance", "stands", "release", "lacks", "chooser", "goods", "places", "finder"),
+    "records.js": ("today", "genealogy", "record", "sheet", "inputs", "balance", "history", "stands", "release", "lacks", "chooser", "goods", "places", "finder"),
     "views.js": ("planner", "shift", "warehouse", "quality", "start"),
 }
 

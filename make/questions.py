@@ -143,6 +143,7 @@ QUESTIONS: list[typing.Union[Topic, Around, Listed]] = [
     Listed("recipes", "The versions of recipes in a state.", of="recipe_state", by="recipe"),
     Listed("movements", "The ledger of a lot.", of="lot", by="movement"),
     Listed("commands", "The commands that had references.", by="number"),
+    Listed("history", "The commands that had references and name an id.", of="id", by="number"),
     Listed("stock", "The lots of a definition that have stock, the oldest first.", of="def", by="birth"),
     Listed("stocks", "What there is of the definitions of a class.", of="class"),
     Topic("find", "The ids that begin with one.", "id", "/v1/find/{id}"),

@@ -164,6 +164,10 @@ def answers(states_of_orders: Schema, states_of_recipes: Schema, commands: Itera
         "recipes": page("recipes", RECIPE_ROW),
         "movements": page("movements", MOVEMENT),
         "commands": page("commands", one_of(exact(at=MOMENT, by=TEXT, do=words(*commands), note=TEXT, ref=ID, seq=SEQ), exact(ref=ID, seq=SEQ))),
+        "history": page(
+            "commands", one_of(exact(at=MOMENT, by=TEXT, do=words(*commands), fields=rows(TEXT), note=TEXT, ref=ID, seq=SEQ), exact(fields=rows(TEXT), ref=ID, seq=SEQ)),
+            last=or_null(SEQ),
+        ),
         "stock": page("lots", STOCKED_LOT),
         "stocks": page("stocks", DEFINITION_STOCK),
         "find": exact(**{kind: rows(ID, 20) for kind in ("batches", "classes", "definitions", "lots", "orders", "recalls", "recipes")}),
@@ -327,11 +331,11 @@ def others(statuses: Iterable[int], **names: str) -> dict[str, Schema]:
 
 
 def parameter(name: str, defs: Mapping[str, Schema], word: str) -> Schema:
-    """The parameter of a path, by the rule of the question's member; a version is digits there, and so is the number of a command."""
+    """The parameter of a path, by the rule of the question's member; a version is digits there, and so is the number of a command that a page comes after."""
     schema = defs[f"ask_{word}"].get("properties", {}).get(name, ID)
     if name == "version":
         schema = {"type": "string", "pattern": "^[0-9]{1,3}$"}
-    if (name, word) == ("above", "commands"):
+    if name == "above" and word in ("commands", "history"):
         schema = {"type": "string", "pattern": "^[0-9]{1,16}$"}
     return {"name": name, "in": "path", "required": True, "schema": schema}
 

@@ -41,6 +41,7 @@ export const COLUMNS = {
   ledger: [["Number", (it) => it.seq], "line", WHEN, "by", ["What", (it) => it.kind], AMOUNT, "unit", "lot", ["Part", (it) => it.sub], ["To lot", (it) => it.to],
     ["To part", (it) => it.to_sub], "batch", "note"],
   places: [["Place", (it) => it.place], ["Parts", (it) => it.parts.length], ["Materials", (it) => it.materials]],
+  history: [["Number", (it) => it.seq], ["When", (it) => it.at && stamp(it.at)], "by", ["What", (it) => it.do], ["Details", (it) => it.details], "note", ["Reference", (it) => it.ref]],
   commands: [["Number", (it) => it.seq], ["When", (it) => it.at && stamp(it.at)], "by", ["What", (it) => it.do], "note", ["Reference", (it) => it.ref]],
   holds: ["lot", "hold", WHEN, "by", "note"],
   recalls: ["recall", "lot", WHEN, "by", "note", ["Lifted", (it) => it.lift && stamp(it.lift.at)], ["Lifted by", (it) => it.lift?.by],

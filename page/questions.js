@@ -157,6 +157,14 @@ export const desk = {
     const { batch } = await asked("/v1/orders/" + order);
     return { batch, lines: await desk.batchLines(batch) };
   }),
+  // Every command that had a reference and names an id. A page of it is of a hundred commands, few or none of which may name the id.
+  async history(id) {
+    const all = [];
+    for (let page = await asked("/v1/lists/history/" + id); ; page = await asked(`/v1/lists/history/${id}/${page.last}`)) {
+      all.push(...page.commands);
+      if (!page.more) return all;
+    }
+  },
   ledger: (lot, stock, wanted) => askedOnce(`ledger ${lot}`, () => list("movements/" + lot, wanted), stock),
   async record(id) { return readRecord(await asked(`/v1/batches/${id}/record`, true)); },
 

@@ -98,6 +98,22 @@ const COMMANDS = [
 export const wordOf = (word) => (SAID.includes(word) ? t(word) : word);
 export const commandWord = (word) => (COMMANDS.includes(word) ? t(`${word}^command`) : word);
 
+// What the fields of a command are, in the order of its content. Of a merge the parts follow, of an import and a recipe only
+// what they begin with is said.
+const FIELD_NAMES = {
+  add_class: ["class", "name"], add_definition: ["material", "class", "name", "unit"], receive: ["lot", "material", "amount", "place"],
+  scrap: ["lot", "part", "amount"], divide: ["lot", "part", "amount", "place"], split: ["lot", "part", "amount", "new lot", "place"],
+  merge: ["new lot", "place", "lots"], hold: ["lot", "hold"], unhold: ["lot", "hold"], recall: ["recall", "lot"], lift: ["recall"],
+  add_recipe: ["recipe", "version"], approve: ["recipe", "version"], withdraw: ["recipe", "version"], import_orders: ["orders"], cancel_order: ["order"],
+  release: ["order", "batch"], batch: ["batch", ""], settle: ["batch"], phase_done: ["batch", "phase"], close_batch: ["batch"],
+  consume: ["batch", "lot", "part", "amount"], produce: ["batch", "lot", "material", "amount", "place"],
+};
+const fieldInWords = (name, value) => (name === "" ? eventInWords(value) : `${t(name)} ${name === "amount" ? grouped(value) : value}`);
+export function fieldsInWords(word, fields) {
+  const names = FIELD_NAMES[word] ?? [], parts = word === "merge" ? Array.from({ length: Number(fields[2]) }, (_, k) => `${fields[3 * k + 3]}/${fields[3 * k + 4]}`) : [];
+  return [...names.map((name, k) => fieldInWords(name, fields[k])), ...parts].join(", ");
+}
+
 // An event of a batch record: a word that the batch was told, or a phase with its number and its name.
 const EVENTS = ["start", "done", "pause", "hold", "stop", "abort", "resume", "restart", "reset", "close", "phase"];
 export function eventInWords(event) {

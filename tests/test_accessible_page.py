@@ -24,7 +24,7 @@ FORMS = (
     ("shift/B-3", "Consume", "in DOUGH"), ("shift/B-3", "Produce", "out BREAD"), ("shift/B-3", "With a note\u2026", None), ("shift/B-3", "Sheet", None),
     ("warehouse/YEAST", "Receive a lot", None), ("warehouse/YEAST", "Move", "Y-1/0"), ("warehouse/YEAST", "Split", "Y-1/0"),
     ("warehouse/YEAST", "Label", "Y-1/0"),
-    ("quality/lot/F-1", "Hold", None), ("quality/lot/F-1", "Recall", None), ("quality/lot/F-1", "Balance", None), ("quality", "?", None),
+    ("quality/lot/F-1", "Hold", None), ("quality/lot/F-1", "Recall", None), ("quality/lot/F-1", "Balance", None), ("quality/lot/F-1", "History", None), ("quality", "?", None),
 )
 
 # What can be pressed or written into and is lower than 44 pixels; a link in a sentence may be.

@@ -54,6 +54,8 @@ QUESTIONS = [
     '{"ask":"stocks","class":"%s"}',
     '{"ask":"stocks","class":"RAW","above":"%s"}',
     '{"ask":"find","id":"%s"}',
+    '{"ask":"history","id":"%s"}',
+    '{"ask":"history","id":"%s","above":7}',
 ]
 
 # What is asked of nothing.
@@ -120,7 +122,7 @@ class Questions(KeeperTestCase):
         """Takes the file back to the first schema, and asks what was known there: it has no recalls, so that none reaches a lot or counts in a sum,
         and no receipts."""
         sqlite.changed(self.folder / "twenty.db", sqlite.TO_SCHEMA_1)
-        gone = ("recall", '"commands"', '"stocks"', '"find"')
+        gone = ("recall", '"commands"', '"history"', '"stocks"', '"find"')
         lasting = [(question, answer) for question, answer in zip(questions, answers) if not any(it in question for it in gone)]
         told = "".join(question + "\n" for question, _ in lasting).encode()
         wanted = b"".join(answer.replace(b'"recalled":true', b'"recalled":false') for _, answer in lasting)

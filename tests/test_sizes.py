@@ -50,7 +50,7 @@ NAME = "a" * 60
 LISTS = {
     "orders": "state", "batches": None, "lots": "def", "holds": "lot", "recalls": None, "definitions": "class", "recipes": "state",
     "movements": "lot", "closed_batches": None, "lifted_recalls": None, "classes": None, "all_holds": None, "orders_by_due": "state",
-    "commands": None, "stock": "def", "stocks": "class",
+    "commands": None, "history": "id", "stock": "def", "stocks": "class",
 }
 
 REUSED = b'{"name":"RefReused","refused":31}\n'
@@ -150,7 +150,7 @@ class Pages(LimitTestCase):
     """Lists above a page."""
 
     def test_lists_above_a_page_are_told_alike_by_a_line_and_by_a_request(self) -> None:
-        for session in [*scenarios.above_a_page(), scenarios.lists(201), scenarios.by_due(201), scenarios.booked(201)]:
+        for session in [*scenarios.above_a_page(), scenarios.lists(201), scenarios.by_due(201), scenarios.booked(201), scenarios.histories(201)]:
             file = "pages.db"
             self.check_run(session.name, ["run", file], session.ended(), session.told)
             asked = [json.loads(it) for it in sorted(set(lines_of(session.told))) if b'"ask":' in it]

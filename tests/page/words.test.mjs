@@ -2,7 +2,7 @@ import assert from "node:assert/strict";
 import test from "node:test";
 
 process.env.TZ = "Europe/Berlin";
-const { REFUSALS, STATES, cameInWords, keyOfPart, partInWords, placeOfPart, plainly } = await import("../../page/words.js");
+const { REFUSALS, STATES, cameInWords, fieldsInWords, keyOfPart, partInWords, placeOfPart, plainly } = await import("../../page/words.js");
 
 test("an answer that isn't what was wished for is told in plain words", () => {
   assert.equal(plainly({ status: 409, body: { name: "Held" } }), `${REFUSALS.Held} (Held)`);
@@ -13,6 +13,14 @@ test("an answer that isn't what was wished for is told in plain words", () => {
   assert.match(plainly({ status: 503, body: { fault: 1 } }), /store failed/);
   assert.match(plainly({ status: 403, body: { status: 403 } }), /under this name/);
   assert.equal(plainly({ status: 404, body: { status: 404 } }), "The desk doesn't know that. (404)");
+});
+
+test("the fields of a command are told with what they are", () => {
+  assert.equal(fieldsInWords("scrap", ["F-1", "0", "20000"]), "lot F-1, part 0, amount 20\u202f000");
+  assert.equal(fieldsInWords("unhold", ["F-1", "H-2"]), "lot F-1, hold H-2");
+  assert.equal(fieldsInWords("batch", ["B-1", "pause"]), "batch B-1, pause");
+  assert.equal(fieldsInWords("merge", ["M-1", "A1", "2", "F-1", "0", "5", "F-2", "3", "6"]), "new lot M-1, place A1, lots 2, F-1/0, F-2/3");
+  assert.equal(fieldsInWords("later", ["F-1"]), "");
 });
 
 test("each state that a word leads to is in the state table", () => {

@@ -282,6 +282,34 @@ def booked(count: int) -> Session:
     return session
 
 
+def histories(count: int) -> Session:
+    """Returns a session of so many commands with references, of which every third names one lot and the others another: the histories of these, from each
+    place around the ends of pages, each hundred commands a page; and of what a merge names."""
+    session = Session(f"of {count} commands with references those that name an id are its history").accepted(*GOODS, receive("L-1", 900), receive("L-2", 900))
+    rows: list[Item] = []
+
+    def given(word: str, *fields: str, **members: Json) -> None:
+        number = len(rows)
+        session.accepted(f'"do":"{word}",{compact(members)[1:-1]},"note":"L-{number}","ref":"K-{number}"')
+        rows.append({"at": 100, "by": "", "do": word, "fields": [*fields], "note": f"L-{number}", "ref": f"K-{number}", "seq": session.count()})
+
+    for it in range(count):
+        lot = f"L-{1 if it % 3 == 0 else 2}"
+        given("hold", lot, f"H-{it}", lot=lot, hold=f"H-{it}")
+    for it in range(count):
+        lot = f"L-{1 if it % 3 == 0 else 2}"
+        given("unhold", lot, f"H-{it}", lot=lot, hold=f"H-{it}")
+    given("merge", "M-1", "", "2", "L-1", "0", "5", "L-2", "0", "6", new="M-1", place="",
+        parts=[{"lot": "L-1", "sub": 0, "amount": 5}, {"lot": "L-2", "sub": 0, "amount": 6}])
+    places = [None, 1, 10**15, *(rows[k]["seq"] + n for k in (0, 98, 99, 100, 199) if k < len(rows) for n in (0, 1))]
+    for at in places:
+        front = [it for it in rows if at is None or it["seq"] > at]
+        for name in ("L-1", "L-2", "M-1", "H-7", "K-1", "L-7"):
+            answer = {"commands": [it for it in front[:100] if name in it["fields"]], "last": front[:100][-1]["seq"] if front else None, "more": len(front) > 100}
+            session.asked(question("history", at, id=name), compact(answer))
+    return session
+
+
 # ---- lists and recalls above a page
 
 
@@ -494,6 +522,6 @@ def scraps() -> Session:
 
 def every() -> list[Session]:
     """Returns all sessions, those that are written out and those that are made here."""
-    pages = [session(count) for count in COUNTS for session in (lists, paired_lists, by_due, booked)]
+    pages = [session(count) for count in COUNTS for session in (lists, paired_lists, by_due, booked, histories)]
     made = [*limits(), long_chain(), wide_fan(), standing(), *pages, *above_a_page(), *finding.every(), *lines(), scraps()]
     return [*map(sessions.read, sessions.files()), *made]

@@ -17,7 +17,7 @@ TABLES = (
     "REFUSALS", "FILE_FAULTS", "STATES", "MOVES", "SAID", "ID_RULE", "LINES_HINT", "FILE_HINT", "LISTS_OF", "TITLES", "PART_HEADS", "SORT_HEADS",
     "OPEN_HEADS", "CLOSED_HEADS", "LOT_HEADS", "PLACE_HEADS", "STAND_HEADS", "heads", "ORDER_STATES", "WAYS", "WHICH", "WHICH_RECALLS", "FORMS_OF_RECORD",
     "PICTURES", "GOODS_BY", "AHEAD", "SIGNED", "GRAVE", "KEYS", "SCANS", "BOOKINGS", "WORDS",
-    "LINE_KINDS", "ADDED",
+    "LINE_KINDS", "ADDED", "FIELD_NAMES",
 )
 
 # Those whose texts are words of the desk, each with what is behind it in a table; and those that name the columns of files.
@@ -35,7 +35,7 @@ SHOWING = {
     "notice": (1,), "miss": (0,), "pill": (0,), "card": (0,), "button": (0,), "link": (1,), "choice": (0,), "filterChoice": (0,), "option": (1,),
     "big": (0,), "table": (2,), "say": (0,), "textField": (1,), "idField": (1,), "newLotField": (1,), "selectField": (1,), "halfField": (2,),
     "noteField": (0,), "placeField": (0,), "form": (0, 2), "bookingForm": (0, 2), "openPaper": (0, 2), "tell": (0,), "book": (0,), "act": (0,),
-    "refuse": (0,), "bookAtOnce": (0, 2), "balanceButton": (2,), "signatures": (0,), "barPlot": (0,), "stepPlot": (0,), "valuesOf": (0,), "restOf": (2,),
+    "refuse": (0,), "bookAtOnce": (0, 2), "balanceButton": (2,), "historyButton": (1,), "signatures": (0,), "barPlot": (0,), "stepPlot": (0,), "valuesOf": (0,), "restOf": (2,),
     "barred": (1,), "amount": (0,),
 }
 

@@ -362,6 +362,13 @@ const desk = {
     const { batch } = await asked("/v1/orders/" + order);
     return { batch, lines: await desk.batchLines(batch) };
   }),
+  async history(id) {
+    const all = [];
+    for (let page = await asked("/v1/lists/history/" + id); ; page = await asked(`/v1/lists/history/${id}/${page.last}`)) {
+      all.push(...page.commands);
+      if (!page.more) return all;
+    }
+  },
   ledger: (lot, stock, wanted) => askedOnce(`ledger ${lot}`, () => list("movements/" + lot, wanted), stock),
   async record(id) { return readRecord(await asked(`/v1/batches/${id}/record`, true)); },
   async stands(kind, id) { return (await asked(`/v1/${kind}/${id}/stands`)).lots; },
@@ -591,4 +598,4 @@ const csvButton = (list, name, read) => button(t`CSV`, async () => {
 "##;
 
 /// Its entity tag.
-pub const FRAME_TAG: &str = "\"8447935dc7b79b4fead62dc1eea8fe0a\"";
+pub const FRAME_TAG: &str = "\"ae39c1d2323db9e46ec087a1a791c182\"";

@@ -466,6 +466,18 @@ async function showBalance(kind, id, what) {
   } catch (error) { notice("bad", whyNot(error)); }
 }
 const balanceButton = (kind, id, what) => button(t`Balance`, () => showBalance(kind, id, what), null, { "aria-label": t`Balance of ${what}` });
+const rowOf = (it) => row(it.seq, [numberCell(it.seq), momentCell(it.at), cell(it.by), cell(commandWord(it.do)), cell(fieldsInWords(it.do, it.fields)), cell(it.note)]);
+async function showHistory(id, what) {
+  try {
+    const commands = await desk.history(id);
+    const sheet = h("section", { class: "sheet history" }, h("h2", {}, t`History of ${what}`), printedLine(),
+      h("p", { class: "soft small" }, t`Each command with a reference that names it: ${counted(commands.length, "command", "commands")}.`),
+      table(["#Number", "When", "By", "What", "Details", "Note"], commands.map(rowOf), t`No command with a reference names it.`));
+    const saved = () => commands.map((it) => ({ ...it, details: fieldsInWords(it.do, it.fields) }));
+    openPaper(t`History`, [sheet], t`History of ${what}`, [csvButton("history", `history-of-${id}`, saved)]);
+  } catch (error) { notice("bad", whyNot(error)); }
+}
+const historyButton = (id, what) => button(t`History`, () => showHistory(id, what), null, { "aria-label": t`History of ${what}` });
 const nameOfTicks = (of) => `ticks.${desk.name || ""}.${of}`;
 function tick(of, key, isOn) {
   const others = kept(nameOfTicks(of), []).filter((it) => it !== key);
@@ -762,4 +774,4 @@ async function offerBegun() {
 "##;
 
 /// Its entity tag.
-pub const RECORDS_TAG: &str = "\"fdb3dda88ac7193912c0e6fb696b7775\"";
+pub const RECORDS_TAG: &str = "\"e586208f49bc7322580030482873830d\"";

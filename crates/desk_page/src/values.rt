@@ -121,6 +121,7 @@ const COLUMNS = {
   ledger: [["Number", (it) => it.seq], "line", WHEN, "by", ["What", (it) => it.kind], AMOUNT, "unit", "lot", ["Part", (it) => it.sub], ["To lot", (it) => it.to],
     ["To part", (it) => it.to_sub], "batch", "note"],
   places: [["Place", (it) => it.place], ["Parts", (it) => it.parts.length], ["Materials", (it) => it.materials]],
+  history: [["Number", (it) => it.seq], ["When", (it) => it.at && stamp(it.at)], "by", ["What", (it) => it.do], ["Details", (it) => it.details], "note", ["Reference", (it) => it.ref]],
   commands: [["Number", (it) => it.seq], ["When", (it) => it.at && stamp(it.at)], "by", ["What", (it) => it.do], "note", ["Reference", (it) => it.ref]],
   holds: ["lot", "hold", WHEN, "by", "note"],
   recalls: ["recall", "lot", WHEN, "by", "note", ["Lifted", (it) => it.lift && stamp(it.lift.at)], ["Lifted by", (it) => it.lift?.by],
@@ -325,6 +326,19 @@ const COMMANDS = [
 ];
 const wordOf = (word) => (SAID.includes(word) ? t(word) : word);
 const commandWord = (word) => (COMMANDS.includes(word) ? t(`${word}^command`) : word);
+const FIELD_NAMES = {
+  add_class: ["class", "name"], add_definition: ["material", "class", "name", "unit"], receive: ["lot", "material", "amount", "place"],
+  scrap: ["lot", "part", "amount"], divide: ["lot", "part", "amount", "place"], split: ["lot", "part", "amount", "new lot", "place"],
+  merge: ["new lot", "place", "lots"], hold: ["lot", "hold"], unhold: ["lot", "hold"], recall: ["recall", "lot"], lift: ["recall"],
+  add_recipe: ["recipe", "version"], approve: ["recipe", "version"], withdraw: ["recipe", "version"], import_orders: ["orders"], cancel_order: ["order"],
+  release: ["order", "batch"], batch: ["batch", ""], settle: ["batch"], phase_done: ["batch", "phase"], close_batch: ["batch"],
+  consume: ["batch", "lot", "part", "amount"], produce: ["batch", "lot", "material", "amount", "place"],
+};
+const fieldInWords = (name, value) => (name === "" ? eventInWords(value) : `${t(name)} ${name === "amount" ? grouped(value) : value}`);
+function fieldsInWords(word, fields) {
+  const names = FIELD_NAMES[word] ?? [], parts = word === "merge" ? Array.from({ length: Number(fields[2]) }, (_, k) => `${fields[3 * k + 3]}/${fields[3 * k + 4]}`) : [];
+  return [...names.map((name, k) => fieldInWords(name, fields[k])), ...parts].join(", ");
+}
 const EVENTS = ["start", "done", "pause", "hold", "stop", "abort", "resume", "restart", "reset", "close", "phase"];
 function eventInWords(event) {
   const [word, ...rest] = event.split(" ");
@@ -569,4 +583,4 @@ function isNamed(name, typed) {
 "##;
 
 /// Its entity tag.
-pub const VALUES_TAG: &str = "\"e5920ae8f433961a13ab70a80aa50780\"";
+pub const VALUES_TAG: &str = "\"909a5284720745fdbacb3467e05bcd6e\"";

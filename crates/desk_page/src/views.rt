@@ -602,7 +602,7 @@ function lotCard(lot, self, holds, forward) {
   const rows = holds.map((it) => row(it.hold, [idCell(it.hold), momentCell(it.at), cell(it.by), cell(it.note),
     buttonsCell(button(t`Take the hold off`, () => unhold(lot.lot, it.hold)))]));
   const tools = [lot.held && pill(t`on hold`, "warn"), self.recalled && pill(t`recalled`, "bad"), button(t`Label`, () => showLabels(lot.lot)),
-    balanceButton("lots", lot.lot, t`lot ${lot.lot}`), button(t`Hold^verb`, () => hold(lot.lot)), button(t`Recall^verb`, () => recall(lot.lot, forward), "bad")];
+    historyButton(lot.lot, t`lot ${lot.lot}`), balanceButton("lots", lot.lot, t`lot ${lot.lot}`), button(t`Hold^verb`, () => hold(lot.lot)), button(t`Recall^verb`, () => recall(lot.lot, forward), "bad")];
   return card(t`Lot ${lot.lot}`, tools,
     facts(fact(t`Material`, link("warehouse/" + lot.def, lot.def)), fact(t`Stock`, grouped(lot.stock), " ", self.unit),
       lot.sublots.filter((it) => it.stock || lot.sublots.length === 1).map((it) =>
@@ -644,7 +644,7 @@ async function recallCards(id, recalls) {
   const it = await desk.recall(id), open = recalls.find((other) => other.recall === id);
   if (!it) return [card(t`Recall ${id}`, null, none(t`There is no such recall.`))];
   const { nodes } = await desk.forward("lots", it.lot), stands = standsCard(`recall ${id}`, await desk.stands("lots", it.lot), nodes);
-  const print = [balanceButton("lots", it.lot, t`recall ${id}`), button(t`Print`, () => globalThis.print())];
+  const print = [historyButton(id, t`recall ${id}`), balanceButton("lots", it.lot, t`recall ${id}`), button(t`Print`, () => globalThis.print())];
   if (it.state === "lifted") return [card(t`Recall ${id}`, [pill(t`lifted`), print], printedLine(), facts(fact(t`Lot`, lotLink(it.lot))),
     none(t`It is lifted, and reaches nothing any more.`)), stands];
   const since = open ? [fact(t`Since`, moment(open.at)), fact(t`By`, open.by), open.note && fact(t`Why`, open.note)] : [];
@@ -662,7 +662,7 @@ async function recallCards(id, recalls) {
 async function batchRecordCards(id) {
   const batch = { ...(await desk.batch(id)), record: await desk.record(id) };
   const around = { back: await desk.back("batches", id), forward: await desk.forward("batches", id) };
-  return [recordCard(batch, balanceButton("batches", id, t`batch ${id}`)), genealogyCard(around, "batch " + id)];
+  return [recordCard(batch, [historyButton(id, t`batch ${id}`), balanceButton("batches", id, t`batch ${id}`)]), genealogyCard(around, "batch " + id)];
 }
 const MOST_NAMED = 10;
 async function find(code) {
@@ -766,4 +766,4 @@ begin();
 "##;
 
 /// Its entity tag.
-pub const VIEWS_TAG: &str = "\"554933cad29d41ef4adbb46650f1305c\"";
+pub const VIEWS_TAG: &str = "\"7744a7b45f963d39e93cc73fea1b63ad\"";

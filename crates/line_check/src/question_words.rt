@@ -40,6 +40,7 @@ pub(crate) fn question_words() -> &'static [&'static str]
         "recipes",
         "movements",
         "commands",
+        "history",
         "stock",
         "stocks",
         "find",

@@ -5,7 +5,7 @@ use Rattle.plant_base.specs.declared.refusal.Refusal.TheVariants.{UnknownClass, 
 use Rattle.plant_questions.specs.{page_of, orders_in, orders_by_due, receipts_by_number, batches_in, lots_of, holds_on, recalls_in, classes_after, definitions_in, recipes_in, ledger_of, all_holds, ListQuestion}
 use Rattle.plant_questions.specs.declared.list_question.ListQuestion.TheVariants as list
 use Rattle.plant_answers_genealogy.specs.{lot_page}
-use Rattle.plant_answers_pages.specs.{batch_page, command_page}
+use Rattle.plant_answers_pages.specs.{batch_page, command_page, history_page}
 use Rattle.plant_answers.specs.Stock.{stock_page, stocks_page}
 use Rattle.plant_questions.specs.{Answer, Listed}
 use Rattle.plant_questions.specs.declared.listed.Listed.TheVariants as listed
@@ -42,6 +42,7 @@ listed_of s (list.Definitions class cursor) = listed.Definitions (page_of (defin
 listed_of s (list.Recipes state cursor) = listed.Recipes (page_of (recipes_in s state cursor))
 listed_of s (list.Movements lot cursor) = listed.Ledger (page_of (ledger_of s lot cursor))
 listed_of s (list.Commands cursor) = listed.Commands (command_page (page_of (receipts_by_number s cursor)))
+listed_of s (list.History id cursor) = listed.History (history_page id (page_of (receipts_by_number s cursor)))
 listed_of s (list.Stock def cursor) = listed.Stock (stock_page s def cursor)
 listed_of s (list.Stocks class cursor) = listed.Stocks (stocks_page s class cursor)
 

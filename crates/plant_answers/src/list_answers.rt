@@ -7,7 +7,7 @@ ghost use Rattle.plant_answers.specs.ListAnswers.{answer_list, listed_of, unknow
 use crate::stock::stock_page;
 use crate::stocks::stocks_page;
 use plant_answers_genealogy::lot_page;
-use plant_answers_pages::{batch_page, command_page};
+use plant_answers_pages::{batch_page, command_page, history_page};
 use plant_base::Refusal;
 use plant_questions::{Answer, ListQuestion, Listed, Worklists, all_holds};
 use plant_view::{View, ViewFault, lookup};
@@ -111,6 +111,9 @@ fn listed_of<V: Worklists>(
             Ok(Listed::Ledger(view.ledger_of(lot, cursor).map_err(ViewFault::View)?))
         }
         ListQuestion::Commands(cursor) => Ok(Listed::Commands(command_page(alloc, view, cursor)?)),
+        ListQuestion::History(id, cursor) => {
+            Ok(Listed::History(history_page(alloc, view, id, cursor)?))
+        }
         ListQuestion::Stock(def, cursor) => {
             Ok(Listed::Stock(stock_page(alloc, view, def, cursor)?))
         }

@@ -39,7 +39,7 @@ fn booked_commands(alloc: Global, receipts: &[Receipt]) -> Result<Vec<BookedComm
         .collect(alloc)
 }
 
-fn booked_command(receipt: &Receipt) -> BookedCommand
+pub(crate) fn booked_command(receipt: &Receipt) -> BookedCommand
     ensures { result ≡ booked_command receipt.now }
 {
     BookedCommand {
@@ -64,6 +64,13 @@ fn head_of(content: &str) -> Option<CommandHead>
         note: text_in(note)?,
         word: word_in(word)?,
     })
+}
+
+/// What comes after the first line of a text.
+pub(crate) fn behind(text: &str) -> &str
+    ensures { result.now ≡ behind text.now }
+{
+    cut(text).1
 }
 
 // The first line of a text, and what comes after it.
@@ -97,7 +104,7 @@ fn is_padded(digits: &[u8]) -> bool
     }
 }
 
-fn text_in(text: &str) -> Option<Text>
+pub(crate) fn text_in(text: &str) -> Option<Text>
     ensures { result ≡ only is_text text.now }
 {
     Text::read(text.as_bytes())

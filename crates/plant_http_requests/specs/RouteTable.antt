@@ -68,6 +68,8 @@ route_table =
     (codes "/v1/lists/movements/{lot}/{above}", route.Question (q.List list.Movements)) ∷
     (codes "/v1/lists/commands", route.Question (q.List list.Commands)) ∷
     (codes "/v1/lists/commands/{above}", route.Question (q.List list.Commands)) ∷
+    (codes "/v1/lists/history/{id}", route.Question (q.List list.History)) ∷
+    (codes "/v1/lists/history/{id}/{above}", route.Question (q.List list.History)) ∷
     (codes "/v1/lists/stock/{def}", route.Question (q.List list.Stock)) ∷
     (codes "/v1/lists/stock/{def}/{above}", route.Question (q.List list.Stock)) ∷
     (codes "/v1/lists/stocks/{class}", route.Question (q.List list.Stocks)) ∷

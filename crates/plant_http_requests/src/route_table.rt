@@ -220,6 +220,14 @@ pub(crate) fn routes() -> &'static [(&'static str, Route)]
             Route::Question(QuestionKind::List(ListKind::Commands)),
         ),
         (
+            "/v1/lists/history/{id}",
+            Route::Question(QuestionKind::List(ListKind::History)),
+        ),
+        (
+            "/v1/lists/history/{id}/{above}",
+            Route::Question(QuestionKind::List(ListKind::History)),
+        ),
+        (
             "/v1/lists/stock/{def}",
             Route::Question(QuestionKind::List(ListKind::Stock)),
         ),

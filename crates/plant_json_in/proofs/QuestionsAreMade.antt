@@ -53,6 +53,7 @@ list_made k.Definitions v = of_one k.Definitions (field.Id v.0) rule.Id tt (λ x
 list_made k.Recipes v = of_one k.Recipes (field.RecipeState v.0) rule.RecipeCursor tt (λ x. tt) v.1.0
 list_made k.Movements v = of_one k.Movements (field.Id v.0) rule.MovementCursor tt (λ x. tt) v.1.0
 list_made k.Commands v = whole k.Commands rule.Amount tt (λ x. tt) v.0
+list_made k.History v = of_one k.History (field.Id v.0) rule.Amount tt (λ x. tt) v.1.0
 list_made k.Stock v = of_one k.Stock (field.Id v.0) rule.BirthCursor tt (λ x. tt) v.1.0
 list_made k.Stocks v = of_one k.Stocks (field.Id v.0) rule.Id tt (λ x. tt) v.1.0
 

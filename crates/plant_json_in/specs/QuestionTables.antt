@@ -46,10 +46,11 @@ asked_kind word =
     if bytes_eq word (codes "recipes") then Some (asked.List list.Recipes) else (
     if bytes_eq word (codes "movements") then Some (asked.List list.Movements) else (
     if bytes_eq word (codes "commands") then Some (asked.List list.Commands) else (
+    if bytes_eq word (codes "history") then Some (asked.List list.History) else (
     if bytes_eq word (codes "stock") then Some (asked.List list.Stock) else (
     if bytes_eq word (codes "stocks") then Some (asked.List list.Stocks) else (
     if bytes_eq word (codes "find") then Some (asked.About topic.Find) else (
-    None))))))))))))))))))))))))))))))))))
+    None)))))))))))))))))))))))))))))))))))
 
 -- the members of a question besides its word, in the order in which problems are reported and a path has them
 abbrev pub question_members : QuestionKind → List Member
@@ -80,5 +81,6 @@ question_members (q.List list.Definitions) = m.Class ∷ m.Above ∷ []
 question_members (q.List list.Recipes) = m.RecipeState ∷ m.AfterRecipe ∷ []
 question_members (q.List list.Movements) = m.Lot ∷ m.AfterMovement ∷ []
 question_members (q.List list.Commands) = m.AfterNumber ∷ []
+question_members (q.List list.History) = m.Beginning ∷ m.AfterNumber ∷ []
 question_members (q.List list.Stock) = m.Definition ∷ m.AfterBirth ∷ []
 question_members (q.List list.Stocks) = m.Class ∷ m.Above ∷ []

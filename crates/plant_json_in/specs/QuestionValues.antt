@@ -112,6 +112,7 @@ list_of list.Holds (field.Id lot) cursor = option_map (L.Holds lot) (id_cursor c
 list_of list.Definitions (field.Id class) cursor = option_map (L.Definitions class) (id_cursor cursor)
 list_of list.Recipes (field.RecipeState state) cursor = option_map (L.Recipes state) (recipe_cursor cursor)
 list_of list.Movements (field.Id lot) cursor = option_map (L.Movements lot) (movement_cursor cursor)
+list_of list.History (field.Id id) cursor = option_map (L.History id) (number_cursor cursor)
 list_of list.Stock (field.Id def) cursor = option_map (L.Stock def) (birth_cursor cursor)
 list_of list.Stocks (field.Id class) cursor = option_map (L.Stocks class) (id_cursor cursor)
 list_of _ of cursor = None

@@ -215,7 +215,7 @@ pub enum Member {
     AfterNumber,
     /// The command that is to be checked.
     Command,
-    /// The id that others are to begin with.
+    /// The id that others are to begin with, or that commands are to name.
     Beginning,
 }
 

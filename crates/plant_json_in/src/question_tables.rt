@@ -91,6 +91,8 @@ pub enum ListKind {
     Movements,
     /// The commands that had references.
     Commands,
+    /// The commands that had references and name an id.
+    History,
     /// The lots of a definition that have stock, the oldest first.
     Stock,
     /// What there is of the definitions of a class.
@@ -158,6 +160,7 @@ pub fn asked_kind(word: &str) -> Option<AskedKind>
         "recipes" => Some(AskedKind::List(ListKind::Recipes)),
         "movements" => Some(AskedKind::List(ListKind::Movements)),
         "commands" => Some(AskedKind::List(ListKind::Commands)),
+        "history" => Some(AskedKind::List(ListKind::History)),
         "stock" => Some(AskedKind::List(ListKind::Stock)),
         "stocks" => Some(AskedKind::List(ListKind::Stocks)),
         "find" => Some(AskedKind::About(Topic::Find)),
@@ -198,6 +201,7 @@ pub fn question_members(kind: QuestionKind) -> &'static [Member]
         QuestionKind::List(ListKind::Recipes) => &[RecipeState, AfterRecipe],
         QuestionKind::List(ListKind::Movements) => &[Lot, AfterMovement],
         QuestionKind::List(ListKind::Commands) => &[AfterNumber],
+        QuestionKind::List(ListKind::History) => &[Beginning, AfterNumber],
         QuestionKind::List(ListKind::Stock) => &[Definition, AfterBirth],
         QuestionKind::List(ListKind::Stocks) => &[Class, Above],
     }

@@ -166,6 +166,7 @@ fn whole_list(list: ListKind, cursor: Field) -> Option<ListQuestion>
         | ListKind::Definitions
         | ListKind::Recipes
         | ListKind::Movements
+        | ListKind::History
         | ListKind::Stock
         | ListKind::Stocks => None,
     }
@@ -192,6 +193,9 @@ fn list_of(list: ListKind, of: Field, cursor: Field) -> Option<ListQuestion>
         }
         (ListKind::Movements, Field::Id(lot)) => {
             Some(ListQuestion::Movements(lot, movement_cursor(cursor)?))
+        }
+        (ListKind::History, Field::Id(id)) => {
+            Some(ListQuestion::History(id, number_cursor(cursor)?))
         }
         (ListKind::Stock, Field::Id(def)) => Some(ListQuestion::Stock(def, birth_cursor(cursor)?)),
         (ListKind::Stocks, Field::Id(class)) => {

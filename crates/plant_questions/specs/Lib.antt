@@ -29,8 +29,10 @@ pub use declared.genealogy.NodeAnswer.{NodeAnswer}
 pub use declared.listed.BookedCommand.{BookedCommand}
 pub use declared.listed.CommandHead.{CommandHead}
 pub use declared.listed.DefinitionStock.{DefinitionStock}
+pub use declared.listed.HistoryPage.{HistoryPage}
 pub use declared.listed.Listed.{Listed}
 pub use declared.listed.LotPage.{LotPage}
+pub use declared.listed.NamedCommand.{NamedCommand}
 pub use declared.listed.NextPhase.{NextPhase}
 pub use declared.listed.OpenBatch.{OpenBatch}
 pub use declared.listed.PlannedBatch.{PlannedBatch}

@@ -42,8 +42,8 @@ pub use key_order::HasKeyOrder;
 pub use keys::{ByDue, ByNumber};
 pub use list_question::ListQuestion;
 pub use listed::{
-    BookedCommand, CommandHead, DefinitionStock, Listed, LotPage, NextPhase, OpenBatch,
-    PlannedBatch, StockedLot,
+    BookedCommand, CommandHead, DefinitionStock, HistoryPage, Listed, LotPage, NamedCommand,
+    NextPhase, OpenBatch, PlannedBatch, StockedLot,
 };
 pub use lot_prefetch::{prefetched_is_held, prefetched_lot, prefetched_sublots};
 pub use merging::merge_pages;

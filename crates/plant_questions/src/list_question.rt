@@ -35,6 +35,8 @@ pub enum ListQuestion {
     Movements(Id, Option<Cursor<u64, u16>>),
     /// The commands that had references, by their numbers, 1 to 10^15.
     Commands(Option<u64>),
+    /// The commands that had references and name an id, by their numbers, 1 to 10^15.
+    History(Id, Option<u64>),
     /// The lots of a definition that have stock, the oldest first: by the numbers of the bookings that made them, and by their ids.
     Stock(Id, Option<Cursor<u64, Id>>),
     /// What there is of the definitions of a class, by their ids.

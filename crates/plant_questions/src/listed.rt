@@ -26,6 +26,8 @@ pub enum Listed {
     AllHolds(Page<Hold>),
     /// Commands that had references, by their numbers.
     Commands(Page<BookedCommand>),
+    /// Commands that had references and name an id, by their numbers.
+    History(HistoryPage),
     /// Classes.
     Classes(Page<Class>),
     /// Definitions of a class.
@@ -73,6 +75,26 @@ pub struct BookedCommand {
     pub reference: Id,
     /// What the command's content begins with; `None` where it doesn't begin so, as in no valid state.
     pub head: Option<CommandHead>,
+}
+
+/// A command that had a reference, with its fields.
+#[derive(Drop)]
+pub struct NamedCommand {
+    /// The command.
+    pub command: BookedCommand,
+    /// Its fields, in the order of its content; those that are no texts are left out, as in no valid state.
+    pub fields: Items<Text>,
+}
+
+/// The commands of a page that name an id.
+#[derive(Drop)]
+pub struct HistoryPage {
+    /// The commands of the page that name the id.
+    pub commands: Items<NamedCommand>,
+    /// The number of the last command of the page, whether it names the id or not: the next page begins after it. Nothing where the page has no command.
+    pub last: Option<u64>,
+    /// Whether more commands come after the page, whether they name the id or not.
+    pub has_more: bool,
 }
 
 /// What the content of a command begins with.

@@ -10,12 +10,12 @@ use Rattle.plant_questions.specs.{BatchLines, BatchView, BookedEdge, BookedLine,
 use Rattle.plant_questions.specs.declared.genealogy.NodeAnswer.TheVariants as known
 use Rattle.plant_questions.specs.declared.listed.Listed.TheVariants as listed
 use Rattle.plant_base.specs.declared.rows.RecipeLine.TheVariants as line
-use Rattle.plant_text_answers.specs.{balance_item, balances_data, need_item, needs_data, booking_data, batch_data, recall_data, node_item, edge_item, genealogy_data, node_data, trace_data, order_data, lot_data, standing_data, stands_data, order_item, batch_item, lot_item, hold_item, all_holds_item, recall_item, lifting_or_null, lifted_item, command_data, command_item, class_item, definition_item, recipe_item, movement_item, other_sub, stock_item, stock_row_item, listed_data, id_or_null, unit_or_null, planned_or_null, number_or_null, text_or_null, sublot_data, recipe_line_data, recipe_line_item, booked_line_data, booked_line_item, recipe_data, batch_lines_data}
+use Rattle.plant_text_answers.specs.{balance_item, balances_data, need_item, needs_data, booking_data, batch_data, recall_data, node_item, edge_item, genealogy_data, node_data, trace_data, order_data, lot_data, standing_data, stands_data, order_item, batch_item, lot_item, hold_item, all_holds_item, recall_item, lifting_or_null, lifted_item, command_data, command_item, named_data, named_item, class_item, definition_item, recipe_item, movement_item, other_sub, stock_item, stock_row_item, listed_data, id_or_null, unit_or_null, planned_or_null, number_or_null, text_or_null, sublot_data, recipe_line_data, recipe_line_item, booked_line_data, booked_line_item, recipe_data, batch_lines_data}
 use Rattle.plant_questions.specs.{BatchLines, BatchView, BookedEdge, BookedLine, Booking, CommandHead, FoundIds, Genealogy, Listed, LotAnswer, NodeAnswer, OpenBatch, OrderAnswer, PlannedBatch, RecallAnswer, RecipeAnswer, StandingLot, StockedLot}
 use Rattle.plant_questions.specs.declared.genealogy.NodeAnswer.TheVariants as known
 use Rattle.plant_questions.specs.declared.listed.Listed.TheVariants as listed
 use Rattle.plant_base.specs.declared.rows.RecipeLine.TheVariants as line
-use Rattle.plant_text_answers.specs.{found_data, booking_data, batch_data, recall_data, node_item, edge_item, genealogy_data, node_data, trace_data, order_data, lot_data, standing_data, stands_data, order_item, batch_item, lot_item, hold_item, all_holds_item, recall_item, lifting_or_null, lifted_item, command_data, command_item, class_item, definition_item, recipe_item, movement_item, other_sub, stock_item, stock_row_item, listed_data, id_or_null, unit_or_null, planned_or_null, number_or_null, text_or_null, sublot_data, recipe_line_data, recipe_line_item, booked_line_data, booked_line_item, recipe_data, batch_lines_data}
+use Rattle.plant_text_answers.specs.{found_data, booking_data, batch_data, recall_data, node_item, edge_item, genealogy_data, node_data, trace_data, order_data, lot_data, standing_data, stands_data, order_item, batch_item, lot_item, hold_item, all_holds_item, recall_item, lifting_or_null, lifted_item, command_data, command_item, named_data, named_item, class_item, definition_item, recipe_item, movement_item, other_sub, stock_item, stock_row_item, listed_data, id_or_null, unit_or_null, planned_or_null, number_or_null, text_or_null, sublot_data, recipe_line_data, recipe_line_item, booked_line_data, booked_line_item, recipe_data, batch_lines_data}
 use Rattle.plant_trace.specs.{Node}
 use Rattle.plant_trace.specs.declared.node.Node.TheVariants.{Lot, Batch}
 use Rattle.plant_questions.specs.{other_lot}
@@ -137,6 +137,10 @@ no_float_in_command : (seq : ℕ) (reference : List ℕ) (head : Option CommandH
 no_float_in_command seq reference None = refl
 no_float_in_command seq reference (Some head) = refl
 
+no_float_in_named : (seq : ℕ) (reference : List ℕ) (fields : List (List ℕ)) (head : Option CommandHead) → has_float (named_data seq reference fields head) ≡ false
+no_float_in_named seq reference fields None = rw (no_float_in_ids fields) refl
+no_float_in_named seq reference fields (Some head) = rw (no_float_in_ids fields) refl
+
 no_float_in_number : (n : Option ℕ) → has_float (number_or_null n) ≡ false
 no_float_in_number None = refl
 no_float_in_number (Some n) = refl
@@ -167,6 +171,7 @@ no_float_in_listed (listed.Recalls page) = rw (no_float_in_rows recall_item (λ 
 no_float_in_listed (listed.LiftedRecalls page) = rw (no_float_in_rows lifted_item no_float_in_lifted page.rows) refl
 no_float_in_listed (listed.AllHolds page) = rw (no_float_in_rows all_holds_item (λ h. refl) page.rows) refl
 no_float_in_listed (listed.Commands page) = rw (no_float_in_rows command_item (λ c. no_float_in_command c.seq c.reference c.head) page.rows) refl
+no_float_in_listed (listed.History page) = rw (no_float_in_number page.last, no_float_in_rows named_item (λ c. no_float_in_named c.command.seq c.command.reference c.fields c.command.head) page.commands) refl
 no_float_in_listed (listed.Classes page) = rw (no_float_in_rows class_item (λ c. refl) page.rows) refl
 no_float_in_listed (listed.Definitions page) = rw (no_float_in_rows definition_item (λ d. refl) page.rows) refl
 no_float_in_listed (listed.Recipes page) = rw (no_float_in_rows recipe_item (λ r. refl) page.rows) refl

@@ -6,7 +6,7 @@ use Rattle.plant_base.specs.{batch_state_name, Class, Definition, Hold, Job, Lif
 use Rattle.plant_base.specs.declared.rows.MovementKind.TheVariants as kind
 use Rattle.plant_view.specs.{batch_by}
 use Rattle.plant_questions.specs.{other_lot, Page}
-use Rattle.plant_questions.specs.{BookedCommand, CommandHead, DefinitionStock, Listed, LotPage, OpenBatch, PlannedBatch, StandingLot, StockedLot}
+use Rattle.plant_questions.specs.{BookedCommand, CommandHead, DefinitionStock, HistoryPage, Listed, LotPage, NamedCommand, OpenBatch, PlannedBatch, StandingLot, StockedLot}
 use Rattle.plant_questions.specs.declared.listed.Listed.TheVariants as listed
 use Rattle.plant_text_answers.specs.Natural.{natural}
 use Rattle.plant_text_answers.specs.Parts.{id_or_null, number_or_null, sublots_data, text_or_null, unit_or_null}
@@ -72,6 +72,15 @@ command_data seq reference (Some head) = object (member (codes "at") (natural he
 
 abbrev pub command_item : BookedCommand → Data
 command_item c = command_data c.seq c.reference c.head
+
+-- the same with the fields of the command
+abbrev pub named_data : ℕ → List ℕ → List (List ℕ) → Option CommandHead → Data
+named_data seq reference fields None = object (member (codes "fields") (rows_data string fields) (member (codes "ref") (string reference) (member (codes "seq") (natural seq) no_members)))
+named_data seq reference fields (Some head) = object (member (codes "at") (natural head.at) (member (codes "by") (string head.by) (member (codes "do") (string head.word)
+    (member (codes "fields") (rows_data string fields) (member (codes "note") (string head.note) (member (codes "ref") (string reference) (member (codes "seq") (natural seq) no_members)))))))
+
+abbrev pub named_item : NamedCommand → Data
+named_item c = named_data c.command.seq c.command.reference c.fields c.command.head
 
 abbrev pub class_item : Class → Data
 class_item c = object (member (codes "class") (string c.id) (member (codes "name") (string c.name) no_members))
@@ -147,6 +156,9 @@ lifted_data page = object (member (codes "more") (boolean page.has_more) (member
 abbrev pub commands_data : Page BookedCommand → Data
 commands_data page = object (member (codes "commands") (rows_data command_item page.rows) (member (codes "more") (boolean page.has_more) no_members))
 
+abbrev pub history_data : HistoryPage → Data
+history_data page = object (member (codes "commands") (rows_data named_item page.commands) (member (codes "last") (number_or_null page.last) (member (codes "more") (boolean page.has_more) no_members)))
+
 abbrev pub classes_data : Page Class → Data
 classes_data page = object (member (codes "classes") (rows_data class_item page.rows) (member (codes "more") (boolean page.has_more) no_members))
 
@@ -174,6 +186,7 @@ listed_data (listed.Recalls page) = recalls_data page
 listed_data (listed.LiftedRecalls page) = lifted_data page
 listed_data (listed.AllHolds page) = all_holds_data page
 listed_data (listed.Commands page) = commands_data page
+listed_data (listed.History page) = history_data page
 listed_data (listed.Classes page) = classes_data page
 listed_data (listed.Definitions page) = definitions_data page
 listed_data (listed.Recipes page) = recipes_data page

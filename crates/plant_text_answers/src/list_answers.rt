@@ -8,6 +8,7 @@ ghost use Rattle.plant_text_answers.specs.ListAnswers.{classes_data, definitions
 ghost use Rattle.plant_text_answers.specs.ListAnswers.{recipes_data, ledger_data, listed_data};
 ghost use Rattle.plant_text_answers.specs.ListAnswers.{stock_data, stocks_data};
 
+use crate::command_rows::history_value;
 use crate::further_rows::{all_holds_value, lifted_value};
 use crate::listed_rows::Shown;
 use crate::parts::id_value;
@@ -128,6 +129,7 @@ pub(crate) fn listed_value(alloc: Global, listed: &Listed) -> Result<Value, Allo
         Listed::LiftedRecalls(page) => lifted_value(alloc, page),
         Listed::AllHolds(page) => all_holds_value(alloc, page),
         Listed::Commands(page) => commands_value(alloc, page),
+        Listed::History(page) => history_value(alloc, page),
         Listed::Classes(page) => classes_value(alloc, page),
         Listed::Definitions(page) => definitions_value(alloc, page),
         Listed::Recipes(page) => recipes_value(alloc, page),

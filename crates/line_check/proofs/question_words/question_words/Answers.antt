@@ -38,6 +38,7 @@ returns _ (asked.List list.Definitions) = refl
 returns _ (asked.List list.Recipes) = refl
 returns _ (asked.List list.Movements) = refl
 returns _ (asked.List list.Commands) = refl
+returns _ (asked.List list.History) = refl
 returns _ (asked.List list.Stock) = refl
 returns _ (asked.List list.Stocks) = refl
 returns _ (asked.About topic.Find) = refl

@@ -82,18 +82,18 @@ type_of (media.Resource resource) = media_type_of resource
 unfoldable pub policy_bytes : List ℕ
 policy_bytes = POLICY.now
 
+-- whether a resource is the page itself
+abbrev pub is_page : Resource → Bool
+is_page part.Page = true
+is_page _ = false
+
 -- the lines that keep a resource from misuse: each, and the page itself
 abbrev pub security_header_lines : Resource → List ℕ
-security_header_lines part.Page =
-    codes "X-Frame-Options: DENY\r\n" ++ codes "X-Content-Type-Options: nosniff\r\n"
+security_header_lines resource =
+    if is_page resource
+    then codes "X-Frame-Options: DENY\r\n" ++ codes "X-Content-Type-Options: nosniff\r\n"
     ++ codes "Content-Security-Policy: " ++ policy_bytes ++ codes "\r\n"
-security_header_lines part.Style = codes "X-Content-Type-Options: nosniff\r\n"
-security_header_lines part.Values = codes "X-Content-Type-Options: nosniff\r\n"
-security_header_lines part.Frame = codes "X-Content-Type-Options: nosniff\r\n"
-security_header_lines part.Forms = codes "X-Content-Type-Options: nosniff\r\n"
-security_header_lines part.Records = codes "X-Content-Type-Options: nosniff\r\n"
-security_header_lines part.Views = codes "X-Content-Type-Options: nosniff\r\n"
-security_header_lines part.German = codes "X-Content-Type-Options: nosniff\r\n"
+    else codes "X-Content-Type-Options: nosniff\r\n"
 
 -- the lines by which a browser keeps a resource, and asks each time whether it still is as it was
 abbrev pub validator_lines : Resource → List ℕ

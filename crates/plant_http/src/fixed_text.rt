@@ -5,7 +5,7 @@ ghost use Rattle.plant_http.specs.Answers.{ahead_text, head_text, date_line, res
 ghost use Rattle.plant_http.specs.Answers.{count_text, counts_text, escaped, escaped_byte, health_text, operator_text};
 ghost use Rattle.plant_http.specs.Answers.{text_or_null};
 
-use crate::media::{MediaType, policy, type_of};
+use crate::media::{MediaType, is_page, policy, type_of};
 use crate::status::{allow_line, code_of, phrase_of};
 use arrayvec::ArrayVec;
 use desk_page::{Resource, tag_of};
@@ -84,23 +84,14 @@ impl FixedText {
         ensures text { self.new ≡ self.old ++ security_header_lines resource }
         ensures short { length self.new ≤ length self.old + 483 }
     {
-        match resource {
-            Resource::Page => {
-                self.push("X-Frame-Options: DENY\r\n");
-                self.push("X-Content-Type-Options: nosniff\r\n");
-                self.push("Content-Security-Policy: ");
-                self.push(policy());
-                self.push("\r\n");
-            }
-            Resource::Style
-            | Resource::Values
-            | Resource::Frame
-            | Resource::Forms
-            | Resource::Records
-            | Resource::Views
-            | Resource::German => {
-                self.push("X-Content-Type-Options: nosniff\r\n");
-            }
+        if is_page(resource) {
+            self.push("X-Frame-Options: DENY\r\n");
+            self.push("X-Content-Type-Options: nosniff\r\n");
+            self.push("Content-Security-Policy: ");
+            self.push(policy());
+            self.push("\r\n");
+        } else {
+            self.push("X-Content-Type-Options: nosniff\r\n");
         }
     }
 

@@ -1,6 +1,6 @@
 //! The media types of answers, and the policy of the page.
 ghost use Rattle.std.specs.Prelude.{◌≡◌, ◌≤◌, length};
-ghost use Rattle.plant_http.specs.Answers.{media_of, type_of, policy_bytes};
+ghost use Rattle.plant_http.specs.Answers.{is_page, media_of, type_of, policy_bytes};
 
 use desk_page::{Resource, media_type_of, policy_text};
 use plant_http_requests::BodyFormat;
@@ -36,6 +36,13 @@ pub(crate) fn type_of(media_type: MediaType) -> &'static str
         MediaType::Plain => "text/plain",
         MediaType::Resource(resource) => media_type_of(resource),
     }
+}
+
+/// Whether a resource is the page itself.
+pub(crate) fn is_page(resource: Resource) -> bool
+    ensures { result ≡ is_page resource }
+{
+    resource == Resource::Page
 }
 
 /// The policy under which a browser shows the page.

@@ -41,6 +41,7 @@ class HistoryPage(BrowserTestCase):
         self.told("fred", "R-2", do="unhold", lot="F-1", hold="H-1", note="dry")
         self.told("anna", "R-3", do="scrap", lot="F-1", sub=0, amount=10)
         self.told("erna", "R-4", do="recall", recall="RC-1", lot="F-1", note="moths")
+        tab.reload()
         first = MORNINGS + 1
         rows = self.show(tab, "quality/lot/F-1", "lot F-1")
         self.check("the lot", rows, [

@@ -35,9 +35,6 @@ import desk_backup  # noqa: E402  (its folder is on the path now)
 # How many copies are made under load, and in how many seconds at most; how often a backup is killed.
 COPIES, MOST_SECONDS, KILLS = 40, 20, 15
 
-# How often a backup is begun again at most whose copy didn't come about, since the log was begun anew in each of its tries.
-MOST_AGAIN = 5
-
 # How a file begins that is a database.
 CLASS = b'{"at":100,"by":"anna","do":"add_class","class":"RAW","name":""}\n'
 DEFINITION = b'{"at":100,"by":"anna","do":"add_definition","def":"SUGAR","class":"RAW","name":"","unit":"g"}\n'
@@ -115,7 +112,8 @@ class Load:
         if is_killed:
             self.process.kill()
         self.thread.join()
-        self.process.stdin.close()
+        with contextlib.suppress(BrokenPipeError):  # of a line that a killed desk didn't read
+            self.process.stdin.close()
         self.process.wait(SECONDS)
         self.process.stdout.close()
         self.process.stderr.close()
@@ -387,8 +385,7 @@ class UnderLoad(BackupTestCase):
                     copy = self.folder / "try.db"
                     shutil.copyfile(it.path, copy)
                     self.check_verified(f"kill {number}: {it.path.name}", str(copy), it.seq)
-            statuses = (self.backup().status for _ in range(MOST_AGAIN))
-            self.check("a backup after them", next((it for it in statuses if it != 1), 1), 0)
-            self.check("what is left", [it for it in self.copies() if "partial" in it], [])
         finally:
             load.end()
+        self.check("a backup after them", self.backup().status, 0)
+        self.check("what is left", [it for it in self.copies() if "partial" in it], [])

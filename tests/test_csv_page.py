@@ -14,8 +14,8 @@ GERMAN = """Object.defineProperty(navigator, "language", {value: "de-DE"});"""
 # The columns of batches.
 BATCHES = "Batch,Order,State,Attempt,Phases done,Phases,Next phase,Closed,On unit,Last event,Due,Priority,Recipe,Version,Title,Product,Size,Unit"
 
-# How many seconds a file may take.
-LIMIT = 60
+# How many seconds a file may take, in so many presses of its button.
+LIMIT, PRESSES = 60, 3
 
 
 class SavedLists(BrowserTestCase):
@@ -33,19 +33,21 @@ class SavedLists(BrowserTestCase):
         return tab
 
     def saved(self, tab: Tab, name: str) -> bytes:
-        """Presses the button that saves a list, and returns the file, which is then removed."""
-        tab.until(f"document.querySelector('[aria-label=\"CSV of {name}\"]') !== null", f"the button of {name}")
-        tab.run(f"document.querySelector('[aria-label=\"CSV of {name}\"]').click()")
+        """Presses the button that saves a list, and returns the file, which is then removed. It is pressed again where the browser, busy with others,
+        has made no file."""
         file: pathlib.Path = self.folder / "saved" / f"{name}-{tab.run('desk.today()')}.csv"
-        tab.has(f"saved as {file.name}.")
-        end = time.monotonic() + LIMIT
-        while not file.is_file():
-            if time.monotonic() > end:
-                raise AssertionError(f"there is no file {file.name}: {[it.name for it in file.parent.iterdir()]}")
-            time.sleep(0.02)
-        text = file.read_bytes()
-        file.unlink()
-        return text
+        button = f"document.querySelector('[aria-label=\"CSV of {name}\"]')"
+        for _ in range(PRESSES):
+            tab.until(f"(() => {{ const it = {button}; it?.click(); return it !== null; }})()", f"the button of {name}")
+            tab.has(f"saved as {file.name}.")
+            end = time.monotonic() + LIMIT / PRESSES
+            while not file.is_file() and time.monotonic() < end:
+                time.sleep(0.02)
+            if file.is_file():
+                text = file.read_bytes()
+                file.unlink()
+                return text
+        raise AssertionError(f"there is no file {file.name}: {[it.name for it in file.parent.iterdir()]}")
 
     def rows(self, tab: Tab, name: str, separator: str = ",") -> list[list[str]]:
         """Returns the rows of such a file, as a program reads them."""
